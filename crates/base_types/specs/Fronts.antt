@@ -6,5 +6,5 @@ pub data Front (V F : Type 0) : Type 0 where
   Whole : ℕ → V → Front V F
   -- the first so many bytes show that no value stands here, by this fault
   Broken : ℕ → F → Front V F
-  -- the bytes end before either is known
-  Partial : Front V F
+  -- the bytes end before either is known; an input that ends with them is broken by this fault
+  Partial : F → Front V F

@@ -1,0 +1,4 @@
+pub mod FrontLemmas
+pub mod LawLemmas
+pub mod LinkLemmas
+pub mod PacketLemmas

@@ -1,0 +1,9 @@
+pub mod Faults
+pub mod Heads
+pub mod Laws
+pub mod LinkState
+pub mod Links
+pub mod MemoryLinks
+pub mod MemoryViews
+pub mod Packets
+pub mod Reading

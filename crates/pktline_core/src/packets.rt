@@ -1,0 +1,38 @@
+// Packets of the format pkt-line.
+ghost use Rattle.std.specs.Prelude.{◌≡◌};
+ghost use Rattle.pktline_core.specs.Faults.{fault_of_take};
+
+use crate::links::TakeFault;
+
+/// The most bytes that a packet's payload has: 65,520 less the four of its length.
+pub const MAX_PAYLOAD: usize = 65_516;
+
+/// A packet.
+#[derive(Clone, Copy, Debug, PartialEq, Eq)]
+pub enum Pkt<'a> {
+    /// A line with this payload, which may be empty and may end with a line feed.
+    Line(&'a [u8]),
+    Flush,
+}
+
+/// Why no packet was read.
+#[derive(Clone, Copy, Debug, PartialEq, Eq)]
+pub enum PktFault {
+    /// The input ended before the packet's last byte, or before its first.
+    Truncated = 1,
+    /// The first four bytes aren't four hex digits, or their number is 1, 2, 3 or above 65,520.
+    BadLength = 2,
+    /// The source failed.
+    ReadFault = 3,
+}
+
+impl From<TakeFault> for PktFault {
+    ghost from_gives = { λ fault packet_fault. packet_fault ≡ fault_of_take fault };
+
+    fn from(fault: TakeFault) -> PktFault {
+        match fault {
+            TakeFault::Ended => PktFault::Truncated,
+            TakeFault::Failed => PktFault::ReadFault,
+        }
+    }
+}
