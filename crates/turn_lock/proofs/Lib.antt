@@ -1,0 +1,3 @@
+mod Knowing
+mod RuleKept
+mod TurnMade
