@@ -70,9 +70,7 @@ impl<T: Kept> TurnLock<T> {
     {
         let about = Snapshot::of(&held);
         let mut slots = Vec::new(alloc);
-        let Ok(()) = slots.push(Some(held)) else {
-            return Err(NoMemory);
-        };
+        slots.push(Some(held))?;
         let Ok((table, seat)) = Table::new(alloc, &[0], slots, &about) else {
             return Err(NoMemory);
         };

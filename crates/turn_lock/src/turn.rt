@@ -30,6 +30,27 @@ pub fn release<T: Kept>(words: &Words<T>, seat: &mut Place<T>)
     words.swap::<Release<T>>(seat, 0, 0);
 }
 
+/// The rounds in which a thread that waits only looks, then those in which it lets another thread run, then naps.
+const LOOKS: u32 = 100;
+
+const YIELDS: u32 = 10;
+
+/// Nobody wakes a thread that naps, so that a release makes no call of the system.
+const NAP_MICROSECONDS: u64 = 100;
+
+fn pause<T: Kept, R: Wait>(rt: &R, words: &Words<T>, round: u32)
+    requires { words.now.table_id.words ≡ 1 }
+{
+    if round < LOOKS {
+        spin_loop();
+    } else if round - LOOKS < YIELDS {
+        yield_now();
+    } else {
+        // It returns at once where the turn is free.
+        words.park_timeout(rt, 0, 1, Duration::from_micros(NAP_MICROSECONDS));
+    }
+}
+
 /// Waits for the turn.
 pub fn take<T: Kept, R: Wait>(rt: &R, words: &Words<T>, seat: &mut Place<T>)
     requires table { seat.old.table_id ≡ words.now.table_id }
@@ -39,11 +60,14 @@ pub fn take<T: Kept, R: Wait>(rt: &R, words: &Words<T>, seat: &mut Place<T>)
     ensures table { (seat.new.table_id ≡ seat.old.table_id) × (seat.new.id ≡ seat.old.id) }
     ensures tries { Tries T.entries T.caller seat.old.me 0 seat.new.me }
 {
+    let mut round: u32 = 0;
     for _ in rt.forever() {
-        if try_take(words, seat) {
+        // A look costs other threads less than a try that fails.
+        if (round == 0 || words.peek(0) == 0) && try_take(words, seat) {
             return;
         }
-        words.park_timeout(rt, 0, 1, Duration::from_micros(100));
+        pause(rt, words, round);
+        round = round.saturating_add(1);
     }
     unreachable!()
 }
