@@ -1,3 +1,4 @@
 mod Knowing
+pub mod Numbers
 mod RuleKept
 mod TurnMade

@@ -49,9 +49,13 @@ longer xs ys = cond (ltb (length xs) (length ys)) ys xs
 abbrev pub joined : {E : Type 0} → PassState E → PassState E → PassState E
 joined p q = record p { since = longer p.since q.since; numbers = p.numbers ++ q.numbers }
 
+-- each number below k is one of the numbers
+abbrev pub ContainsBelow : List ℕ → ℕ → Type 0
+ContainsBelow numbers k = (n : ℕ) → n < k → Contains numbers n
+
 -- every pass that was split off was joined into this one, or into one that was
 abbrev pub HasJoinedAll : {E : Type 0} → PassState E → Type 0
-HasJoinedAll p = (n : ℕ) → n < p.passes → Contains p.numbers n
+HasJoinedAll p = ContainsBelow p.numbers p.passes
 
 -- the value is as it was, or its list has one entry more, which bears the number
 abbrev pub AddsAtMostOne : {T E : Type 0} → (T → List E) → (E → ℕ) → ℕ → T → T → Type 0

@@ -10,6 +10,8 @@
 mod kept;
 mod lock;
 mod rule;
+#[cfg(test)]
+mod tests;
 mod turn;
 
 pub use base_types::NoMemory;
