@@ -1,5 +1,5 @@
 -- What a pass knows of the lock's list, and what each call does to it.
-use Rattle.std.specs.Prelude.{◌≡◌, ◌≢◌, ◌⊎◌, ◌<◌, ◌==◌, ◌++◌, ◌∷◌, [], ℕ, List, All, Contains, cond, filter, length, ltb}
+use Rattle.std.specs.Prelude.{◌≡◌, ◌≢◌, ◌⊎◌, ◌<◌, ◌==◌, ◌++◌, ◌∷◌, [], ℕ, List, All, Contains, filter, if◌then◌else◌, length, nat_lt}
 use Rattle.atomic_table.specs.Seated.{TableId}
 
 -- A pass as contracts see it.
@@ -41,9 +41,9 @@ first_pass lock list = record { lock = lock; caller = 0; passes = 1; at_new = li
 abbrev pub next_pass : {E : Type 0} → PassState E → PassState E
 next_pass p = record { lock = p.lock; caller = p.passes; passes = 0; at_new = p.at_new; since = p.since; numbers = p.passes ∷ [] }
 
--- the second list where it is the longer one
+-- the longer list, and the first where neither is longer
 abbrev pub longer : {E : Type 0} → List E → List E → List E
-longer xs ys = cond (ltb (length xs) (length ys)) ys xs
+longer xs ys = if nat_lt (length xs) (length ys) then ys else xs
 
 -- the pass that `join` leaves: it has seen the longer list, and has the numbers of both
 abbrev pub joined : {E : Type 0} → PassState E → PassState E → PassState E

@@ -16,10 +16,6 @@ known at_new since numbers = record { at_new = record { marker = record {}; valu
 abbrev pub nothing : {E : Type 0} → Knowledge E
 nothing = known [] [] []
 
--- the list that a seat has seen
-abbrev pub view_seen : {E : Type 0} → View E → List E
-view_seen v = v.knowledge.at_new.value ++ v.knowledge.since.value
-
 -- what contracts see of a pass with this view
 abbrev pub state_of : {E : Type 0} → TableId → View E → PassState E
 state_of lock v = record { lock = lock; caller = v.caller; passes = v.passes; at_new = v.knowledge.at_new.value; since = v.knowledge.since.value; numbers = v.knowledge.numbers.value }
