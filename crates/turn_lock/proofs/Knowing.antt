@@ -1,4 +1,4 @@
--- What a known of the list knows, as the list grows.
+-- How what is known of the list goes on as the list grows.
 use Rattle.std.proofs.Common.{◌≡◌, ◌≢◌, ◌==◌, ◌<◌, ◌≤◌, ℕ, Bool, true, false, cond, ltb, ⊎_elim, List, [], ◌∷◌, ◌++◌, append_assoc, append-nil, length, drop, refl, sym, ◌∙◌, ap, subst, arith, ltb-true, ltb-false, ne_eqb}
 use Rattle.std.specs.Prelude.{All, Contains, filter}
 use Rattle.std.proofs.lemmas.List.Elements.{All-nil, All-cons, All-head, All-tail, All-append, Contains-append_cases, filter-append}

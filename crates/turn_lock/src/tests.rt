@@ -1,6 +1,6 @@
 //! A log under the lock, and threads that write into it.
-ghost use Rattle.std.specs.Prelude.{◌≡◌, ◌<◌, ◌++◌, ◌∷◌, [], List, All, IfOk, MatchResult};
-ghost use Rattle.turn_lock.specs.Lock.{IsSamePass, seen};
+ghost use Rattle.std.specs.Prelude.{◌≡◌, ◌<◌, ◌++◌, ◌∷◌, [], List, All, IfOk, MatchResult, OnErr, OnOk};
+ghost use Rattle.turn_lock.specs.Lock.{AreOthers, IsSamePass, kept, seen};
 
 use crate::{Kept, NoMemory, Pass, Step, TurnLock};
 use std::alloc::Global;
@@ -60,21 +60,40 @@ impl Step<Log> for Append {
     }
 }
 
+/// Appends one entry. What the pass had seen goes on with entries of others, and then with this one, which is one more
+/// of its own.
+fn append_one<R: Wait>(
+    rt: &R,
+    lock: &TurnLock<Log>,
+    pass: &mut Pass<Log>,
+    value: u64,
+) -> Result<(), NoMemory>
+    requires { pass.old.lock ≡ lock.now }
+    ensures same { IsSamePass pass.old pass.new }
+    ensures seen { OnOk result ((between : List Entry) × AreOthers (λ e. e.caller) pass.old.numbers between
+        × (seen pass.new ≡ (seen pass.old ++ between) ++ record { caller = pass.old.caller; value = value } ∷ [])) }
+    ensures own { OnOk result (kept (λ e. e.caller) pass.new pass.old.caller
+        ≡ kept (λ e. e.caller) pass.old pass.old.caller ++ record { caller = pass.old.caller; value = value } ∷ []) }
+    ensures refused { OnErr result (pass.new ≡ pass.old) }
+{
+    let entry = Entry {
+        caller: pass.caller(),
+        value,
+    };
+    let mut step = Append {
+        entry,
+        known: Snapshot::of(pass),
+    };
+    lock.with_turn(rt, pass, &mut step)
+}
+
 /// Appends the numbers below `steps`, in their order.
 fn work<R: Wait>(rt: &R, lock: &TurnLock<Log>, mut pass: Pass<Log>, steps: u64) -> Pass<Log>
     requires { pass.lock ≡ lock.now }
     ensures { IsSamePass pass result }
 {
     for value in 0..steps {
-        let entry = Entry {
-            caller: pass.caller(),
-            value,
-        };
-        let mut step = Append {
-            entry,
-            known: Snapshot::of(&pass),
-        };
-        let _answer = lock.with_turn(rt, &mut pass, &mut step);
+        let _answer = append_one(rt, lock, &mut pass, value);
     }
     pass
 }
