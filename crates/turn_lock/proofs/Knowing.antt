@@ -101,9 +101,6 @@ module _ {E : Type 0} (caller : E → ℕ) where
   nothing_left numbers passes [] all h k = refl
   nothing_left numbers passes (x ∷ xs) all h k = absurd (All-head (λ e. ¬ (Contains numbers (caller e))) x xs h (all (caller x) (All-head (λ e. caller e < passes) x xs k)))
 
-pub goes_prefix : {E : Type 0} (caller : E → ℕ) (p : Knowledge E) (at_new since : List E) (n : ℕ) → Contains p.numbers.value n → GoesOn caller p at_new since → (rest : List E) × ((p.at_new.value ++ p.since.value) ++ rest ≡ at_new ++ since)
-goes_prefix caller p at_new since n own g = (g.rest, append_assoc p.at_new.value p.since.value g.rest ∙ (λ i. g.starts n own i ++ g.whole i))
-
 pub drop_front : {X : Type 0} (xs ys : List X) → drop (length xs) (xs ++ ys) ≡ ys
 drop_front [] ys = refl
 drop_front (x ∷ xs) ys = drop_front xs ys

@@ -38,9 +38,6 @@ one_at m n (suc k) l e = absurd (omega (arith, l))
 one_in : (m n : ℕ) → Contains (m ∷ []) n → n ≡ m
 one_in m n c = one_at m n c.0 c.1 c.2
 
-is_one : (m n : ℕ) → n ≡ m → Contains (m ∷ []) n
-is_one m n e = (0, omega arith, sym e)
-
 module _ {T E : Type 0} (entries : T → List E) (caller : E → ℕ) (id : ℕ) where
   abbrev Goes : Me (Option T) (View E) → (ℕ → ℕ) → (ℕ → Me (Option T) (View E) → Type 0) → State (Option T) (View E) → Type 0
   Goes me f then s =
