@@ -6,7 +6,7 @@ ghost use Rattle.refex.specs.Means.{Means};
 ghost use Rattle.refex.specs.Fragment.{IsPiece, HolesApart};
 ghost use Rattle.refex.specs.Machine.{Has, MeetsHole, IsStep, IsClosed, IsEntry, letters, follows};
 
-use crate::sets::{added, advanced, has, mask_of, union_of};
+use crate::sets::{added, has, parts_after, union_of};
 use crate::tables::{Piece, Tables};
 
 /// A machine. A set of positions has a bit for each; bit 127 is the exit.
@@ -66,7 +66,7 @@ impl Machine {
     {
         let reached = union_of(&self.follow, state.set & self.masks[letter as usize]);
         let entered = added(state.parts, 1, meets(self.holes, state.set));
-        let parts = advanced(entered, mask_of(name, letter));
+        let parts = parts_after(entered, name, letter);
         let left = added(reached, self.after, has(parts, name.len() as u8));
         State {
             set: added(left, self.after, self.skips(name, left)),

@@ -13,12 +13,12 @@ returns c =
     subst (λ f. IsUnion f (bit_and c.args.state.set (get_or c.args.self.now.masks.items c.args.letter 0)) 127 c.union_of-reached.result) c.deref.ensures.value
     (subst (λ m. IsUnion c.deref.result.now (bit_and c.args.state.set m) 127 c.union_of-reached.result) read c.union_of-reached.ensures) in
     step_made c.args.self.now.masks.items c.args.self.now.follow.items c.args.name.now c.args.self.now.holes c.args.self.now.after
-    c.args.state.set c.args.state.parts c.args.letter c.union_of-reached.result c.added-entered.result c.advanced-parts.result c.added-left.result c.added.result c.mask_of.result
+    c.args.state.set c.args.state.parts c.args.letter c.union_of-reached.result c.added-entered.result c.parts_after-parts.result c.added-left.result c.added.result
     (IsTrue c.meets.result) (IsTrue c.has.result) (IsTrue c.skips.result)
     c.requires.name c.requires.letter reached
     c.meets.ensures.1 c.meets.ensures.0
     c.added-entered.ensures.keeps c.added-entered.ensures.adds c.added-entered.ensures.only
-    c.mask_of.ensures c.advanced-parts.ensures.goes_on c.advanced-parts.ensures.only
+    c.parts_after-parts.ensures.goes_on c.parts_after-parts.ensures.only
     c.has.ensures.1 c.has.ensures.0
     c.added-left.ensures.keeps c.added-left.ensures.adds c.added-left.ensures.only
     (λ none m. c.skips.ensures.1 (none, m)) c.skips.ensures.0
