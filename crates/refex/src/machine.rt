@@ -33,6 +33,7 @@ struct State {
     parts: u128,
 }
 
+#[inline(always)]
 fn meets(holes: u128, set: u128) -> bool
     requires { holes < 2 ^ 127 }
     ensures { IsTrue result ↔ MeetsHole holes set }
@@ -41,6 +42,7 @@ fn meets(holes: u128, set: u128) -> bool
 }
 
 impl Machine {
+    #[inline(always)]
     fn skips(&self, name: &[u8], set: u128) -> bool
         ensures { IsTrue result ↔ ((length name.now ≡ 0) × MeetsHole self.now.holes set) }
     {
@@ -58,6 +60,7 @@ impl Machine {
         }
     }
 
+    #[inline(always)]
     fn step(&self, name: &[u8], state: State, letter: u16) -> State
         requires name { length name.now ≤ 64 }
         requires letter { letter < 257 }
