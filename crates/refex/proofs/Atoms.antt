@@ -1,11 +1,10 @@
 -- What an atom takes.
-use Rattle.std.proofs.Common.{◌≡◌, ℕ, ◌+◌, ◌-◌, ◌<◌, ◌≤◌, ◌⊎◌, inl, inr, List, [], ◌∷◌, Bool, true, false, ◌&&◌, ◌==◌, cond, nat_lt, if◌then◌else◌, IsTrue, refl, sym, ◌∙◌, ap, arith}
+use Rattle.std.proofs.Common.{◌≡◌, ℕ, ◌-◌, ◌<◌, inl, inr, [], ◌∷◌, true, false, IsTrue, refl, ap, arith}
 use Rattle.std.specs.Int.{bit_at}
-use Rattle.std.proofs.lemmas.Bool.{cases_lt, cases_eq}
+use Rattle.std.proofs.lemmas.Bool.{cases_lt}
 use Rattle.std.proofs.lemmas.Bool.Decides.{nat_tests}
-use Rattle.refex.specs.Pattern.{Pattern, Bytes, End}
+use Rattle.refex.specs.Pattern.{Bytes, End}
 use Rattle.refex.specs.ByteSet.{holds}
-use Rattle.refex.specs.Machine.{Has}
 use Rattle.refex.specs.Fragment.{TakesLetter, IsLetterOf}
 use Rattle.refex.specs.declared.bytes.ByteSet.{ByteSet}
 use Rattle.refex.proofs.SetLemmas.{Has-zero}

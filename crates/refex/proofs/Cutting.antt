@@ -1,5 +1,5 @@
 -- Loops that go over a text, an item at a time.
-use Rattle.std.proofs.Common.{◌≡◌, ℕ, zero, suc, ◌+◌, ◌-◌, ◌<◌, ◌≤◌, List, [], ◌∷◌, ◌++◌, Bool, true, false, ◌||◌, ◌&&◌, not, ◌==◌, cond, refl, sym, ◌∙◌, ap, subst, arith, take, drop, length, Option, Some, None, Result, Ok, Err, add-zero, add-one, append-nil, append_assoc, get_or}
+use Rattle.std.proofs.Common.{◌≡◌, ℕ, zero, suc, ◌+◌, ◌-◌, ◌<◌, ◌≤◌, List, [], ◌∷◌, ◌++◌, Bool, true, false, ◌||◌, ◌&&◌, not, ◌==◌, cond, refl, sym, ◌∙◌, ap, arith, drop, length, Option, Some, None, Result, Ok, Err, add-zero, add-one, append-nil, append_assoc, get_or}
 use Rattle.std.proofs.Math.Seq.{drop-cons, drop-drop}
 use Rattle.std.proofs.Math.ListN.{drop_of_length-le}
 use Rattle.std.proofs.lemmas.Bool.{ne_eqb}

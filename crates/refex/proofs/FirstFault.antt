@@ -1,11 +1,10 @@
 -- The first offence, met from the left.
-use Rattle.std.proofs.Common.{◌≡◌, ℕ, zero, suc, ◌+◌, ◌-◌, ◌<◌, ◌≤◌, List, [], ◌∷◌, Bool, true, false, ◌==◌, nat_lt, if◌then◌else◌, cond, Option, Some, None, refl, sym, ◌∙◌, ap, arith, drop, length, map, get_or, add-one}
+use Rattle.std.proofs.Common.{◌≡◌, ℕ, suc, ◌+◌, ◌-◌, ◌<◌, ◌≤◌, List, [], ◌∷◌, true, false, nat_lt, if◌then◌else◌, cond, Option, Some, None, refl, sym, ◌∙◌, ap, arith, drop, length, map, get_or, add-one}
 use Rattle.std.proofs.Math.Seq.{drop-cons}
 use Rattle.std.proofs.Math.ListN.{drop_of_length-le}
 use Rattle.std.proofs.lemmas.List.{drop-map, length-map}
 use Rattle.refex.specs.Items.{item_of, placed_of}
 use Rattle.refex.specs.declared.items.Token.{Token}
-use Rattle.std.proofs.lemmas.Bool.{cases_lt, cases_eq}
 use Rattle.std.proofs.lemmas.Bool.Decides.{nat_tests}
 use Rattle.refex.specs.Text.{Item, Atom, Open, Close, Bar, Repetition, Bad, Placed}
 use Rattle.refex.specs.Faults.{closes, closes_before, last_after, depth_after, outermost_after, outermost_by, repetition_fault, item_fault, fault_at, first_of, first_fault}

@@ -1,9 +1,9 @@
 -- Whether steps put the hole on the stack.
-use Rattle.std.proofs.Common.{◌≡◌, ℕ, List, [], ◌∷◌, Bool, true, false, ◌||◌, Option, refl, sym, ◌∙◌, ap}
+use Rattle.std.proofs.Common.{◌≡◌, List, [], ◌∷◌, Bool, true, false, ◌||◌, refl, sym, ◌∙◌, ap}
 use Rattle.std.specs.List.{list_any}
 use Rattle.refex.specs.Pattern.{Pattern, Nothing, Then, Either, Repeat}
 use Rattle.refex.specs.Items.{atom_pattern}
-use Rattle.refex.specs.Steps.{Runs, is_name_step, pattern_of}
+use Rattle.refex.specs.Steps.{Runs, is_name_step}
 use Rattle.refex.specs.Refex.{has_name}
 use Rattle.refex.specs.declared.items.Atom as kept_atom
 use Rattle.refex.specs.declared.items.Atom.TheVariants as atoms

@@ -1,10 +1,10 @@
 -- What the grammar reads has no offence.
-use Rattle.std.proofs.Common.{◌≡◌, ℕ, zero, suc, ◌+◌, ◌-◌, ◌==◌, cond, List, [], ◌∷◌, ◌++◌, map, Bool, true, false, Option, None, Some, refl, sym, ◌∙◌, ap, subst, arith, append_assoc, append-nil}
+use Rattle.std.proofs.Common.{◌≡◌, ℕ, suc, ◌-◌, ◌==◌, cond, List, [], ◌∷◌, ◌++◌, true, false, None, Some, refl, sym, ◌∙◌, ap, arith, append_assoc, append-nil}
 use Rattle.std.proofs.lemmas.Bool.{ne_eqb}
 use Rattle.refex.specs.Pattern.{Pattern}
-use Rattle.refex.specs.Text.{Item, Atom, Open, Close, Bar, Repetition, Bad, Placed}
+use Rattle.refex.specs.Text.{Item, Atom, Open, Close, Bar, Repetition, Placed}
 use Rattle.refex.specs.Grammar.{Level, atom, piece, sequence, alternation, Reads, simple, group, plain, repeated, empty, joined, one, either}
-use Rattle.refex.specs.Faults.{closes, closes_before, first_fault, first_of, fault_at, item_fault, last_after, depth_after, repetition_fault}
+use Rattle.refex.specs.Faults.{closes, closes_before, first_fault, first_of, item_fault, last_after, depth_after}
 use Rattle.refex.specs.Refex.{forms}
 use Rattle.refex.specs.declared.items.Last.{Last}
 use Rattle.refex.specs.declared.items.Last.TheVariants as last
@@ -64,9 +64,10 @@ closes_one x i xs e = ap (λ j. closes_before j (closes xs)) e
 
 passes : {l : Level} {xs : List Item} {p : Pattern} → Reads l xs p → Passes l xs
 passes (simple {p = p}) = λ all e before depth more.
-    let a = single (Atom p) all e in
-    (ap (λ ps. closes (ps ++ more)) a.1 ∙ closes_one a.0 (Atom p) more a.2,
-      ap (λ ps. first_fault before depth (ps ++ more)) a.1 ∙ pass before depth a.0 (Atom p) more a.2 refl)
+    let a = single (Atom p) all e in (
+      ap (λ ps. closes (ps ++ more)) a.1 ∙ closes_one a.0 (Atom p) more a.2,
+      ap (λ ps. first_fault before depth (ps ++ more)) a.1 ∙ pass before depth a.0 (Atom p) more a.2 refl,
+    )
 passes (group {xs = xs} {p = p} r) = λ all e before depth more.
     let s = split (Open true ∷ xs) (Close ∷ []) all e in
     let t = split (Open true ∷ []) xs s.front s.front_is in
@@ -74,26 +75,29 @@ passes (group {xs = xs} {p = p} r) = λ all e before depth more.
     let c = single Close s.back s.back_is in
     let inside = t.back ++ (c.0 ∷ more) in
     let whole : all ++ more ≡ o.0 ∷ inside =
-        ap (λ ps. ps ++ more) (s.is ∙ (λ i. t.is i ++ c.1 i) ∙ ap (λ ps. (ps ++ t.back) ++ (c.0 ∷ [])) o.1) ∙ ap (λ ps. o.0 ∷ ps) (append_assoc t.back (c.0 ∷ []) more) in
+    ap (λ ps. ps ++ more) (s.is ∙ (λ i. t.is i ++ c.1 i) ∙ ap (λ ps. (ps ++ t.back) ++ (c.0 ∷ [])) o.1) ∙ ap (λ ps. o.0 ∷ ps) (append_assoc t.back (c.0 ∷ []) more) in
     let n = passes r t.back t.back_is (suc depth) (c.0 ∷ more) in
     let later : closes inside ≡ suc (closes more) = n.0 ∙ closes_one c.0 Close more c.2 in
     let some : (closes inside == 0) ≡ false = ne_eqb (closes inside) 0 (λ z. omega arith) in
     let deep : (suc depth == 0) ≡ false = ne_eqb (suc depth) 0 (λ z. omega arith) in
-    let less : suc depth - 1 ≡ depth = omega arith in
-    (ap closes whole ∙ closes_one o.0 (Open true) inside o.2 ∙ (let m : closes inside - 1 ≡ closes more = omega arith in m),
+    let less : suc depth - 1 ≡ depth = omega arith in (
+      ap closes whole ∙ closes_one o.0 (Open true) inside o.2 ∙ (let m : closes inside - 1 ≡ closes more = omega arith in m),
       ap (first_fault before depth) whole
-      ∙ pass before depth o.0 (Open true) inside o.2 (ap (λ b. cond b (Some (offences.Syntax o.0.at)) None) some)
-      ∙ n.2
-      ∙ pass n.1 (suc depth) c.0 Close more c.2 (ap (λ b. cond b (Some (offences.Syntax c.0.at)) None) deep)
-      ∙ ap (λ d. first_fault last.Atom d more) less)
+          ∙ pass before depth o.0 (Open true) inside o.2 (ap (λ b. cond b (Some (offences.Syntax o.0.at)) None) some)
+          ∙ n.2
+          ∙ pass n.1 (suc depth) c.0 Close more c.2 (ap (λ b. cond b (Some (offences.Syntax c.0.at)) None) deep)
+          ∙ ap (λ d. first_fault last.Atom d more) less,
+    )
 passes (plain r) = λ all e before depth more. let n = passes r all e before depth more in (n.0, last.Atom, n.1)
 passes (repeated {xs = xs} {p = p} {least = least} {most = most} suffix r) = λ all e before depth more.
     let s = split xs (Repetition least most suffix ∷ []) all e in
     let c = single (Repetition least most suffix) s.back s.back_is in
     let whole : all ++ more ≡ s.front ++ (c.0 ∷ more) = ap (λ ps. ps ++ more) (s.is ∙ ap (λ ps. s.front ++ ps) c.1) ∙ append_assoc s.front (c.0 ∷ []) more in
-    let n = passes r s.front s.front_is before depth (c.0 ∷ more) in
-    (ap closes whole ∙ n.0 ∙ closes_one c.0 (Repetition least most suffix) more c.2, last.Counted,
-      ap (first_fault before depth) whole ∙ n.1 ∙ pass last.Atom depth c.0 (Repetition least most suffix) more c.2 refl)
+    let n = passes r s.front s.front_is before depth (c.0 ∷ more) in (
+      ap closes whole ∙ n.0 ∙ closes_one c.0 (Repetition least most suffix) more c.2,
+      last.Counted,
+      ap (first_fault before depth) whole ∙ n.1 ∙ pass last.Atom depth c.0 (Repetition least most suffix) more c.2 refl,
+    )
 passes empty = λ all e depth more.
     let none : all ≡ [] = no_forms all e in
     (ap (λ ps. closes (ps ++ more)) none, last.Nothing, ap (λ ps. first_fault last.Nothing depth (ps ++ more)) none)
@@ -113,11 +117,13 @@ passes (either {xs = xs} {ys = ys} r t) = λ all e depth more.
     let b = split (Bar ∷ []) ys s.back s.back_is in
     let c = single Bar b.front b.front_is in
     let whole : all ++ more ≡ s.front ++ (c.0 ∷ (b.back ++ more)) =
-        ap (λ ps. ps ++ more) (s.is ∙ ap (λ ps. s.front ++ ps) (b.is ∙ ap (λ ps. ps ++ b.back) c.1)) ∙ append_assoc s.front (c.0 ∷ b.back) more in
+    ap (λ ps. ps ++ more) (s.is ∙ ap (λ ps. s.front ++ ps) (b.is ∙ ap (λ ps. ps ++ b.back) c.1)) ∙ append_assoc s.front (c.0 ∷ b.back) more in
     let n = passes r s.front s.front_is depth (c.0 ∷ (b.back ++ more)) in
-    let m = passes t b.back b.back_is depth more in
-    (ap closes whole ∙ n.0 ∙ closes_one c.0 Bar (b.back ++ more) c.2 ∙ m.0, m.1,
-      ap (first_fault last.Nothing depth) whole ∙ n.2 ∙ pass n.1 depth c.0 Bar (b.back ++ more) c.2 refl ∙ m.2)
+    let m = passes t b.back b.back_is depth more in (
+      ap closes whole ∙ n.0 ∙ closes_one c.0 Bar (b.back ++ more) c.2 ∙ m.0,
+      m.1,
+      ap (first_fault last.Nothing depth) whole ∙ n.2 ∙ pass n.1 depth c.0 Bar (b.back ++ more) c.2 refl ∙ m.2,
+    )
 
 pub no_offence : (all : List Placed) (p : Pattern) → Reads alternation (forms all) p → first_fault last.Nothing 0 all ≡ None
 unfolding first_fault

@@ -1,5 +1,5 @@
 -- Items are one pattern at most: what they are read as is what a run over them from the left builds.
-use Rattle.std.proofs.Common.{◌≡◌, ℕ, List, [], ◌∷◌, ◌++◌, Bool, true, Option, None, Some, refl, sym, ◌∙◌, ap, append_assoc, append-nil}
+use Rattle.std.proofs.Common.{◌≡◌, ℕ, List, [], ◌∷◌, ◌++◌, Option, None, Some, refl, sym, ◌∙◌, ap, append_assoc, append-nil}
 use Rattle.refex.specs.Pattern.{Pattern, Nothing, Then, Either, Repeat}
 use Rattle.refex.specs.Text.{Item, Atom, Open, Close, Bar, Repetition, Bad}
 use Rattle.refex.specs.Grammar.{Level, atom, piece, sequence, alternation, Reads, simple, group, plain, repeated, empty, joined, one, either}

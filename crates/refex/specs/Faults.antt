@@ -1,6 +1,6 @@
 -- The first offence of a pattern's items from the left.
-use Rattle.std.specs.Prelude.{◌≡◌, ℕ, zero, suc, ◌+◌, ◌-◌, ◌==◌, Bool, true, false, if◌then◌else◌, List, [], ◌∷◌, Option, None, Some}
-use Rattle.refex.specs.Text.{Item, Atom, Open, Close, Bar, Repetition, Bad, Placed}
+use Rattle.std.specs.Prelude.{ℕ, suc, ◌-◌, ◌==◌, Bool, true, false, if◌then◌else◌, List, [], ◌∷◌, Option, None, Some}
+use Rattle.refex.specs.Text.{Item, Atom, Open, Close, Repetition, Bad, Placed}
 use Rattle.refex.specs.declared.items.Last.{Last}
 use Rattle.refex.specs.declared.items.Last.TheVariants as last
 use Rattle.refex.specs.declared.faults.Offence.{Offence}

@@ -1,5 +1,5 @@
 -- What the items that the code keeps stand for.
-use Rattle.std.specs.Prelude.{ℕ, List, map, Bool, Option, None, Some, Result, Ok, Err}
+use Rattle.std.specs.Prelude.{Result, Ok, Err}
 use Rattle.refex.specs.Pattern.{Pattern, Bytes, End, Name}
 use Rattle.refex.specs.ByteSet.{holds}
 use Rattle.refex.specs.Text.{Item, Atom, Open, Close, Bar, Repetition, Bad, Placed, Member, Byte, Kind}

@@ -1,6 +1,6 @@
 -- What reading a text gives: a pattern, or why it is none.
-use Rattle.std.specs.Prelude.{◌≡◌, ℕ, zero, ◌<◌, ◌≤◌, Bool, true, false, ◌||◌, List, [], ◌∷◌, map, min, Option, None, Some}
-use Rattle.refex.specs.Pattern.{Pattern, Nothing, Bytes, End, Name, Then, Either, Repeat, positions}
+use Rattle.std.specs.Prelude.{◌≡◌, ℕ, ◌<◌, ◌≤◌, Bool, true, false, ◌||◌, List, map, min, Option, None, Some}
+use Rattle.refex.specs.Pattern.{Pattern, Name, Then, Either, Repeat, positions}
 use Rattle.refex.specs.Text.{Item, Placed, items}
 use Rattle.refex.specs.Grammar.{Reads, alternation}
 use Rattle.refex.specs.Faults.{first_fault}

@@ -1,11 +1,11 @@
-use Rattle.std.proofs.Common.{◌≡◌, ℕ, ◌<◌, ◌≤◌, ◌∙◌, min, arith, refl, sym, ap, subst, map, List, [], ◌∷◌, Option, Some, None}
-use Rattle.refex.specs.Pattern.{Pattern, positions}
+use Rattle.std.proofs.Common.{◌≡◌, ℕ, ◌∙◌, arith, refl, sym, ap, subst, map, List, [], ◌∷◌, None}
+use Rattle.refex.specs.Pattern.{Pattern}
 use Rattle.refex.specs.Items.{placed_of, kept_item_of}
 use Rattle.refex.specs.Faults.{first_fault}
 use Rattle.refex.specs.Grammar.{Reads, alternation}
 use Rattle.refex.specs.Steps.{Runs, pattern_of, is_name_step}
 use Rattle.std.specs.List.{list_any}
-use Rattle.refex.specs.Text.{Placed, items}
+use Rattle.refex.specs.Text.{items}
 use Rattle.refex.specs.Refex.{Spells, IsRefex, forms, has_name}
 use Rattle.refex.specs.Means.{Means}
 use Rattle.refex.specs.declared.items.Token.{Token}

@@ -1,6 +1,5 @@
-use Rattle.std.proofs.Common.{arith, subst, sym, ◌≡◌, ◌≤◌, ◌+◌, ◌<◌}
-use Rattle.refex.specs.Means.{Means}
-use Rattle.refex.proofs.SetLemmas.{Has-zero, Has-and, Has-both}
+use Rattle.std.proofs.Common.{arith}
+use Rattle.refex.proofs.SetLemmas.{Has-and, Has-both}
 use Rattle.refex.proofs.Pieces.{piece_means, one_hole}
 use Rattle.refex.proofs.machine.finish.Goals as goal
 

@@ -1,4 +1,4 @@
-use Rattle.std.proofs.Common.{eqb, not, true, refl}
+use Rattle.std.proofs.Common.{refl}
 use Rattle.std.specs.Prelude.{bit_and}
 use Rattle.std.proofs.lemmas.Bool.{not-true, eqb-false, ne_eqb}
 use Rattle.refex.proofs.SetLemmas.{meets_some, meets_none}

@@ -1,5 +1,5 @@
 use Rattle.std.proofs.Common.{arith}
-use Rattle.refex.proofs.FirstFault.{closes_more, closes_none}
+use Rattle.refex.proofs.FirstFault.{closes_more}
 use Rattle.refex.proofs.offences.closes.Goals as goal
 
 pub tokens-preserved : goal.tokens-preserved

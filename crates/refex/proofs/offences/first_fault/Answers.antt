@@ -1,6 +1,6 @@
-use Rattle.std.proofs.Common.{◌≡◌, ◌≤◌, ◌<◌, ◌∙◌, arith, sym, map, drop, length}
+use Rattle.std.proofs.Common.{arith, sym, map, drop}
 use Rattle.refex.specs.Items.{placed_of}
-use Rattle.refex.specs.Faults.{first_fault, closes}
+use Rattle.refex.specs.Faults.{first_fault}
 use Rattle.refex.specs.declared.items.Last.TheVariants as last
 use Rattle.refex.proofs.FirstFault.{begun, stop_outer, stop_at, on_at, end_outer, end_none, depth_bound}
 use Rattle.refex.proofs.offences.first_fault.Goals as goal

@@ -1,6 +1,4 @@
-use Rattle.std.proofs.Common.{arith, subst, ◌≡◌}
-use Rattle.refex.specs.Machine.{Has}
-use Rattle.refex.proofs.SetLemmas.{Has-zero}
+use Rattle.std.proofs.Common.{arith}
 use Rattle.refex.proofs.sets.parts_after.Goals as goal
 
 pub returns-clause-goes_on : goal.returns-clause-goes_on

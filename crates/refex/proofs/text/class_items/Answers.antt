@@ -1,6 +1,5 @@
-use Rattle.std.proofs.Common.{arith, sym, ap, ◌∙◌, ◌≡◌, ◌+◌, ◌==◌, length, Ok, Err, drop, true, length-drop}
+use Rattle.std.proofs.Common.{arith, sym, ap, ◌∙◌, ◌+◌, ◌==◌, length, true, length-drop}
 use Rattle.refex.specs.ByteSet.{holds}
-use Rattle.refex.specs.Items.{on_ok}
 use Rattle.refex.specs.Text.{class_item, class_items}
 use Rattle.refex.proofs.Cutting.{class_begun, class_more, class_fault, class_over}
 use Rattle.refex.proofs.text.class_items.Goals as goal

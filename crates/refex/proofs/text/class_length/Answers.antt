@@ -1,6 +1,6 @@
-use Rattle.std.proofs.Common.{arith, sym, ap, ◌∙◌, ◌≡◌, length, true, false}
+use Rattle.std.proofs.Common.{arith, sym, ◌∙◌, true, false}
 use Rattle.refex.specs.Text.{class_length}
-use Rattle.refex.proofs.Cutting.{length_begun, length_found, length_on, length_never}
+use Rattle.refex.proofs.Cutting.{length_found, length_on, length_never}
 use Rattle.refex.proofs.text.class_length.Goals as goal
 
 pub returns-then-closes-clause-value : goal.returns-then-closes-clause-value

@@ -1,4 +1,4 @@
-use Rattle.std.proofs.Common.{◌≡◌, ◌≤◌, ◌+◌, ◌==◌, length, drop, true, false}
+use Rattle.std.proofs.Common.{◌≡◌, ◌+◌, ◌==◌, drop, true, false}
 use Rattle.std.specs.Option.{option_map}
 use Rattle.refex.specs.Text.{class_length}
 use Rattle.refex.proofs.text.class_length.Given as goal

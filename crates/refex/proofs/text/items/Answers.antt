@@ -1,6 +1,6 @@
-use Rattle.std.proofs.Common.{arith, sym, ap, ◌∙◌, ◌≡◌, ◌+◌, ◌++◌, List, [], ◌∷◌, length, length-drop, drop, map, true, false}
+use Rattle.std.proofs.Common.{arith, sym, ap, ◌∙◌, ◌≡◌, ◌+◌, ◌++◌, length, length-drop, drop, map}
 use Rattle.std.proofs.lemmas.List.{map-append}
-use Rattle.refex.specs.Text.{items, items_from, item, is_at, hole_items, spelling}
+use Rattle.refex.specs.Text.{items, items_from, item, is_at}
 use Rattle.refex.specs.Items.{placed_of, item_of}
 use Rattle.refex.proofs.Cutting.{begun_behind, begun_there, item_on, hole_on, items_over}
 use Rattle.refex.proofs.text.items.Goals.{then-begins_with, else-begins_with}

@@ -1,5 +1,4 @@
-use Rattle.std.proofs.Common.{◌∙◌, sym, ◌≡◌, ℕ, Bool}
-use Rattle.refex.specs.ByteSet.{holds}
+use Rattle.std.proofs.Common.{◌∙◌}
 use Rattle.refex.specs.Text.{either_of}
 use Rattle.refex.proofs.text.word_bytes.Goals as goal
 

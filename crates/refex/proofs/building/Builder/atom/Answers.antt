@@ -1,4 +1,4 @@
-use Rattle.std.proofs.Common.{sym, subst, ◌≡◌, arith}
+use Rattle.std.proofs.Common.{arith}
 use Rattle.refex.specs.Items.{atom_pattern}
 use Rattle.refex.proofs.Stacks.{stacked_kept}
 use Rattle.refex.proofs.building.Builder.atom.Goals as goal

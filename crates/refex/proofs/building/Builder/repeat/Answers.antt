@@ -1,4 +1,4 @@
-use Rattle.std.proofs.Common.{sym, subst, ◌≡◌, arith}
+use Rattle.std.proofs.Common.{arith}
 use Rattle.refex.specs.Pattern.{Repeat}
 use Rattle.refex.proofs.Stacks.{one_popped, stacked_kept}
 use Rattle.refex.proofs.building.Builder.repeat.Goals as goal

@@ -1,7 +1,6 @@
-use Rattle.std.proofs.Common.{arith, ap, ◌≡◌, ◌+◌, ◌≤◌, ◌&&◌, ◌∙◌, ℕ, nat_le, nat_lt, ◌==◌}
+use Rattle.std.proofs.Common.{arith, ap, ◌≡◌, ◌+◌, ◌≤◌, ◌&&◌, ◌∙◌, ℕ, nat_le, nat_lt}
 use Rattle.std.proofs.Math.Path.{fun_ext}
 use Rattle.std.proofs.lemmas.Bool.Decides.{nat_tests}
-use Rattle.refex.specs.ByteSet.{holds}
 use Rattle.refex.proofs.bytes.ByteSet.range.Goals as goal
 
 pub bytes-init : goal.bytes-init

@@ -1,4 +1,4 @@
-use Rattle.std.proofs.Common.{ℕ, ◌≡◌, ◌<◌, ◌≤◌, nat_le, nat_lt, ◌&&◌}
+use Rattle.std.proofs.Common.{ℕ, ◌≡◌, nat_le, nat_lt, ◌&&◌}
 use Rattle.refex.specs.ByteSet.{holds}
 use Rattle.refex.proofs.bytes.ByteSet.range.Given as goal
 

@@ -1,4 +1,4 @@
-use Rattle.std.proofs.Common.{arith, rules, refl, length, take, get_or, ◌≡◌, ◌≤◌, ◌<◌, subst, true, inl, inr}
+use Rattle.std.proofs.Common.{arith, refl, length, take, ◌≡◌, inl, inr}
 use Rattle.std.proofs.lemmas.Bool.{both_ways, cases_Bool}
 use Rattle.refex.proofs.Matching.{begun, more, exit_at, whole_text, marked, none_more, yes_early, yes_late, never}
 use Rattle.refex.proofs.machine.Machine.starts.Goals as goal

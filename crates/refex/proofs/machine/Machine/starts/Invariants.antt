@@ -1,4 +1,4 @@
-use Rattle.std.proofs.Common.{take, ◌+◌}
+use Rattle.std.proofs.Common.{take}
 use Rattle.refex.specs.Machine.{IsAfter, NoneBefore, letters, follows}
 use Rattle.refex.proofs.machine.Machine.starts.Given as goal
 

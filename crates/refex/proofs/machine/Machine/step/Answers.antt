@@ -1,4 +1,4 @@
-use Rattle.std.proofs.Common.{arith, rules, ◌≡◌, ◌<◌, length, get_or, subst}
+use Rattle.std.proofs.Common.{rules, ◌≡◌, ◌<◌, length, get_or, subst}
 use Rattle.std.specs.Prelude.{IsTrue, bit_and}
 use Rattle.std.proofs.lemmas.List.{get_or_read}
 use Rattle.refex.specs.Machine.{IsUnion}

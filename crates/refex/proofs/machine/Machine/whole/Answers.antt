@@ -1,5 +1,5 @@
-use Rattle.std.proofs.Common.{arith, rules, refl, length, take, get_or, ◌≡◌, ◌≤◌, ◌<◌, subst, true, inl, inr}
-use Rattle.std.proofs.lemmas.Bool.{both_ways, cases_Bool}
+use Rattle.std.proofs.Common.{arith, refl, inl}
+use Rattle.std.proofs.lemmas.Bool.{both_ways}
 use Rattle.refex.proofs.Matching.{begun, more, exit_at, whole_text, marked, whole_iff, Means-reaches}
 use Rattle.refex.proofs.machine.Machine.whole.Goals as goal
 

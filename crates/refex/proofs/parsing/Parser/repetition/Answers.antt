@@ -1,11 +1,8 @@
-use Rattle.std.proofs.Common.{sym, ◌∙◌, ap, subst, List, [], ◌∷◌, ◌++◌, Bool, false, true, rules}
-use Rattle.refex.specs.Parsing.{HasRead, settling, ending}
+use Rattle.std.proofs.Common.{sym, subst, [], ◌∷◌, ◌++◌}
+use Rattle.refex.specs.Parsing.{HasRead}
 use Rattle.refex.specs.Text as text
-use Rattle.refex.specs.Items.{atom_pattern}
 use Rattle.refex.specs.declared.items.Last.TheVariants as last
-use Rattle.refex.specs.declared.items.Step.{Step}
-use Rattle.refex.specs.declared.items.Step.TheVariants as step
-use Rattle.refex.proofs.Reading.{read_atom, read_open, read_close, read_bar, read_count}
+use Rattle.refex.proofs.Reading.{read_count}
 use Rattle.refex.proofs.parsing.Parser.repetition.Goals as goal
 
 pub returns : goal.returns
