@@ -1,0 +1,58 @@
+use Rattle.std.proofs.Common.{◌≡◌, ℕ, ◌∙◌, arith, refl, sym, ap, subst, map, List, [], ◌∷◌, None}
+use Rattle.refex.specs.Pattern.{Pattern}
+use Rattle.refex.specs.Items.{placed_of, kept_item_of}
+use Rattle.refex.specs.Faults.{first_fault}
+use Rattle.refex.specs.Grammar.{Reads, alternation}
+use Rattle.refex.specs.Steps.{Runs, pattern_of, is_name_step}
+use Rattle.std.specs.List.{list_any}
+use Rattle.refex.specs.Text.{items}
+use Rattle.refex.specs.Refex.{Spells, IsRefex, forms, has_name}
+use Rattle.refex.specs.Means.{Means}
+use Rattle.refex.specs.declared.items.Token.{Token}
+use Rattle.refex.specs.declared.items.Last.TheVariants as last
+use Rattle.refex.specs.declared.faults.Hole.{Hole}
+use Rattle.refex.proofs.Reading.{pattern_is}
+use Rattle.refex.proofs.Holes.{pattern_named}
+use Rattle.refex.proofs.Refex.parse.Goals as goal
+
+forms_kept : (tokens : List Token) → forms (map placed_of tokens) ≡ map kept_item_of tokens
+forms_kept [] = refl
+forms_kept (t ∷ ts) = ap (λ xs. kept_item_of t ∷ xs) (forms_kept ts)
+
+spelled : (hole : Hole) (text : List ℕ) (tokens seen read : List Token) (p : Pattern) → map placed_of tokens ≡ items hole text → seen ≡ tokens → read ≡ tokens
+    → None ≡ first_fault last.Nothing 0 (map placed_of seen) → Reads alternation (map kept_item_of read) p → Spells hole text p
+spelled hole text tokens seen read p is same same' none reads = record {
+  sound = ap (first_fault last.Nothing 0) (sym is ∙ sym (ap (map placed_of) same)) ∙ sym none;
+  reads = subst (λ xs. Reads alternation xs p) (ap (map kept_item_of) same' ∙ sym (forms_kept tokens) ∙ ap forms is) reads;
+}
+
+pub returns-then-piece-gt127-clause-err : goal.returns-then-piece-gt127-clause-err
+returns-then-piece-gt127-clause-err c =
+    let q = c.in_ok-steps.ensures in
+    let b = c.in_ok-tables-2.ensures q.0 (subst (λ ns. Runs ns [] (q.0 ∷ [])) (sym c.deref-3.ensures.value) q.2) in (
+      q.0,
+      spelled c.args.hole c.args.text.now c.in_ok-tokens.tokens.items c.deref.result.now c.deref-2.result.now q.0 c.in_ok-tokens.ensures c.deref.ensures.value c.deref-2.ensures.value
+          c.in-None.ensures q.1,
+      (let counted = b.1.counted in omega arith),
+      b.1.counted,
+    )
+
+pub returns-clause-ok : goal.returns-clause-ok
+returns-clause-ok c =
+    let q = c.in_ok-steps.ensures in
+    let b = c.in_ok-tables-2.ensures q.0 (subst (λ ns. Runs ns [] (q.0 ∷ [])) (sym c.deref-3.ensures.value) q.2) in
+    let is : pattern_of c.of.result.value.items ≡ q.0 = ap (λ v. pattern_of v.items) c.of.ensures ∙ pattern_is c.in_ok-steps.steps.items q.0 q.2 in
+    subst (λ p. IsRefex c.args.hole c.args.text.now p) (sym is) (record {
+      spells = spelled c.args.hole c.args.text.now c.in_ok-tokens.tokens.items c.deref.result.now c.deref-2.result.now q.0 c.in_ok-tokens.ensures c.deref.ensures.value
+          c.deref-2.ensures.value c.in-None.ensures q.1;
+      fits = let counted = b.1.counted in omega arith;
+    })
+
+pub invariant_of-result : goal.invariant_of-result
+invariant_of-result c =
+    let q = c.in_ok-steps.ensures in
+    let b = c.in_ok-tables-2.ensures q.0 (subst (λ ns. Runs ns [] (q.0 ∷ [])) (sym c.deref-3.ensures.value) q.2) in
+    let is : pattern_of c.of.result.value.items ≡ q.0 = ap (λ v. pattern_of v.items) c.of.ensures ∙ pattern_is c.in_ok-steps.steps.items q.0 q.2 in (
+      subst (λ p. Means c.finish.result.masks.items c.finish.result.follow.items c.finish.result.first c.finish.result.holes p) (sym is) (c.finish.ensures q.0 b.1),
+      c.has_name.ensures ∙ ap (list_any is_name_step) c.deref-4.ensures.value ∙ pattern_named c.in_ok-steps.steps.items q.0 q.2 ∙ ap has_name (sym is),
+    )

@@ -1,0 +1,13 @@
+use Rattle.std.proofs.Common.{sym, subst, [], ◌∷◌, ◌++◌}
+use Rattle.refex.specs.Parsing.{HasRead}
+use Rattle.refex.specs.Text as text
+use Rattle.refex.specs.declared.items.Last.TheVariants as last
+use Rattle.refex.proofs.Reading.{read_count}
+use Rattle.refex.proofs.parsing.Parser.repetition.Goals as goal
+
+pub returns : goal.returns
+returns c = λ xs h.
+    subst (λ ns. HasRead (xs ++ text.Repetition c.args.least c.args.most c.args.suffix ∷ []) ns c.args.self.now.groups.items c.args.self.now.branches last.Counted)
+    (sym c.in_ok-push.ensures.items)
+    (read_count xs c.args.self.now.steps.items c.args.self.now.groups.items c.args.self.now.branches c.args.least c.args.most c.args.suffix
+    (subst (λ l. HasRead xs c.args.self.now.steps.items c.args.self.now.groups.items c.args.self.now.branches l) c.in-Atom.is h))
