@@ -1,0 +1,3 @@
+pub mod ReaderLemmas
+pub mod IdLemmas
+pub mod TreeLemmas
