@@ -6,3 +6,4 @@ pub mod Tree
 pub mod Tag
 pub mod Content
 pub mod Object
+pub mod Before

@@ -32,6 +32,12 @@ named_bytes o = kind_word o.kind ++ 32 ∷ [] ++ decimal (length o.body) ++ 0 �
 abbrev pub object_name : Content → ObjectId
 object_name o = id_from (sha1 (named_bytes o))
 
+-- what every object keeps: a body of its kind's form that is not too long, and its name
+pub record IsWhole (kind : Kind) (body : List ℕ) (name : ObjectId) : Type 0 where
+  pub small : length body ≤ 16777216
+  pub form : fault_of kind body ≡ None
+  pub name_is : name ≡ object_name (record { kind = kind; body = body })
+
 -- the parents of a commit, in the order of their lines
 abbrev pub parents_of : Kind → List ℕ → List ObjectId
 parents_of Commit body = parent_ids body

@@ -51,7 +51,7 @@ is_directory e = bytes_eq e.mode (codes "40000")
 
 -- what the order of entries compares: a directory's name is compared as if `/` followed it
 abbrev pub sort_key : Entry → List ℕ
-sort_key e = if is_directory e then e.name ++ 47 ∷ [] else e.name
+sort_key e = e.name ++ (if is_directory e then 47 ∷ [] else [])
 
 abbrev pub sorts_below : Entry → Entry → Bool
 sorts_below e f = is_lt (slice_cmp nat_cmp (sort_key e) (sort_key f))
@@ -60,7 +60,7 @@ sorts_below e f = is_lt (slice_cmp nat_cmp (sort_key e) (sort_key f))
 -- it sorts above the nearest, and none of them has its name
 abbrev pub may_follow : List Entry → Entry → Bool
 may_follow [] e = true
-may_follow (nearest ∷ others) e = sorts_below nearest e && not (list_any (λ f. bytes_eq e.name f.name) (nearest ∷ others))
+may_follow (nearest ∷ others) e = sorts_below nearest e && not (list_any (λ f. bytes_eq f.name e.name) (nearest ∷ others))
 
 -- where the first entry that breaks the form begins, among entries from a place on that are followed by `rest`:
 -- an entry that may not stand behind those before it, or else what isn't a whole entry

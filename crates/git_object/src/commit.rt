@@ -4,7 +4,7 @@ ghost use Rattle.git_object.specs.Commit.{commit_break, parent_ids, parent_line,
 ghost use Rattle.git_object.specs.Reader.{behind};
 ghost use Rattle.std.specs.Option.{option_map};
 
-const MAX_BODY: usize = 16_777_216;
+use crate::object::MAX_BODY;
 use crate::object_id::{ObjectId, id_line};
 use crate::reader::literal;
 use std::marker::Model;

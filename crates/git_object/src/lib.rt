@@ -12,8 +12,8 @@
 mod commit;
 mod fault;
 mod kind;
-//mod links;
-//mod object;
+mod links;
+mod object;
 mod object_id;
 mod reader;
 mod tag;
@@ -23,8 +23,8 @@ pub use base_types::NoMemory;
 pub use commit::Parents;
 pub use fault::ObjFault;
 pub use kind::Kind;
-//pub use links::Links;
-//pub use object::{MAX_BODY, Object, ObjectList};
+pub use links::Links;
+pub use object::{MAX_BODY, Object, ObjectList};
 pub use object_id::ObjectId;
 pub use tree::{TreeEntries, TreeEntry};
 
