@@ -2,3 +2,4 @@ pub mod ReaderLemmas
 pub mod IdLemmas
 pub mod TreeLemmas
 pub mod TreeCheckLemmas
+pub mod ListLemmas

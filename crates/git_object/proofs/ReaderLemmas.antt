@@ -126,6 +126,19 @@ module _ {A : Type 0} where
     pub behind-none : (bytes : List ℕ) → read bytes ≡ None → behind read bytes ≡ bytes
     behind-none bytes e = none_behind (length bytes) bytes e
 
+    few_within : (n : ℕ) (bytes : List ℕ) → length (items_within read n bytes) ≤ n
+    unfolding items_within
+    few_within zero bytes = omega arith
+    few_within (suc n) bytes =
+        elim (read bytes) as (λ o. length (option_map_or (λ y. y.0 ∷ items_within read n y.1) o []) ≤ suc n) [
+          | None ↦ omega arith
+          | Some x ↦ let h = few_within n x.1 in omega arith
+        ]
+
+    -- no more values than bytes
+    pub length-items : (bytes : List ℕ) → length (items read bytes) ≤ length bytes
+    length-items bytes = few_within (length bytes) bytes
+
     pub items-nil : items read [] ≡ []
     unfolding items_within
     items-nil = refl

@@ -35,7 +35,7 @@ pub may_follow_kept : (kept : Before) (before : List Entry) (e : Entry) (name : 
     → answer ≡ may_follow before e
 may_follow_kept kept before e name rising is_new answer keeps is up fresh both =
     let names : is_new ≡ not (list_any (λ f. bytes_eq f.name e.name) before) =
-        fresh ∙ ap not (keeps.names name ∙ ap (λ n. list_any (λ f. bytes_eq f.name n) before) is) in
+    fresh ∙ ap not (keeps.names name ∙ ap (λ n. list_any (λ f. bytes_eq f.name n) before) is) in
     sym (may_follow_parts kept.nearest before e keeps.nearest ∙ ap₂ ◌&&◌ (sym up) (sym names) ∙ both)
 
 cond_or : (b c : Bool) → cond b true c ≡ (b || c)

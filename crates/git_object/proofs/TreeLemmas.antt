@@ -34,7 +34,7 @@ pub tree_entry_len : (bytes rest : List ℕ) (entry : Entry) → tree_entry byte
 unfolding tree_entry
 tree_entry_len bytes rest entry e =
     let made : (List ℕ × List ℕ) → (List ℕ × List ℕ) → (ObjectId × List ℕ) → Option (Entry × List ℕ) =
-        λ mode name id. cond (is_mode mode.0 && is_entry_name name.0) (Some (record { mode = mode.0; name = name.0; id = id.0 }, id.1)) None in
+    λ mode name id. cond (is_mode mode.0 && is_entry_name name.0) (Some (record { mode = mode.0; name = name.0; id = id.0 }, id.1)) None in
     let a = bind_some (up_to 32 bytes) (λ mode. up_to 0 mode.1 >>= λ name. id_at name.1 >>= λ id. made mode name id) (entry, rest) e in
     let b = bind_some (up_to 0 a.0.1) (λ name. id_at name.1 >>= λ id. made a.0 name id) (entry, rest) a.2 in
     let d = bind_some (id_at b.0.1) (λ id. made a.0 b.0 id) (entry, rest) b.2 in

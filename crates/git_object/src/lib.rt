@@ -28,3 +28,5 @@ pub use object::{MAX_BODY, Object, ObjectList};
 pub use object_id::ObjectId;
 pub use tree::{TreeEntries, TreeEntry};
 
+#[cfg(test)]
+mod tests;

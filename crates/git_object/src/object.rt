@@ -104,7 +104,8 @@ impl Object {
 
     /// The entries of a tree; of another object none.
     pub fn tree_entries(&self) -> TreeEntries<'_>
-        ensures { result ≡ entries_of self.now.kind self.now.body }
+        ensures entries { result ≡ entries_of self.now.kind self.now.body }
+        ensures few { length result ≤ MAX_BODY }
     {
         match self.kind {
             Kind::Tree => TreeEntries::of(self.body()),
@@ -114,7 +115,8 @@ impl Object {
 
     /// The parents of a commit; of another object none.
     pub fn parents(&self) -> Parents<'_>
-        ensures { result ≡ parents_of self.now.kind self.now.body }
+        ensures parents { result ≡ parents_of self.now.kind self.now.body }
+        ensures few { length result ≤ MAX_BODY }
     {
         match self.kind {
             Kind::Commit => Parents::of(self.body()),
