@@ -3,3 +3,6 @@ pub mod IdLemmas
 pub mod TreeLemmas
 pub mod TreeCheckLemmas
 pub mod ListLemmas
+pub mod SpellingLemmas
+pub mod FormLemmas
+pub mod EntryLemmas
