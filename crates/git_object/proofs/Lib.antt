@@ -6,3 +6,4 @@ pub mod ListLemmas
 pub mod SpellingLemmas
 pub mod FormLemmas
 pub mod EntryLemmas
+pub mod BreakLemmas

@@ -101,6 +101,23 @@ module _ {A : Type 0} where
         ap (λ o. option_map_or (λ y. behind_within read n y.1) o bytes) e
         ∙ enough_behind n (length rest) rest (omega arith) (omega arith)
 
+    stops_within : (n : ℕ) (bytes : List ℕ) → length bytes ≤ n → read (behind_within read n bytes) ≡ None
+    unfolding behind_within
+    stops_within zero bytes len =
+        elim (read bytes) as (λ o. read bytes ≡ o → o ≡ None) [
+          | None ↦ λ e. refl
+          | Some x ↦ λ e. let l = shrinks.less bytes x.1 x.0 e in absurd (omega arith)
+        ] refl
+    stops_within (suc n) bytes len =
+        elim (read bytes) as (λ o. read bytes ≡ o → read (option_map_or (λ x. behind_within read n x.1) o bytes) ≡ None) [
+          | None ↦ λ e. e
+          | Some x ↦ λ e. let l = shrinks.less bytes x.1 x.0 e in stops_within n x.1 (omega arith)
+        ] refl
+
+    -- behind all values stands none
+    pub behind_stops : (bytes : List ℕ) → read (behind read bytes) ≡ None
+    behind_stops bytes = stops_within (length bytes) bytes (omega arith)
+
     -- one value found, and then the others
     pub items-some : (bytes rest : List ℕ) (x : A) → read bytes ≡ Some (x, rest) → items read bytes ≡ x ∷ items read rest
     items-some bytes rest x e = items_step (length bytes) bytes rest x (omega arith) e
