@@ -1,5 +1,5 @@
 -- The first break is where the written form breaks.
-use Rattle.std.proofs.Common.{◌≡◌, ◌≢◌, ◌⊎◌, inl, inr, ℕ, zero, suc, ◌+◌, ◌-◌, ◌<◌, ◌≤◌, Bool, true, false, cond, List, [], ◌∷◌, ◌++◌, length, Option, Some, None, is_some, refl, sym, ◌∙◌, ap, ap₂, arith, append_assoc, length-append}
+use Rattle.std.proofs.Common.{◌≡◌, ◌≢◌, inl, inr, ℕ, ◌+◌, ◌-◌, true, false, cond, List, [], ◌∷◌, ◌++◌, length, Option, Some, None, is_some, refl, sym, ◌∙◌, ap, arith, append_assoc, length-append}
 use Rattle.std.specs.Prelude.{codes}
 use Rattle.std.specs.List.{flat_map, AllByRecursion}
 use Rattle.std.specs.Option.{option_map, option_map_or}
@@ -7,13 +7,11 @@ use Rattle.hex.specs.Hex.{lower_digits}
 use Rattle.hex.proofs.HexLemmas.{length-encode_with}
 use Rattle.git_object.specs.Reader.{literal, items, behind}
 use Rattle.git_object.specs.ObjectId.{id_line, hex_of}
-use Rattle.git_object.specs.Kind.{kind_word}
 use Rattle.git_object.specs.Commit.{tree_line, parent_line, commit_break, broken_parent}
 use Rattle.git_object.specs.Tree.{Entry, tree_entry, tree_break, first_break, may_follow, size}
 use Rattle.git_object.specs.Tag.{object_line, type_line, tag_break}
-use Rattle.git_object.specs.Spelling.{IsId, IsEntry, InOrder, NoLine, BreaksAtParent, BreaksAtType, BreaksCommit, BreaksTag, BreaksTree, nearest_first, spelled_line, spelled_commit, spelled_entry}
+use Rattle.git_object.specs.Spelling.{IsId, IsEntry, InOrder, NoLine, BreaksCommit, BreaksTag, BreaksTree, nearest_first, spelled_line, spelled_entry}
 use Rattle.git_object.specs.declared.object_id.ObjectId.{ObjectId}
-use Rattle.git_object.specs.declared.kind.Kind.{Kind}
 use Rattle.git_object.specs.declared.fault.ObjFault.{ObjFault}
 use Rattle.git_object.specs.declared.fault.ObjFault.TheVariants.{BadCommit, BadTree, BadTag, NoMemory}
 use Rattle.git_object.proofs.ReaderLemmas.{some_is, literal_takes, behind_stops}

@@ -1,7 +1,7 @@
 -- The forms as they are read and as they are spelled are one.
-use Rattle.std.proofs.Common.{◌≡◌, ◌≢◌, ℕ, zero, suc, ◌+◌, ◌-◌, ◌<◌, ◌≤◌, ◌==◌, Bool, true, false, cond, ◌&&◌, not, List, [], ◌∷◌, ◌++◌, length, take, drop, get_or, Option, Some, None, is_some, refl, sym, ◌∙◌, ap, ap₂, arith, append_assoc, append-nil}
-use Rattle.std.specs.Prelude.{codes, ◌↔◌, IsTrue}
-use Rattle.std.specs.List.{flat_map, AllByRecursion}
+use Rattle.std.proofs.Common.{◌≡◌, ℕ, ◌+◌, ◌-◌, true, false, cond, List, [], ◌∷◌, ◌++◌, length, Option, Some, None, is_some, refl, sym, ◌∙◌, ap, ap₂, append-nil}
+use Rattle.std.specs.Prelude.{codes}
+use Rattle.std.specs.List.{flat_map}
 use Rattle.std.specs.Option.{option_map, option_map_or}
 use Rattle.git_object.specs.Reader.{◌>>=◌, literal, up_to, items, behind}
 use Rattle.git_object.specs.ObjectId.{id_line}
@@ -9,16 +9,15 @@ use Rattle.git_object.specs.Commit.{tree_line, parent_line, parent_ids, commit_b
 use Rattle.git_object.specs.Kind.{kind_word}
 use Rattle.git_object.specs.Tree.{Entry, tree_entry, tree_break, first_break, may_follow, size}
 use Rattle.git_object.specs.Tag.{object_line, type_line, target_of, tag_break}
-use Rattle.git_object.specs.Object.{parents_of, links_of, commit_links, fault_of}
-use Rattle.git_object.specs.Spelling.{IsId, IsCommit, IsEntry, IsTree, InOrder, spelled_line, spelled_commit, spelled_entry, spelled_tag}
+use Rattle.git_object.specs.Object.{parents_of, links_of, commit_links}
+use Rattle.git_object.specs.Spelling.{IsId, IsCommit, IsEntry, IsTree, InOrder, spelled_line, spelled_entry, spelled_tag}
 use Rattle.git_object.specs.declared.kind.Kind.{Kind}
-use Rattle.git_object.specs.declared.kind.Kind.TheVariants.{Commit, Tree, Blob, Tag}
+use Rattle.git_object.specs.declared.kind.Kind.TheVariants.{Commit, Tree}
 use Rattle.git_object.specs.declared.object_id.ObjectId.{ObjectId}
-use Rattle.git_object.proofs.ReaderLemmas.{bind_some, some_is, literal_takes}
 use Rattle.git_object.proofs.IdLemmas.{id_line-Shrinks}
 use Rattle.git_object.proofs.TreeLemmas.{tree_entry-Shrinks}
 use Rattle.git_object.proofs.EntryLemmas.{entry_takes, entry_reads, type_line_spelled, type_line_again}
-use Rattle.git_object.proofs.SpellingLemmas.{literal_again, literal_not, literal_absent, id_line_spelled, id_line_again, items_spelled, items_again, line_takes, line_reads}
+use Rattle.git_object.proofs.SpellingLemmas.{literal_not, literal_absent, id_line_spelled, id_line_again, items_spelled, items_again, line_takes, line_reads}
 
 -- ---- commits
 

@@ -1,18 +1,15 @@
 -- What is read is spelled so, and what is spelled so is read: words, ids, lines, and one value after another.
-use Rattle.std.proofs.Common.{◌≡◌, ◌≢◌, ℕ, zero, suc, inl, inr, nat_lt, nat_le, is_some, ◌+◌, ◌*◌, ◌/◌, ◌%◌, ◌<◌, ◌≤◌, ◌==◌, Bool, true, false, cond, ◌&&◌, ◌||◌, not, List, [], ◌∷◌, ◌++◌, length, take, drop, get_or, slice_index, Option, Some, None, Result, Ok, Err, unwrap_or, refl, sym, ◌∙◌, ap, ap₂, arith, append_assoc, take-append-drop, length-append, length-drop, length-take}
-use Rattle.std.specs.Prelude.{codes}
+use Rattle.std.proofs.Common.{◌≡◌, ◌≢◌, ℕ, zero, suc, inl, inr, nat_lt, nat_le, is_some, ◌+◌, ◌*◌, ◌/◌, ◌%◌, ◌<◌, ◌==◌, Bool, true, false, cond, ◌&&◌, ◌||◌, not, List, [], ◌∷◌, ◌++◌, length, take, drop, slice_index, Option, Some, None, Result, Ok, Err, unwrap_or, refl, sym, ◌∙◌, ap, ap₂, arith, append_assoc, take-append-drop}
 use Rattle.hex.specs.declared.error.FromHexError.{FromHexError}
 use Rattle.hex.specs.declared.error.FromHexError.TheVariants.{InvalidStringLength, OddLength}
 use Rattle.hex.proofs.Pairs.{decode_pairs-ok_pair, cons_byte}
 use Rattle.std.specs.List.{flat_map, list_all, AllByRecursion}
 use Rattle.std.specs.Option.{option_map, option_map_or}
 use Rattle.std.specs.Result.{result_ok}
-use Rattle.std.specs.Str.{bytes_eq}
-use Rattle.std.proofs.lemmas.Bool.{agree_below_at, and_parts, and_from, eqb-true, eqb-false, cond-true, leb-true, ltb-true, or_cases, not_from_true}
+use Rattle.std.proofs.lemmas.Bool.{agree_below_at, and_parts, eqb-true, leb-true, ltb-true, or_cases, not_from_true}
 use Rattle.std.proofs.lemmas.List.{take_at, drop_at}
-use Rattle.std.proofs.lemmas.Option.{cond_some}
 use Rattle.std.proofs.lemmas.Slice.Eq.{bytes_eq-Decides}
-use Rattle.hex.specs.Hex.{IsBytes, decode_sized, decode_pairs, encode_with, encode_lower, lower_digits, hex_digit_value, pair_value, value_at}
+use Rattle.hex.specs.Hex.{decode_sized, decode_pairs, encode_with, lower_digits, hex_digit_value, pair_value}
 use Rattle.hex.proofs.HexLemmas.{decode_pairs-ok, length-encode_with}
 use Rattle.git_object.specs.Reader.{◌>>=◌, literal, items_within, behind_within, items, behind}
 use Rattle.git_object.specs.ObjectId.{id_from, is_lower_digit, id_of_hex, hex_of, hex_id, id_line}

@@ -1,10 +1,10 @@
 -- Entries of trees.
-use Rattle.std.proofs.Common.{◌≡◌, ◌≢◌, ℕ, ◌+◌, ◌-◌, ◌<◌, ◌≤◌, Bool, true, false, cond, ◌==◌, ◌&&◌, List, [], ◌∷◌, ◌++◌, length, take, drop, get_or, Option, Some, None, refl, sym, ◌∙◌, ap, arith, take-append-drop, length-append, length-drop, length-take, leb}
+use Rattle.std.proofs.Common.{◌≡◌, ℕ, ◌+◌, ◌<◌, ◌≤◌, cond, ◌==◌, ◌&&◌, List, length, take, drop, Option, Some, None, ap, arith, length-drop, length-take}
 use Rattle.std.specs.Prelude.{position, nat_le}
 use Rattle.std.proofs.lemmas.Bool.{leb-true}
 use Rattle.std.proofs.lemmas.List.Quantifiers.{position-Some}
 use Rattle.std.proofs.lemmas.Option.{cond_some}
-use Rattle.git_object.specs.Reader.{◌>>=◌, up_to, items, behind}
+use Rattle.git_object.specs.Reader.{◌>>=◌, up_to}
 use Rattle.git_object.specs.ObjectId.{id_from}
 use Rattle.git_object.specs.Tree.{Entry, tree_entry, is_mode, is_entry_name, id_at, size}
 use Rattle.git_object.specs.declared.object_id.ObjectId.{ObjectId}

@@ -1,8 +1,7 @@
 -- The forms of bodies written out, apart from how they are read: what a body of a form looks like.
-use Rattle.std.specs.Prelude.{◌≡◌, ◌≢◌, ◌⊎◌, ℕ, ◌+◌, false, List, [], ◌∷◌, ◌++◌, length, IsTrue, None, codes}
+use Rattle.std.specs.Prelude.{◌≡◌, ◌≢◌, ◌⊎◌, ℕ, ◌+◌, false, List, [], ◌∷◌, ◌++◌, length, IsTrue, codes}
 use Rattle.std.specs.List.{flat_map, AllByRecursion}
 use Rattle.hex.specs.Hex.{IsBytes}
-use Rattle.git_object.specs.Reader.{literal}
 use Rattle.git_object.specs.ObjectId.{hex_of}
 use Rattle.git_object.specs.Kind.{kind_word}
 use Rattle.git_object.specs.Tree.{Entry, is_mode, is_entry_name, may_follow}

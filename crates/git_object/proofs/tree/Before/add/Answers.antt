@@ -1,4 +1,4 @@
-use Rattle.std.proofs.Common.{◌≡◌, true, false, ◌&&◌, refl, sym, ap₂}
+use Rattle.std.proofs.Common.{true, false, ◌&&◌, refl, ap₂}
 use Rattle.git_object.specs.Tree.{entry_of}
 use Rattle.git_object.proofs.TreeCheckLemmas.{may_follow_kept, names_more}
 use Rattle.git_object.proofs.tree.Before.add.Goals as goal
