@@ -26,7 +26,7 @@ pub use commit::Parents;
 pub use fault::ObjFault;
 pub use kind::Kind;
 pub use links::Links;
-pub use object::{MAX_BODY, Object, ObjectList};
+pub use object::{MAX_BODY, Object, ObjectList, share};
 pub use object_id::ObjectId;
 pub use spelling::{commits_are_as_written, tags_are_as_written, trees_are_as_written};
 pub use tree::{TreeEntries, TreeEntry};

@@ -11,7 +11,7 @@ use crate::links::Links;
 use crate::object_id::ObjectId;
 use crate::tag::{tag_break, target_of};
 use crate::tree::{TreeEntries, tree_break};
-use base_types::ItemList;
+use base_types::{ItemList, NoMemory};
 use itoa::Buffer;
 use sha1::Sha1;
 use std::alloc::{AllocError, Global};
@@ -145,6 +145,13 @@ impl Clone for Object {
             body: self.body.clone()?,
         })
     }
+}
+
+/// The same objects in a second list. Their bodies are shared and not copied.
+pub fn share(list: &ObjectList) -> Result<ObjectList, NoMemory>
+    ensures { IfOk result (λ shared. shared ≡ list.now) }
+{
+    Ok(list.clone()?)
 }
 
 // Whether a body is of its kind's form.

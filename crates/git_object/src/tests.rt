@@ -183,12 +183,14 @@ fn ids_are_forty_lower_case_digits(rt: HostRuntime) -> Result<(), Fail> {
     Ok(())
 }
 
+fn crosses_threads<T: Send + Sync + Drop>(_value: T) {}
+
 #[test]
 fn a_list_is_kept_in_two_places(rt: HostRuntime) -> Result<(), Fail> {
     let mut list = ObjectList::new(rt.alloc());
     list.push(Object::from_body(rt.alloc(), Kind::Tag, TAG.to_vec(rt.alloc())?)?)?;
-    let copy = list.clone()?;
-    drop(list);
+    let copy = share(&list)?;
+    crosses_threads(list);
     let object = copy.get(0).ok_or("an object")?;
     assert!(rt; copy.len() == 1 && object.body() == TAG);
     Ok(())
