@@ -1,0 +1,4 @@
+pub mod ReaderLemmas
+pub mod IdLemmas
+pub mod TreeLemmas
+pub mod TreeCheckLemmas
