@@ -1,0 +1,6 @@
+//! Raw packs.
+#![tactic(auto)]
+
+mod fault;
+
+pub use fault::PackFault;
