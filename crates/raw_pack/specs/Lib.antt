@@ -1,3 +1,5 @@
 pub mod Formats
 pub mod Packs
 pub mod Grammar
+pub mod Heads
+pub mod Reading

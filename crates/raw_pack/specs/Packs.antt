@@ -11,6 +11,7 @@ use Rattle.git_object.specs.declared.kind.Kind.{Kind}
 use Rattle.git_object.specs.declared.kind.Kind.TheVariants.{Commit, Tree, Blob, Tag}
 use Rattle.git_object.specs.declared.fault.ObjFault.{ObjFault}
 use Rattle.raw_pack.specs.Formats.{Format, gives, fails, ◌>>=◌, bytes, front, and_then, behind}
+use Rattle.raw_pack.specs.declared.head.Head.{Head}
 use Rattle.raw_pack.specs.declared.fault.PackFault.{PackFault}
 use Rattle.raw_pack.specs.declared.fault.PackFault.TheVariants.{NotAPack, Version, Delta, BadHead, BadObject, Truncated, TrailerDiffers, TooLarge, TooMany}
 
@@ -30,18 +31,29 @@ word = do
   four ← bytes 4 (Truncated 0)
   gives (from_be_bytes w32 four)
 
--- `PACK`, the version 2, the number of entries
+-- `PACK`
+unfoldable pub signature : Format (Unit {0}) PackFault
+signature = do
+  four ← bytes 4 (Truncated 0)
+  if bytes_eq four (codes "PACK") then gives tt else fails NotAPack
+
+-- the version 2
+unfoldable pub version : Format (Unit {0}) PackFault
+version = do
+  number ← word
+  if number == 2 then gives tt else fails (Version number)
+
+-- the number of entries
+unfoldable pub entry_count : Format ℕ PackFault
+entry_count = do
+  number ← word
+  if nat_lt most_entries number then fails (TooMany number) else gives number
+
 unfoldable pub header : Format ℕ PackFault
 header = do
-  signature ← bytes 4 (Truncated 0)
-  version ← if bytes_eq signature (codes "PACK") then word else fails NotAPack
-  count ← if version == 2 then word else fails (Version version)
-  if nat_lt most_entries count then fails (TooMany count) else gives count
-
--- a head's kind and size
-pub record Head : Type 0 where
-  pub kind : Kind
-  pub size : ℕ
+  packed ← signature
+  known ← version
+  entry_count
 
 -- one byte
 unfoldable pub byte : ℕ → Format ℕ PackFault
@@ -56,13 +68,13 @@ sized entry sum kind size =
     else gives (record { kind = kind; size = size })
 
 -- The bytes of a head behind its first: seven bits each, the lowest first, and a set bit 7 where another follows, at most so many.
--- The size so far, and what a bit more is worth.
+-- The size so far, and what the next byte is worth.
 unfoldable pub more_size : ℕ → ℕ → ℕ → Kind → ℕ → ℕ → Format Head PackFault
 more_size zero entry sum kind size unit = fails (TooLarge entry)
 more_size (suc left) entry sum kind size unit = do
   next ← byte entry
   if nat_lt 127 next
-    then (if left == 0 then fails (TooLarge entry) else more_size left entry sum kind (size + unit * (next % 128)) (unit * 128))
+    then more_size left entry sum kind (size + unit * (next % 128)) (unit * 128)
     else (if next == 0 then fails (BadHead entry) else sized entry sum kind (size + unit * next))
 
 -- the kind that three bits name: 1 to 4; 6 and 7 are deltas

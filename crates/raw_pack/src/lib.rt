@@ -1,6 +1,17 @@
-//! Raw packs.
+//! Raw packs: the objects that a push sends and a fetch gets, uncompressed.
+//!
+//! - `fault`: why a pack wasn't read;
+//! - `input`: bytes of a source, hashed as they come;
+//! - `head`: the header of a pack and the heads of its entries;
+//! - `reading`: entries, the trailer, and a whole pack as a list of objects.
+//!
+//! `specs/Formats.antt` and `specs/Packs.antt` say what stands at the front of an input, `specs/Grammar.antt` how a pack
+//! is spelled; `docs/PACKS.md` tells the rules.
 #![tactic(auto)]
 
 mod fault;
+mod head;
+mod input;
 
+pub use base_types::NoMemory;
 pub use fault::PackFault;
