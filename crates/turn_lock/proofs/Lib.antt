@@ -1,0 +1,4 @@
+mod Knowing
+pub mod Numbers
+mod RuleKept
+mod TurnMade
