@@ -1,5 +1,5 @@
 -- Ids as text.
-use Rattle.std.proofs.Common.{◌≡◌, ℕ, zero, suc, ◌+◌, ◌*◌, ◌/◌, ◌%◌, ◌==◌, ◌<◌, ◌≤◌, Bool, true, false, ◌&&◌, cond, List, [], ◌∷◌, ◌++◌, length, take, drop, get_or, slice_index, Option, Some, None, Result, Ok, Err, refl, sym, ◌∙◌, ap, arith, length-append, length-drop, length-take}
+use Rattle.std.proofs.Common.{◌≡◌, ℕ, suc, ◌*◌, ◌/◌, ◌%◌, ◌==◌, ◌<◌, true, false, cond, List, [], ◌∷◌, length, take, drop, slice_index, Some, None, Err, refl, sym, ◌∙◌, ap, arith, length-append, length-drop}
 use Rattle.std.specs.List.{list_all}
 use Rattle.std.specs.Option.{option_map}
 use Rattle.std.specs.Result.{result_ok}
@@ -7,7 +7,7 @@ use Rattle.std.proofs.lemmas.Bool.{agree_below_at, and_from, ne_eqb}
 use Rattle.hex.specs.declared.error.FromHexError.TheVariants.{InvalidStringLength, OddLength}
 use Rattle.hex.specs.Hex.{IsBytes, decode_pairs, decode_sized, encode_with, encode_lower, lower_digits}
 use Rattle.hex.proofs.HexLemmas.{decode_of-encode_lower, decode_sized-twice, length-encode_with}
-use Rattle.git_object.specs.ObjectId.{id_from, is_lower_digit, id_of_hex, hex_of, hex_id, id_line}
+use Rattle.git_object.specs.ObjectId.{id_from, is_lower_digit, id_of_hex, hex_id, id_line}
 use Rattle.git_object.specs.Reader.{◌>>=◌, literal}
 use Rattle.git_object.specs.declared.object_id.ObjectId.{ObjectId}
 use Rattle.git_object.proofs.ReaderLemmas.{bind_some, some_is, literal_takes, Shrinks}

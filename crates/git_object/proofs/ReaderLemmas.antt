@@ -1,14 +1,10 @@
 -- Readers, and the values that they find one after another.
-use Rattle.std.proofs.Common.{◌≡◌, ◌≢◌, ℕ, zero, suc, ◌+◌, ◌<◌, ◌≤◌, Bool, true, false, cond, ◌==◌, List, [], ◌∷◌, ◌++◌, length, take, drop, get_or, Option, Some, None, refl, sym, ◌∙◌, ap, subst, arith, take-append-drop, length-append, length-drop, length-take}
-use Rattle.std.specs.Prelude.{position}
+use Rattle.std.proofs.Common.{◌≡◌, ◌≢◌, ℕ, zero, suc, ◌<◌, ◌≤◌, List, [], ◌∷◌, ◌++◌, length, take, drop, get_or, Option, Some, None, refl, sym, ◌∙◌, ap, arith, take-append-drop}
 use Rattle.std.specs.Option.{option_map_or}
 use Rattle.std.specs.Str.{bytes_eq}
-use Rattle.std.proofs.lemmas.Bool.{eqb-true, eqb-false}
-use Rattle.std.proofs.lemmas.List.{drop_more}
-use Rattle.std.proofs.lemmas.List.Quantifiers.{position-Some}
 use Rattle.std.proofs.lemmas.Option.{cond_some}
 use Rattle.std.proofs.lemmas.Slice.Eq.{bytes_eq-Decides}
-use Rattle.git_object.specs.Reader.{◌>>=◌, literal, up_to, items_within, behind_within, items, behind}
+use Rattle.git_object.specs.Reader.{◌>>=◌, literal, items_within, behind_within, items, behind}
 
 -- the value of a reader that found one, and what the next made of it
 pub bind_some : {A B : Type 0} (o : Option A) (f : A → Option B) (y : B) → (o >>= f) ≡ Some y → (x : A) × (o ≡ Some x) × (f x ≡ Some y)
@@ -101,6 +97,23 @@ module _ {A : Type 0} where
         ap (λ o. option_map_or (λ y. behind_within read n y.1) o bytes) e
         ∙ enough_behind n (length rest) rest (omega arith) (omega arith)
 
+    stops_within : (n : ℕ) (bytes : List ℕ) → length bytes ≤ n → read (behind_within read n bytes) ≡ None
+    unfolding behind_within
+    stops_within zero bytes len =
+        elim (read bytes) as (λ o. read bytes ≡ o → o ≡ None) [
+          | None ↦ λ e. refl
+          | Some x ↦ λ e. let l = shrinks.less bytes x.1 x.0 e in absurd (omega arith)
+        ] refl
+    stops_within (suc n) bytes len =
+        elim (read bytes) as (λ o. read bytes ≡ o → read (option_map_or (λ x. behind_within read n x.1) o bytes) ≡ None) [
+          | None ↦ λ e. e
+          | Some x ↦ λ e. let l = shrinks.less bytes x.1 x.0 e in stops_within n x.1 (omega arith)
+        ] refl
+
+    -- behind all values stands none
+    pub behind_stops : (bytes : List ℕ) → read (behind read bytes) ≡ None
+    behind_stops bytes = stops_within (length bytes) bytes (omega arith)
+
     -- one value found, and then the others
     pub items-some : (bytes rest : List ℕ) (x : A) → read bytes ≡ Some (x, rest) → items read bytes ≡ x ∷ items read rest
     items-some bytes rest x e = items_step (length bytes) bytes rest x (omega arith) e
@@ -125,6 +138,19 @@ module _ {A : Type 0} where
 
     pub behind-none : (bytes : List ℕ) → read bytes ≡ None → behind read bytes ≡ bytes
     behind-none bytes e = none_behind (length bytes) bytes e
+
+    few_within : (n : ℕ) (bytes : List ℕ) → length (items_within read n bytes) ≤ n
+    unfolding items_within
+    few_within zero bytes = omega arith
+    few_within (suc n) bytes =
+        elim (read bytes) as (λ o. length (option_map_or (λ y. y.0 ∷ items_within read n y.1) o []) ≤ suc n) [
+          | None ↦ omega arith
+          | Some x ↦ let h = few_within n x.1 in omega arith
+        ]
+
+    -- no more values than bytes
+    pub length-items : (bytes : List ℕ) → length (items read bytes) ≤ length bytes
+    length-items bytes = few_within (length bytes) bytes
 
     pub items-nil : items read [] ≡ []
     unfolding items_within

@@ -1,5 +1,5 @@
 -- What the check of a tree keeps, and the first break.
-use Rattle.std.proofs.Common.{◌≡◌, ◌≢◌, ℕ, zero, suc, ◌+◌, ◌-◌, ◌<◌, ◌≤◌, ◌==◌, Bool, true, false, cond, ◌&&◌, ◌||◌, not, List, [], ◌∷◌, length, Option, Some, None, refl, sym, ◌∙◌, ap, ap₂, arith, Bor}
+use Rattle.std.proofs.Common.{◌≡◌, ℕ, zero, suc, ◌+◌, ◌<◌, ◌==◌, Bool, true, false, cond, ◌&&◌, ◌||◌, not, List, [], ◌∷◌, length, Option, Some, None, refl, sym, ◌∙◌, ap, ap₂, arith, Bor}
 use Rattle.std.specs.List.{list_any, slice_get}
 use Rattle.std.specs.Option.{option_map, option_map_or}
 use Rattle.std.specs.Str.{bytes_eq}
@@ -12,8 +12,8 @@ use Rattle.git_object.specs.Tree.{Entry, entry_of, sorts_below, may_follow, tree
 use Rattle.git_object.specs.Before.{Keeps}
 use Rattle.git_object.specs.declared.tree.TreeEntry.{TreeEntry}
 use Rattle.git_object.specs.declared.tree.Before.{Before}
-use Rattle.git_object.proofs.ReaderLemmas.{items-none, items-some, behind-none, behind-some, items-nil}
-use Rattle.git_object.proofs.TreeLemmas.{tree_entry-Shrinks, tree_entry_len}
+use Rattle.git_object.proofs.ReaderLemmas.{items-none, items-some, behind-none, behind-some}
+use Rattle.git_object.proofs.TreeLemmas.{tree_entry-Shrinks}
 
 -- whether an entry sorts above the nearest of those before
 abbrev rises : Option TreeEntry → Entry → Bool
@@ -35,7 +35,7 @@ pub may_follow_kept : (kept : Before) (before : List Entry) (e : Entry) (name : 
     → answer ≡ may_follow before e
 may_follow_kept kept before e name rising is_new answer keeps is up fresh both =
     let names : is_new ≡ not (list_any (λ f. bytes_eq f.name e.name) before) =
-        fresh ∙ ap not (keeps.names name ∙ ap (λ n. list_any (λ f. bytes_eq f.name n) before) is) in
+    fresh ∙ ap not (keeps.names name ∙ ap (λ n. list_any (λ f. bytes_eq f.name n) before) is) in
     sym (may_follow_parts kept.nearest before e keeps.nearest ∙ ap₂ ◌&&◌ (sym up) (sym names) ∙ both)
 
 cond_or : (b c : Bool) → cond b true c ≡ (b || c)

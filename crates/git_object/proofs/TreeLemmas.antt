@@ -1,10 +1,10 @@
 -- Entries of trees.
-use Rattle.std.proofs.Common.{◌≡◌, ◌≢◌, ℕ, ◌+◌, ◌-◌, ◌<◌, ◌≤◌, Bool, true, false, cond, ◌==◌, ◌&&◌, List, [], ◌∷◌, ◌++◌, length, take, drop, get_or, Option, Some, None, refl, sym, ◌∙◌, ap, arith, take-append-drop, length-append, length-drop, length-take, leb}
+use Rattle.std.proofs.Common.{◌≡◌, ℕ, ◌+◌, ◌<◌, ◌≤◌, cond, ◌==◌, ◌&&◌, List, length, take, drop, Option, Some, None, ap, arith, length-drop, length-take}
 use Rattle.std.specs.Prelude.{position, nat_le}
 use Rattle.std.proofs.lemmas.Bool.{leb-true}
 use Rattle.std.proofs.lemmas.List.Quantifiers.{position-Some}
 use Rattle.std.proofs.lemmas.Option.{cond_some}
-use Rattle.git_object.specs.Reader.{◌>>=◌, up_to, items, behind}
+use Rattle.git_object.specs.Reader.{◌>>=◌, up_to}
 use Rattle.git_object.specs.ObjectId.{id_from}
 use Rattle.git_object.specs.Tree.{Entry, tree_entry, is_mode, is_entry_name, id_at, size}
 use Rattle.git_object.specs.declared.object_id.ObjectId.{ObjectId}
@@ -34,7 +34,7 @@ pub tree_entry_len : (bytes rest : List ℕ) (entry : Entry) → tree_entry byte
 unfolding tree_entry
 tree_entry_len bytes rest entry e =
     let made : (List ℕ × List ℕ) → (List ℕ × List ℕ) → (ObjectId × List ℕ) → Option (Entry × List ℕ) =
-        λ mode name id. cond (is_mode mode.0 && is_entry_name name.0) (Some (record { mode = mode.0; name = name.0; id = id.0 }, id.1)) None in
+    λ mode name id. cond (is_mode mode.0 && is_entry_name name.0) (Some (record { mode = mode.0; name = name.0; id = id.0 }, id.1)) None in
     let a = bind_some (up_to 32 bytes) (λ mode. up_to 0 mode.1 >>= λ name. id_at name.1 >>= λ id. made mode name id) (entry, rest) e in
     let b = bind_some (up_to 0 a.0.1) (λ name. id_at name.1 >>= λ id. made a.0 name id) (entry, rest) a.2 in
     let d = bind_some (id_at b.0.1) (λ id. made a.0 b.0 id) (entry, rest) b.2 in

@@ -1,5 +1,5 @@
 -- The four kinds of objects and their words.
-use Rattle.std.specs.Prelude.{ℕ, if◌then◌else◌, List, ◌∷◌, [], Option, Some, None, codes}
+use Rattle.std.specs.Prelude.{ℕ, if◌then◌else◌, List, Option, Some, None, codes}
 use Rattle.std.specs.Str.{bytes_eq}
 use Rattle.git_object.specs.declared.kind.Kind.{Kind}
 use Rattle.git_object.specs.declared.kind.Kind.TheVariants.{Commit, Tree, Blob, Tag}

@@ -7,3 +7,4 @@ pub mod Tag
 pub mod Content
 pub mod Object
 pub mod Before
+pub mod Spelling

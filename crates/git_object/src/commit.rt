@@ -38,7 +38,8 @@ impl<'a> Parents<'a> {
 
     // Those of a commit's body.
     pub(crate) fn of(body: &'a [u8]) -> Parents<'a>
-        ensures { result ≡ parent_ids body.now }
+        ensures parents { result ≡ parent_ids body.now }
+        ensures few { length result ≤ length body.now }
     {
         match tree_line(body) {
             Some((_, lines)) => Parents { lines },

@@ -1,5 +1,6 @@
 // Why bytes are no body of a kind.
 ghost use Rattle.std.specs.Prelude.{◌≡◌};
+
 use base_types::NoMemory;
 use std::alloc::{AllocError, AllocFailed};
 

@@ -6,7 +6,8 @@
 //! - `commit`, `tree`, `tag`: the forms of bodies, and what stands in them;
 //! - `fault`: why bytes are no body of a kind;
 //! - `object`: an object, whose body is of its kind's form, and lists of objects;
-//! - `links`: the objects that an object names.
+//! - `links`: the objects that an object names;
+//! - `spelling`: laws that the forms as they are read are the forms written out.
 #![tactic(auto)]
 
 mod commit;
@@ -16,6 +17,7 @@ mod links;
 mod object;
 mod object_id;
 mod reader;
+mod spelling;
 mod tag;
 mod tree;
 
@@ -24,7 +26,10 @@ pub use commit::Parents;
 pub use fault::ObjFault;
 pub use kind::Kind;
 pub use links::Links;
-pub use object::{MAX_BODY, Object, ObjectList};
+pub use object::{MAX_BODY, Object, ObjectList, share};
 pub use object_id::ObjectId;
+pub use spelling::{commits_are_as_written, tags_are_as_written, trees_are_as_written};
 pub use tree::{TreeEntries, TreeEntry};
 
+#[cfg(test)]
+mod tests;

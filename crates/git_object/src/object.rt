@@ -11,7 +11,7 @@ use crate::links::Links;
 use crate::object_id::ObjectId;
 use crate::tag::{tag_break, target_of};
 use crate::tree::{TreeEntries, tree_break};
-use base_types::ItemList;
+use base_types::{ItemList, NoMemory};
 use itoa::Buffer;
 use sha1::Sha1;
 use std::alloc::{AllocError, Global};
@@ -104,7 +104,8 @@ impl Object {
 
     /// The entries of a tree; of another object none.
     pub fn tree_entries(&self) -> TreeEntries<'_>
-        ensures { result ≡ entries_of self.now.kind self.now.body }
+        ensures entries { result ≡ entries_of self.now.kind self.now.body }
+        ensures few { length result ≤ MAX_BODY }
     {
         match self.kind {
             Kind::Tree => TreeEntries::of(self.body()),
@@ -114,7 +115,8 @@ impl Object {
 
     /// The parents of a commit; of another object none.
     pub fn parents(&self) -> Parents<'_>
-        ensures { result ≡ parents_of self.now.kind self.now.body }
+        ensures parents { result ≡ parents_of self.now.kind self.now.body }
+        ensures few { length result ≤ MAX_BODY }
     {
         match self.kind {
             Kind::Commit => Parents::of(self.body()),
@@ -143,6 +145,13 @@ impl Clone for Object {
             body: self.body.clone()?,
         })
     }
+}
+
+/// The same objects in a second list. Their bodies are shared and not copied.
+pub fn share(list: &ObjectList) -> Result<ObjectList, NoMemory>
+    ensures { IfOk result (λ shared. shared ≡ list.now) }
+{
+    Ok(list.clone()?)
 }
 
 // Whether a body is of its kind's form.

@@ -50,7 +50,8 @@ impl<'a> TreeEntries<'a> {
 
     // Those of a tree's body.
     pub(crate) fn of(body: &'a [u8]) -> TreeEntries<'a>
-        ensures { result ≡ items tree_entry body.now }
+        ensures entries { result ≡ items tree_entry body.now }
+        ensures few { length result ≤ length body.now }
     {
         TreeEntries { bytes: body }
     }
@@ -115,7 +116,6 @@ fn tree_entry(bytes: &[u8]) -> Option<(TreeEntry<'_>, &[u8])>
     }
     None
 }
-
 
 // What is put behind the name of a directory where names are compared.
 fn slash(entry: &TreeEntry<'_>) -> &'static [u8]

@@ -1,4 +1,4 @@
-use Rattle.std.proofs.Common.{◌≡◌, arith, sym, ◌∙◌}
+use Rattle.std.proofs.Common.{arith, sym, ◌∙◌}
 use Rattle.std.specs.Prelude.{codes}
 use Rattle.git_object.specs.Commit.{parent_line}
 use Rattle.git_object.proofs.ReaderLemmas.{behind-none, behind-some}

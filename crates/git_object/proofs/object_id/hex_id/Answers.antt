@@ -1,5 +1,4 @@
-use Rattle.std.proofs.Common.{◌≡◌, ◌<◌, length, take, None, refl, rules, arith, length-take}
-use Rattle.git_object.specs.Reader.{◌>>=◌}
+use Rattle.std.proofs.Common.{◌≡◌, ◌<◌, length, take, None, refl, arith, length-take}
 use Rattle.git_object.specs.ObjectId.{hex_id, id_of_hex}
 use Rattle.git_object.proofs.IdLemmas.{id_of_hex-short}
 use Rattle.git_object.proofs.object_id.hex_id.Goals as goal

@@ -1,6 +1,6 @@
-use Rattle.std.proofs.Common.{◌≡◌, ◌+◌, ◌-◌, ◌<◌, ◌∷◌, length, true, false, Some, sym, ◌∙◌, arith}
+use Rattle.std.proofs.Common.{◌≡◌, ◌+◌, ◌-◌, ◌∷◌, length, sym, ◌∙◌, arith}
 use Rattle.std.proofs.lemmas.Bool.{eqb-true}
-use Rattle.git_object.specs.Tree.{entry_of, may_follow, size}
+use Rattle.git_object.specs.Tree.{entry_of, size}
 use Rattle.git_object.proofs.TreeLemmas.{tree_entry_len}
 use Rattle.git_object.proofs.TreeCheckLemmas.{break_from-nil, break_from-none, break_from-stops, break_from-goes, positive}
 use Rattle.git_object.proofs.tree.tree_break.Goals as goal

@@ -1,4 +1,4 @@
-use Rattle.std.proofs.Common.{◌≡◌, [], None, sym, ◌∙◌, ap, length, arith, rules}
+use Rattle.std.proofs.Common.{◌≡◌, [], sym, ◌∙◌, ap, length, rules}
 use Rattle.std.specs.Prelude.{codes}
 use Rattle.git_object.specs.Commit.{parent_line}
 use Rattle.git_object.proofs.ReaderLemmas.{items-none, items-some}

@@ -1,4 +1,4 @@
-use Rattle.std.proofs.Common.{◌≡◌, [], None, sym, ◌∙◌, ap, length, arith, rules}
+use Rattle.std.proofs.Common.{◌≡◌, [], sym, ◌∙◌, ap, length, rules}
 use Rattle.git_object.specs.Tree.{tree_entry}
 use Rattle.git_object.proofs.ReaderLemmas.{items-none, items-some}
 use Rattle.git_object.proofs.TreeLemmas.{tree_entry-Shrinks}
