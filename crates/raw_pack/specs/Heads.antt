@@ -1,12 +1,6 @@
 -- The parts of which reading a head is made.
-use Rattle.std.specs.Prelude.{ℕ, zero, suc, Result, Ok, Err}
-use Rattle.raw_pack.specs.Formats.{Format, gives, fails}
-use Rattle.raw_pack.specs.declared.fault.PackFault.{PackFault}
-
--- the format that an answer that stands already is
-abbrev pub format_of : {V : Type 0} → Result V PackFault → Format V PackFault
-format_of (Ok v) = gives v
-format_of (Err fault) = fails fault
+use Rattle.std.specs.Prelude.{ℕ, zero, suc, ◌+◌, ◌≤◌}
+use Rattle.raw_pack.specs.declared.head.Head.{Head}
 
 -- what the next byte of a size is worth, where so many may follow it
 abbrev pub unit_of : ℕ → ℕ
@@ -14,3 +8,8 @@ unit_of zero = 33554432
 unit_of (suc zero) = 262144
 unit_of (suc (suc zero)) = 2048
 unit_of (suc (suc (suc left))) = 16
+
+-- a body of this head, behind bodies of so many bytes, is within the reader's limits
+pub record IsTaken (sum : ℕ) (head : Head) : Type 0 where
+  pub body : head.size ≤ 16777216
+  pub both : sum + head.size ≤ 268435456

@@ -1,6 +1,6 @@
 -- Raw packs, and the first fault in the order of the bytes: Git's pack-format, version 2, with each body as it is where that
 -- format has a zlib stream, and without deltas.
-use Rattle.std.specs.Prelude.{ℕ, zero, suc, ◌+◌, ◌*◌, ◌/◌, ◌%◌, ◌==◌, nat_lt, ◌||◌, if◌then◌else◌, List, [], ◌∷◌, ◌++◌, length, take, drop, Option, None, Some, codes, slice_index}
+use Rattle.std.specs.Prelude.{ℕ, zero, suc, ◌+◌, ◌*◌, ◌/◌, ◌%◌, ◌==◌, nat_lt, ◌||◌, if◌then◌else◌, List, [], ◌∷◌, ◌++◌, length, take, drop, Option, None, Some, codes, slice_index, Bool}
 use Rattle.std.specs.Int.{w32, from_be_bytes}
 use Rattle.std.specs.Str.{bytes_eq}
 use Rattle.sha1.specs.Sha1.{sha1}
@@ -61,11 +61,13 @@ byte entry = do
   one ← bytes 1 (Truncated entry)
   gives (slice_index one 0)
 
+-- whether a body of this size, behind bodies of so many bytes, is more than the reader takes
+abbrev pub is_too_large : ℕ → ℕ → Bool
+is_too_large sum size = nat_lt largest_body size || nat_lt largest_sum (sum + size)
+
 -- a head whose last byte was read: entry number, bytes of the bodies before, kind, size
 abbrev pub sized : ℕ → ℕ → Kind → ℕ → Format Head PackFault
-sized entry sum kind size =
-    if nat_lt largest_body size || nat_lt largest_sum (sum + size) then fails (TooLarge entry)
-    else gives (record { kind = kind; size = size })
+sized entry sum kind size = if is_too_large sum size then fails (TooLarge entry) else gives (record { kind = kind; size = size })
 
 -- The bytes of a head behind its first: seven bits each, the lowest first, and a set bit 7 where another follows, at most so many.
 -- The size so far, and what the next byte is worth.
