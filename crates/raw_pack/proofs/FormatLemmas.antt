@@ -24,12 +24,12 @@ module _ {V F : Type 0} where
   unfolding front
   front-wants n e f found rest h = rw (le-ltb (length (found ++ rest)) n (omega (arith, length-append found rest, h)), take_at found rest n h, drop_at found rest n h)
 
-  decided_behind : (k n : ℕ) (v : V) (at : Front V F) → behind k at ≡ Whole n v → (m : ℕ) × (at ≡ Whole m v) × (n ≡ k + m)
+  pub decided_behind : (k n : ℕ) (v : V) (at : Front V F) → behind k at ≡ Whole n v → (m : ℕ) × (at ≡ Whole m v) × (n ≡ k + m)
   decided_behind k n v (Whole m w) e = (m, cc, cc)
   decided_behind k n v (Broken m f) e = absurd (cc)
   decided_behind k n v (Partial f) e = absurd (cc)
 
-  broken_behind : (k n : ℕ) (e : F) (at : Front V F) → behind k at ≡ Broken n e → (m : ℕ) × (at ≡ Broken m e) × (n ≡ k + m)
+  pub broken_behind : (k n : ℕ) (e : F) (at : Front V F) → behind k at ≡ Broken n e → (m : ℕ) × (at ≡ Broken m e) × (n ≡ k + m)
   broken_behind k n e (Whole m w) is = absurd (cc)
   broken_behind k n e (Broken m f) is = (m, cc, cc)
   broken_behind k n e (Partial f) is = absurd (cc)
@@ -55,6 +55,21 @@ module _ {V F : Type 0} where
             ∙ front-wants k e g (take k input) (drop k input ++ more) (length-take-le k input long)
             ∙ ap (behind k) rest
             ∙ ap (λ (m : ℕ). Whole m v) (sym inner.2)
+      ]
+
+  -- what is whole lies within the input
+  pub whole_within : (f : Format V F) (input : List ℕ) (n : ℕ) (v : V) → front f input ≡ Whole n v → n ≤ length input
+  unfolding front
+  whole_within (gives w) input n v is = let none : n ≡ 0 = cc in omega arith
+  whole_within (fails e) input n v is = absurd (cc)
+  whole_within (wants k e g) input n v is =
+      elim (cases_lt (length input) k) [
+        | inl short ↦ absurd (let cut : front (wants k e g) input ≡ Partial e = front-wants_short k e g input short in cc)
+        | inr long ↦
+            let here : behind k (front (g (take k input)) (drop k input)) ≡ Whole n v = sym (front-wants_long k e g input long) ∙ is in
+            let inner = decided_behind k n v (front (g (take k input)) (drop k input)) here in
+            let rest : inner.0 ≤ length (drop k input) = whole_within (g (take k input)) (drop k input) inner.0 v inner.1 in
+            omega (arith, rest, inner.2, length-drop k input)
       ]
 
   pub broken_stays : (f : Format V F) (input more : List ℕ) (n : ℕ) (v : F) → front f input ≡ Broken n v → front f (input ++ more) ≡ Broken n v

@@ -1,3 +1,6 @@
 pub mod FormatLemmas
-pub mod HeadLemmas
 pub mod ReadLemmas
+pub mod HeadLemmas
+pub mod EntryLemmas
+pub mod PackLemmas
+pub mod ToldLemmas

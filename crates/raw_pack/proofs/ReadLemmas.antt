@@ -157,11 +157,11 @@ nothing_hashed hasher m h = subst (λ (l : List ℕ). Holds hasher l) (sym (appe
 
 
 module _ {W : Type 0} where
-  given_here : (n : ℕ) (w : W) (rest : List ℕ) → behind n (front {F = PackFault} (gives w) rest) ≡ Whole n w
+  pub given_here : (n : ℕ) (w : W) (rest : List ℕ) → behind n (front {F = PackFault} (gives w) rest) ≡ Whole n w
   unfolding front
   given_here n w rest = ap (λ (k : ℕ). Whole k w) (omega arith)
 
-  failed_here : (n : ℕ) (fault : PackFault) (rest : List ℕ) → behind n (front {V = W} (fails fault) rest) ≡ Broken n fault
+  pub failed_here : (n : ℕ) (fault : PackFault) (rest : List ℕ) → behind n (front {V = W} (fails fault) rest) ≡ Broken n fault
   unfolding front
   failed_here n fault rest = ap (λ (k : ℕ). Broken k fault) (omega arith)
 
@@ -215,6 +215,11 @@ module _ {V W : Type 0} where
       ∙ failed_here (length r.taken) fault (drop (length r.taken) r.taken)
       in record { taken = r.taken; consumed = r.consumed; counted = r.counted; hashed = tt; decided = told_fault (length r.taken) old new (front (f >>= g) r.taken) fault told shown }
 
+  -- want of memory claims nothing of what was taken
+  pub reads_lacks : (f : Format V PackFault) (h : Format W PackFault) (old new : LinkState) (before between after : Sha1) (answer : Result V PackFault)
+      → Reads f old new before between answer → Reads h old new before after (Err NoMemory)
+  reads_lacks f h old new before between after answer r = record { taken = r.taken; consumed = r.consumed; counted = r.counted; hashed = tt; decided = tt }
+
 -- So much of a format was read, and this is left of it.
 pub record Leaves {V : Type 0} (whole rest : Format V PackFault) (old new : LinkState) (before after : Sha1) : Type 0 where
   pub taken : List ℕ
@@ -254,3 +259,7 @@ module _ {V : Type 0} where
         (subst (λ (n : ℕ). Decides (behind (length p.taken) (front rest q.taken)) n old new answer) (sym (length-append p.taken q.taken))
         (decides_behind (length p.taken) (length q.taken) old mid new (front rest q.taken) answer later q.decided));
   }
+
+  pub leaves_lacks : {U : Type 0} (whole rest : Format V PackFault) (h : Format U PackFault) (old mid : LinkState) (before between after : Sha1)
+      → Leaves whole rest old mid before between → Reads h old mid before after (Err NoMemory)
+  leaves_lacks whole rest h old mid before between after p = record { taken = p.taken; consumed = p.consumed; counted = p.counted; hashed = tt; decided = tt }

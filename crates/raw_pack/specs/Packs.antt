@@ -124,12 +124,18 @@ signed_part = do
   count ← header
   pack_entries count 0 0 []
 
--- the SHA-1 of all before
-unfoldable pub trailer : List ℕ → List Content → Format (List Content) PackFault
-trailer computed contents = do
-  read ← bytes 20 (Truncated (length contents))
-  if bytes_eq read computed then gives contents else fails (TrailerDiffers read computed)
+-- the SHA-1 of all before, which is computed here; and the number of entries
+unfoldable pub trailer : List ℕ → ℕ → Format (Unit {0}) PackFault
+trailer computed count = do
+  read ← bytes 20 (Truncated count)
+  if bytes_eq read computed then gives tt else fails (TrailerDiffers read computed)
+
+-- the trailer behind these objects, and then they
+unfoldable pub pack_end : List ℕ → List Content → Format (List Content) PackFault
+pack_end computed contents = do
+  checked ← trailer computed (length contents)
+  gives contents
 
 -- what stands at the front of an input where a pack is wanted
 unfoldable pub pack_front : List ℕ → Front (List Content) PackFault
-pack_front input = and_then (front signed_part input) (λ n contents. front (trailer (sha1 (take n input)) contents) (drop n input))
+pack_front input = and_then (front signed_part input) (λ n contents. front (pack_end (sha1 (take n input)) contents) (drop n input))

@@ -1,4 +1,8 @@
 // Why a pack wasn't read.
+ghost use Rattle.std.specs.Prelude.{◌≡◌};
+
+use base_types::NoMemory;
+use std::alloc::{AllocError, AllocFailed};
 
 /// Why a pack wasn't read. Entries count from 0.
 #[derive(Clone, Copy, Debug, PartialEq, Eq)]
@@ -24,4 +28,34 @@ pub enum PackFault {
     /// The source failed.
     ReadFault,
     NoMemory,
+}
+
+impl From<NoMemory> for PackFault {
+    ghost use Rattle.raw_pack.specs.declared.fault.PackFault.TheVariants as fault;
+
+    ghost from_gives = { λ _ e. e ≡ fault.NoMemory };
+
+    fn from(_error: NoMemory) -> PackFault {
+        PackFault::NoMemory
+    }
+}
+
+impl From<AllocError> for PackFault {
+    ghost use Rattle.raw_pack.specs.declared.fault.PackFault.TheVariants as fault;
+
+    ghost from_gives = { λ _ e. e ≡ fault.NoMemory };
+
+    fn from(_error: AllocError) -> PackFault {
+        PackFault::NoMemory
+    }
+}
+
+impl<T: Drop> From<AllocFailed<T>> for PackFault {
+    ghost use Rattle.raw_pack.specs.declared.fault.PackFault.TheVariants as fault;
+
+    ghost from_gives = { λ _ e. e ≡ fault.NoMemory };
+
+    fn from(_error: AllocFailed<T>) -> PackFault {
+        PackFault::NoMemory
+    }
 }

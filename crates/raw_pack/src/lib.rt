@@ -12,6 +12,8 @@
 mod fault;
 mod head;
 mod input;
+mod reading;
 
 pub use base_types::NoMemory;
 pub use fault::PackFault;
+pub use reading::read_pack;
