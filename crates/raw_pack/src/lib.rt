@@ -17,3 +17,6 @@ mod reading;
 pub use base_types::NoMemory;
 pub use fault::PackFault;
 pub use reading::read_pack;
+
+#[cfg(test)]
+mod tests;
