@@ -10,11 +10,11 @@ use Rattle.pktline_core.specs.LinkState.{LinkState}
 use Rattle.pktline_core.specs.Links.{IsLater}
 use Rattle.raw_pack.specs.Formats.{Format, gives, fails, bytes, ◌>>=◌}
 use Rattle.raw_pack.specs.Packs.{entry_head, formed, pack_entry, pack_entries}
-use Rattle.raw_pack.specs.Reading.{Reads, fault_at}
+use Rattle.raw_pack.specs.Reading.{Leaves, Reads, fault_at}
 use Rattle.raw_pack.specs.declared.head.Head.{Head}
 use Rattle.raw_pack.specs.declared.fault.PackFault.{PackFault}
 use Rattle.raw_pack.specs.declared.fault.PackFault.TheVariants.{BadObject, Truncated, NoMemory}
-use Rattle.raw_pack.proofs.ReadLemmas.{Leaves, leaves_then, leaves_end, reads_first, reads_then, reads_gives, reads_fails, reads_lacks, reads_value}
+use Rattle.raw_pack.proofs.ReadLemmas.{leaves_then, leaves_end, reads_first, reads_then, reads_gives, reads_fails, reads_lacks, reads_value}
 
 pub entry_cut_in_head : (entry sum : ℕ) (old new : LinkState) (before after : Sha1) (fault : PackFault) → Reads (entry_head entry sum) old new before after (Err fault) → Reads (pack_entry entry sum) old new before after (Err fault)
 unfolding pack_entry
@@ -50,22 +50,22 @@ module _ (entry sum : ℕ) (old mid new : LinkState) (before between after : Sha
       entry_refused (ObjFault.BadTag i) (inl lacks) = absurd (cc)
       entry_refused (ObjFault.BadTag i) (inr is) = refused (rw is)
 
-module _ (count entry sum : ℕ) (read : List Content) (old mid : LinkState) (before between : Sha1) (n : ℕ) (p : Leaves (pack_entries count 0 0 []) (pack_entries n entry sum read) old mid before between) where
-  pub entries_end : n ≡ 0 → IsLater old mid → Reads (pack_entries count 0 0 []) old mid before between (Ok read)
+module _ (whole : Format (List Content) PackFault) (entry sum : ℕ) (read : List Content) (old mid : LinkState) (before between : Sha1) (n : ℕ) (p : Leaves whole (pack_entries n entry sum read) old mid before between) where
+  pub entries_end : n ≡ 0 → IsLater old mid → Reads whole old mid before between (Ok read)
   unfolding pack_entries
   entries_end none later =
-      leaves_end (pack_entries count 0 0 []) (gives read) old mid mid before between between (Ok read)
-      (subst (λ (k : ℕ). Leaves (pack_entries count 0 0 []) (pack_entries k entry sum read) old mid before between) none p) later (reads_value read mid between)
+      leaves_end whole (gives read) old mid mid before between between (Ok read)
+      (subst (λ (k : ℕ). Leaves whole (pack_entries k entry sum read) old mid before between) none p) later (reads_value read mid between)
 
   module _ (left : ℕ) (is : n ≡ suc left) (new : LinkState) (after : Sha1) where
-    so_far : Leaves (pack_entries count 0 0 []) (pack_entries (suc left) entry sum read) old mid before between
-    so_far = subst (λ (k : ℕ). Leaves (pack_entries count 0 0 []) (pack_entries k entry sum read) old mid before between) is p
+    so_far : Leaves whole (pack_entries (suc left) entry sum read) old mid before between
+    so_far = subst (λ (k : ℕ). Leaves whole (pack_entries k entry sum read) old mid before between) is p
 
-    pub entries_cut : (fault : PackFault) → IsLater old mid → Reads (pack_entry entry sum) mid new between after (Err fault) → Reads (pack_entries count 0 0 []) old new before after (Err fault)
+    pub entries_cut : (fault : PackFault) → IsLater old mid → Reads (pack_entry entry sum) mid new between after (Err fault) → Reads whole old new before after (Err fault)
     unfolding pack_entries
-    entries_cut fault later q = leaves_end (pack_entries count 0 0 []) _ old mid new before between after (Err fault) so_far later (reads_first _ _ mid new between after after fault q)
+    entries_cut fault later q = leaves_end whole _ old mid new before between after (Err fault) so_far later (reads_first _ _ mid new between after after fault q)
 
     pub entries_more : (content : Content) → Reads (pack_entry entry sum) mid new between after (Ok content)
-        → Leaves (pack_entries count 0 0 []) (pack_entries left (entry + 1) (sum + length content.body) (read ++ content ∷ [])) old new before after
+        → Leaves whole (pack_entries left (entry + 1) (sum + length content.body) (read ++ content ∷ [])) old new before after
     unfolding pack_entries
-    entries_more content q = leaves_then (pack_entries count 0 0 []) (pack_entry entry sum) _ old mid new before between after content so_far q
+    entries_more content q = leaves_then whole (pack_entry entry sum) _ old mid new before between after content so_far q

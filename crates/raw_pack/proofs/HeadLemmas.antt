@@ -9,11 +9,11 @@ use Rattle.pktline_core.specs.Links.{IsLater}
 use Rattle.raw_pack.specs.Formats.{Format, gives, fails, ◌>>=◌}
 use Rattle.raw_pack.specs.Heads.{unit_of}
 use Rattle.raw_pack.specs.Packs.{byte, sized, is_too_large, more_size}
-use Rattle.raw_pack.specs.Reading.{Reads}
+use Rattle.raw_pack.specs.Reading.{Leaves, Reads}
 use Rattle.raw_pack.specs.declared.head.Head.{Head}
 use Rattle.raw_pack.specs.declared.fault.PackFault.{PackFault}
 use Rattle.raw_pack.specs.declared.fault.PackFault.TheVariants.{BadHead, TooLarge}
-use Rattle.raw_pack.proofs.ReadLemmas.{Leaves, leaves_then, leaves_end, reads_first, reads_gives, reads_fails, reads_fault}
+use Rattle.raw_pack.proofs.ReadLemmas.{leaves_then, leaves_end, reads_first, reads_gives, reads_fails, reads_fault}
 
 part_small : (left bits : ℕ) → bits < 128 → unit_of left * bits + unit_of left ≤ unit_of left * 128
 part_small zero bits h = omega arith

@@ -4,3 +4,4 @@ pub mod HeadLemmas
 pub mod EntryLemmas
 pub mod PackLemmas
 pub mod ToldLemmas
+pub mod ReaderLemmas

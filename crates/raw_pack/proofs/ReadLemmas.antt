@@ -10,7 +10,7 @@ use Rattle.pktline_core.specs.LinkState.{LinkState}
 use Rattle.pktline_core.specs.Links.{IsLater, TakesAll}
 use Rattle.pktline_core.proofs.LinkLemmas.{consumes_more, later_more, risen_later}
 use Rattle.raw_pack.specs.Formats.{Format, gives, fails, wants, bytes, ◌>>=◌, front, behind, and_then}
-use Rattle.raw_pack.specs.Reading.{IsPartial, ShowsFault, DecidesFault, Decides, Reads}
+use Rattle.raw_pack.specs.Reading.{IsPartial, ShowsFault, DecidesFault, Decides, Reads, Leaves}
 use Rattle.pktline_core.specs.declared.links.TakeFault.TheVariants.{Ended, Failed}
 use Rattle.raw_pack.specs.declared.fault.PackFault.{PackFault}
 use Rattle.raw_pack.specs.declared.fault.PackFault.TheVariants.{NotAPack, Version, Delta, BadHead, BadObject, Truncated, TrailerDiffers, TooLarge, TooMany, ReadFault, NoMemory}
@@ -219,14 +219,6 @@ module _ {V W : Type 0} where
   pub reads_lacks : (f : Format V PackFault) (h : Format W PackFault) (old new : LinkState) (before between after : Sha1) (answer : Result V PackFault)
       → Reads f old new before between answer → Reads h old new before after (Err NoMemory)
   reads_lacks f h old new before between after answer r = record { taken = r.taken; consumed = r.consumed; counted = r.counted; hashed = tt; decided = tt }
-
--- So much of a format was read, and this is left of it.
-pub record Leaves {V : Type 0} (whole rest : Format V PackFault) (old new : LinkState) (before after : Sha1) : Type 0 where
-  pub taken : List ℕ
-  pub consumed : Consumes old.left new.left taken
-  pub counted : new.given ≡ old.given + length taken
-  pub hashed : (m : List ℕ) → Holds before m → Holds after (m ++ taken)
-  pub goes_on : (input : List ℕ) → front whole (taken ++ input) ≡ behind (length taken) (front rest input)
 
 module _ {V : Type 0} where
   pub leaves_whole : (f : Format V PackFault) (now : LinkState) (hasher : Sha1) → Leaves f f now now hasher hasher

@@ -3,3 +3,4 @@ pub mod Packs
 pub mod Grammar
 pub mod Heads
 pub mod Reading
+pub mod Readers

@@ -6,7 +6,7 @@ use Rattle.sha1.specs.declared.Sha1.{Sha1}
 use Rattle.base_types.specs.Counts.{HasRisen}
 use Rattle.base_types.specs.Fronts.{Front, Whole, Broken, Partial}
 use Rattle.pktline_core.specs.LinkState.{LinkState}
-use Rattle.raw_pack.specs.Formats.{Format, front}
+use Rattle.raw_pack.specs.Formats.{Format, behind, front}
 use Rattle.raw_pack.specs.declared.fault.PackFault.{PackFault}
 use Rattle.raw_pack.specs.declared.fault.PackFault.TheVariants.{BadObject, ReadFault, NoMemory}
 use Rattle.git_object.specs.declared.fault.ObjFault.{ObjFault}
@@ -44,6 +44,14 @@ pub record Reads {V : Type 0} (format : Format V PackFault) (old new : LinkState
   pub counted : new.given ≡ old.given + length taken
   pub hashed : IfOk answer (λ v. (m : List ℕ) → Holds before m → Holds after (m ++ taken))
   pub decided : Decides (front format taken) (length taken) old new answer
+
+-- So much of a format was read, and this is left of it.
+pub record Leaves {V : Type 0} (whole rest : Format V PackFault) (old new : LinkState) (before after : Sha1) : Type 0 where
+  pub taken : List ℕ
+  pub consumed : Consumes old.left new.left taken
+  pub counted : new.given ≡ old.given + length taken
+  pub hashed : (m : List ℕ) → Holds before m → Holds after (m ++ taken)
+  pub goes_on : (input : List ℕ) → front whole (taken ++ input) ≡ behind (length taken) (front rest input)
 
 -- the answer of filling a room, with what lies in it
 abbrev pub filled : List ℕ → Result (Unit {0}) PackFault → Result (List ℕ) PackFault

@@ -3,19 +3,24 @@
 //! - `fault`: why a pack wasn't read;
 //! - `input`: bytes of a source, hashed as they come;
 //! - `head`: the header of a pack and the heads of its entries;
-//! - `reading`: entries, the trailer, and a whole pack as a list of objects.
+//! - `reading`: entries, the trailer, and a whole pack as a list of objects;
+//! - `entry`, `reader`: a pack entry by entry, each lent.
 //!
 //! `specs/Formats.antt` and `specs/Packs.antt` say what stands at the front of an input, `specs/Grammar.antt` how a pack
 //! is spelled; `docs/PACKS.md` tells the rules.
 #![tactic(auto)]
 
+mod entry;
 mod fault;
 mod head;
 mod input;
+mod reader;
 mod reading;
 
 pub use base_types::NoMemory;
+pub use entry::PackEntry;
 pub use fault::PackFault;
+pub use reader::PackReader;
 pub use reading::read_pack;
 
 #[cfg(test)]

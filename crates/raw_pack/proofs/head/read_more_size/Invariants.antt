@@ -2,7 +2,7 @@ use Rattle.std.proofs.Common.{◌≡◌, ℕ, suc, ◌<◌, ◌≤◌}
 use Rattle.pktline_core.specs.Links.{IsLater, KeepsWriting}
 use Rattle.raw_pack.specs.Packs.{more_size}
 use Rattle.raw_pack.specs.Heads.{unit_of}
-use Rattle.raw_pack.proofs.ReadLemmas.{Leaves}
+use Rattle.raw_pack.specs.Reading.{Leaves}
 use Rattle.raw_pack.proofs.head.read_more_size.Given as goal
 
 abbrev pub invariant-loop-left : goal.invariant-loop-left

@@ -1,7 +1,7 @@
 use Rattle.std.proofs.Common.{◌≡◌, ◌-◌, ◌≤◌, [], length}
 use Rattle.pktline_core.specs.Links.{IsLater, KeepsWriting}
 use Rattle.raw_pack.specs.Packs.{pack_entries}
-use Rattle.raw_pack.proofs.ReadLemmas.{Leaves}
+use Rattle.raw_pack.specs.Reading.{Leaves}
 use Rattle.raw_pack.proofs.reading.read_entries.Given as goal
 
 abbrev pub invariant-loop-entry : goal.invariant-loop-entry
