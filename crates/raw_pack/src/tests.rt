@@ -142,3 +142,37 @@ fn a_pack_ends_early(rt: HostRuntime) -> Result<(), Fail> {
     }
     Ok(())
 }
+
+// The commit's body, which stands between its head and the head of the tree.
+fn body_of(signed: &[u8]) -> &[u8] {
+    let entry = signed.split_at(signed.len().saturating_sub(1)).0;
+    entry.split_at(entry.len().min(14)).1
+}
+
+#[test]
+fn entries_are_lent_one_by_one(rt: HostRuntime) -> Result<(), Fail> {
+    let alloc = rt.alloc();
+    let mut link = link_over(alloc, &pack_with(alloc, 0, b"")?, 7, &[])?;
+    let mut reader = PackReader::begin(alloc, &mut link).ok().ok_or("refused")?;
+    let commit = PackEntry {
+        kind: Kind::Commit,
+        body: body_of(SIGNED),
+    };
+    let tree = PackEntry {
+        kind: Kind::Tree,
+        body: b"",
+    };
+    assert!(rt; reader.next_entry(&mut link) == Ok(Some(commit)));
+    assert!(rt; reader.next_entry(&mut link) == Ok(Some(tree)));
+    for _ in 0..2 {
+        assert!(rt; reader.next_entry(&mut link) == Ok(None));
+        assert_eq!(rt; link.left(), b"!".as_slice());
+    }
+    let mut link = link_over(alloc, &pack_with(alloc, 0, b"")?, 1, &[20])?;
+    let mut reader = PackReader::begin(alloc, &mut link).ok().ok_or("refused")?;
+    for _ in 0..2 {
+        assert!(rt; reader.next_entry(&mut link) == Err(PackFault::ReadFault));
+        assert_eq!(rt; link.left().len(), 172);
+    }
+    Ok(())
+}
