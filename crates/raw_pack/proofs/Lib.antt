@@ -5,3 +5,5 @@ pub mod EntryLemmas
 pub mod PackLemmas
 pub mod ToldLemmas
 pub mod ReaderLemmas
+pub mod SpellingLemmas
+pub mod GrammarLemmas

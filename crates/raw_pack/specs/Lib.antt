@@ -4,3 +4,4 @@ pub mod Grammar
 pub mod Heads
 pub mod Reading
 pub mod Readers
+pub mod Laws
