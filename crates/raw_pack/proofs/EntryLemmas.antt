@@ -1,14 +1,12 @@
 -- Entries, one after another.
-use Rattle.std.proofs.Common.{◌≡◌, ℕ, suc, ◌+◌, ◌≤◌, List, [], ◌∷◌, ◌++◌, length, Option, Some, None, Result, Ok, Err, ◌⊎◌, refl, sym, ap, subst, inl, inr, arith}
+use Rattle.std.proofs.Common.{◌≡◌, ℕ, suc, ◌+◌, List, [], ◌∷◌, ◌++◌, length, Some, None, Ok, Err, ◌⊎◌, refl, subst, inl, inr}
 use Rattle.sha1.specs.declared.Sha1.{Sha1}
 use Rattle.git_object.specs.Content.{Content}
 use Rattle.git_object.specs.Object.{fault_of}
-use Rattle.git_object.specs.declared.kind.Kind.{Kind}
 use Rattle.git_object.specs.declared.fault.ObjFault.{ObjFault}
-use Rattle.git_object.specs.declared.fault.ObjFault.TheVariants as ObjFault
 use Rattle.pktline_core.specs.LinkState.{LinkState}
 use Rattle.pktline_core.specs.Links.{IsLater}
-use Rattle.raw_pack.specs.Formats.{Format, gives, fails, bytes, ◌>>=◌}
+use Rattle.raw_pack.specs.Formats.{Format, gives, fails, bytes}
 use Rattle.raw_pack.specs.Packs.{entry_head, formed, pack_entry, pack_entries}
 use Rattle.raw_pack.specs.Reading.{Leaves, Reads, fault_at}
 use Rattle.raw_pack.specs.declared.head.Head.{Head}

@@ -1,5 +1,5 @@
 -- What is read as a whole pack is a pack of the grammar.
-use Rattle.std.proofs.Common.{take-append-drop, ◌≡◌, ℕ, zero, suc, ◌+◌, ◌*◌, ◌/◌, ◌%◌, ◌-◌, ◌<◌, ◌≤◌, ◌==◌, nat_lt, Bool, true, false, if◌then◌else◌, List, [], ◌∷◌, ◌++◌, length, take, drop, get_or, Option, None, Some, codes, refl, sym, ◌∙◌, ap, subst, inl, inr, arith, append_assoc, length-append}
+use Rattle.std.proofs.Common.{take-append-drop, ◌≡◌, ℕ, zero, suc, ◌+◌, ◌*◌, ◌/◌, ◌%◌, ◌<◌, ◌≤◌, ◌==◌, nat_lt, Bool, true, false, if◌then◌else◌, List, [], ◌∷◌, ◌++◌, length, take, drop, get_or, Option, None, Some, codes, refl, sym, ◌∙◌, ap, subst, inl, inr, arith, append_assoc}
 use Rattle.std.proofs.Math.Seq.{take-add}
 use Rattle.std.proofs.lemmas.Bool.{cases_lt, lt-ltb, le-ltb, eqb-true, eqb-false}
 use Rattle.std.proofs.lemmas.List.{append-nil, length-take-le, length-drop, get_or_append_left, get_or-append-add, get_or_past}
@@ -14,7 +14,7 @@ use Rattle.git_object.specs.Object.{fault_of}
 use Rattle.git_object.specs.declared.kind.Kind.{Kind}
 use Rattle.git_object.specs.declared.kind.Kind.TheVariants.{Commit, Tree, Blob, Tag}
 use Rattle.git_object.specs.declared.fault.ObjFault.{ObjFault}
-use Rattle.raw_pack.specs.Formats.{Format, gives, fails, bytes, ◌>>=◌, front, behind, and_then}
+use Rattle.raw_pack.specs.Formats.{gives, fails, bytes, ◌>>=◌, front, behind, and_then}
 use Rattle.raw_pack.specs.Grammar.{kind_bits, SpellsSize, IsHead, IsEntry, AreEntries, signed, IsPack}
 use Rattle.raw_pack.specs.Laws.{AreBytes}
 use Rattle.raw_pack.specs.Packs.{word, signature, version, entry_count, header, byte, is_too_large, sized, more_size, kind_of_bits, head_by_kind, entry_head, formed, pack_entry, pack_entries, signed_part, trailer, pack_end, pack_front}
@@ -22,7 +22,7 @@ use Rattle.raw_pack.specs.declared.head.Head.{Head}
 use Rattle.raw_pack.specs.declared.fault.PackFault.{PackFault}
 use Rattle.raw_pack.specs.declared.fault.PackFault.TheVariants.{NotAPack, Version, TooMany, TooLarge, BadHead, BadObject, Delta, Truncated, TrailerDiffers}
 use Rattle.raw_pack.proofs.FormatLemmas.{decided_behind, whole_within}
-use Rattle.raw_pack.proofs.SpellingLemmas.{Spells, Splits, gives_spelled, fails_spelled, if_spelled, unless_spelled, whole_alone, bytes_spelled, splits}
+use Rattle.raw_pack.proofs.SpellingLemmas.{Spells, gives_spelled, fails_spelled, if_spelled, unless_spelled, whole_alone, bytes_spelled, splits}
 
 -- parts of bytes are bytes
 bytes_before : (xs ys : List ℕ) → AreBytes (xs ++ ys) → AreBytes xs
@@ -253,9 +253,11 @@ end_spelled computed found contents xs is =
     let last = gives_spelled found contents parts.zs parts.second in
     let inner = splits (λ read. if bytes_eq read computed then gives tt else fails (TrailerDiffers read computed)) (bytes 20 (Truncated (length found))) parts.ys tt parts.first in
     let read = bytes_spelled 20 (Truncated (length found)) inner.ys inner.v inner.first in
-    let test = if_spelled (bytes_eq inner.v computed) tt tt (TrailerDiffers inner.v computed) inner.zs inner.second in
-    (parts.both ∙ ap (λ (l : List ℕ). parts.ys ++ l) last.0 ∙ append-nil parts.ys
-    ∙ inner.both ∙ ap (λ (l : List ℕ). inner.ys ++ l) test.1 ∙ append-nil inner.ys ∙ sym read.1 ∙ (bytes_eq-Decides inner.v computed).0 test.0, last.1)
+    let test = if_spelled (bytes_eq inner.v computed) tt tt (TrailerDiffers inner.v computed) inner.zs inner.second in (
+      parts.both ∙ ap (λ (l : List ℕ). parts.ys ++ l) last.0 ∙ append-nil parts.ys
+          ∙ inner.both ∙ ap (λ (l : List ℕ). inner.ys ++ l) test.1 ∙ append-nil inner.ys ∙ sym read.1 ∙ (bytes_eq-Decides inner.v computed).0 test.0,
+      last.1,
+    )
 
 pack_by : (input : List ℕ) (n : ℕ) (contents : List Content) (at : Front (List Content) PackFault) → AreBytes input → front signed_part input ≡ at → pack_front input ≡ Whole n contents
     → (n ≤ length input) × IsPack (take n input) contents

@@ -1,12 +1,12 @@
 -- Heads, byte by byte.
-use Rattle.std.proofs.Common.{◌≡◌, ℕ, zero, suc, ◌+◌, ◌*◌, ◌%◌, ◌^◌, ◌==◌, nat_lt, ◌<◌, ◌≤◌, Bool, true, false, Option, Some, None, Result, Ok, Err, if◌then◌else◌, refl, sym, subst, arith}
+use Rattle.std.proofs.Common.{◌≡◌, ℕ, zero, suc, ◌+◌, ◌*◌, ◌%◌, ◌==◌, nat_lt, ◌<◌, ◌≤◌, true, false, Ok, Err, if◌then◌else◌, refl, subst, arith}
 use Rattle.std.proofs.lemmas.Bool.{lt-ltb, le-ltb}
 use Rattle.std.proofs.lemmas.Bool.Decides.{nat_tests}
 use Rattle.sha1.specs.declared.Sha1.{Sha1}
 use Rattle.git_object.specs.declared.kind.Kind.{Kind}
 use Rattle.pktline_core.specs.LinkState.{LinkState}
 use Rattle.pktline_core.specs.Links.{IsLater}
-use Rattle.raw_pack.specs.Formats.{Format, gives, fails, ◌>>=◌}
+use Rattle.raw_pack.specs.Formats.{Format, fails}
 use Rattle.raw_pack.specs.Heads.{unit_of}
 use Rattle.raw_pack.specs.Packs.{byte, sized, is_too_large, more_size}
 use Rattle.raw_pack.specs.Reading.{Leaves, Reads}

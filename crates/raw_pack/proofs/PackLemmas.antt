@@ -1,8 +1,7 @@
 -- The trailer, and a pack as its parts.
-use Rattle.std.proofs.Common.{◌≡◌, ℕ, ◌+◌, ◌<◌, ◌≤◌, List, [], ◌∷◌, ◌++◌, length, take, drop, true, false, Option, Some, None, Result, Ok, Err, if◌then◌else◌, refl, sym, ◌∙◌, ap, subst, inl, inr, arith, length-append, ◌⊎◌, suc, ◌-◌}
+use Rattle.std.proofs.Common.{◌≡◌, ℕ, ◌<◌, ◌≤◌, List, [], ◌++◌, length, take, drop, true, false, Result, Ok, Err, if◌then◌else◌, refl, sym, ◌∙◌, ap, subst, inl, inr, arith, length-append}
 use Rattle.std.proofs.lemmas.List.{take_at, drop_at, take_all, length-take-le, append-nil, take-append-le, drop-append-le}
 use Rattle.std.specs.Str.{bytes_eq}
-use Rattle.std.specs.Io.KnownBytes.{Consumes, IsAtEnd}
 use Rattle.sha1.specs.Sha1.{Holds, sha1}
 use Rattle.sha1.specs.declared.Sha1.{Sha1}
 use Rattle.base_types.specs.Fronts.{Front, Whole, Broken, Partial}
@@ -11,12 +10,12 @@ use Rattle.pktline_core.specs.LinkState.{LinkState}
 use Rattle.pktline_core.specs.Links.{IsLater, TakesAll}
 use Rattle.pktline_core.specs.declared.links.TakeFault.TheVariants.{Ended, Failed}
 use Rattle.pktline_core.proofs.LinkLemmas.{consumes_more}
-use Rattle.raw_pack.specs.Formats.{Format, gives, fails, wants, bytes, ◌>>=◌, front, behind, and_then}
+use Rattle.raw_pack.specs.Formats.{gives, fails, bytes, ◌>>=◌, front, behind, and_then}
 use Rattle.raw_pack.specs.Packs.{header, pack_entries, signed_part, trailer, pack_end, pack_front}
 use Rattle.raw_pack.specs.Reading.{DecidesFault, Decides, Reads, ReadsFront}
 use Rattle.raw_pack.specs.declared.fault.PackFault.{PackFault}
 use Rattle.raw_pack.specs.declared.fault.PackFault.TheVariants.{Truncated, TrailerDiffers, ReadFault}
-use Rattle.raw_pack.proofs.FormatLemmas.{behind_zero, behind_more, front-bind, front-wants, front-wants_short, whole_stays, broken_stays, whole_within, decided_behind, broken_behind}
+use Rattle.raw_pack.proofs.FormatLemmas.{front-bind, front-wants, front-wants_short, whole_stays, broken_stays, whole_within, decided_behind, broken_behind}
 use Rattle.raw_pack.proofs.ReadLemmas.{fault_first, decides_behind, given_here, failed_here, reads_first, reads_then}
 
 module _ (computed : List ℕ) (count : ℕ) (old new : LinkState) (room : List ℕ) (len : length room ≡ 20) where
@@ -130,10 +129,11 @@ module _ (xs ys : List ℕ) where
       → (pack_front xs ≡ behind n (front (pack_end (sha1 (take n xs)) contents) (drop n xs))) × (pack_front (xs ++ ys) ≡ behind n (front (pack_end (sha1 (take n xs)) contents) (drop n xs ++ ys)))
   unfolding pack_front
   after_signed n contents is =
-      let within : n ≤ length xs = whole_within signed_part xs n contents is in
-      (ap (λ at. and_then at (λ n found. front (pack_end (sha1 (take n xs)) found) (drop n xs))) is,
-      ap (λ at. and_then at (λ n found. front (pack_end (sha1 (take n (xs ++ ys))) found) (drop n (xs ++ ys)))) (whole_stays signed_part xs ys n contents is)
-      ∙ rw (take-append-le, drop-append-le))
+      let within : n ≤ length xs = whole_within signed_part xs n contents is in (
+        ap (λ at. and_then at (λ n found. front (pack_end (sha1 (take n xs)) found) (drop n xs))) is,
+        ap (λ at. and_then at (λ n found. front (pack_end (sha1 (take n (xs ++ ys))) found) (drop n (xs ++ ys)))) (whole_stays signed_part xs ys n contents is)
+            ∙ rw (take-append-le, drop-append-le),
+      )
 
   whole_by : (at : Front (List Content) PackFault) → front signed_part xs ≡ at → (n : ℕ) (found : List Content) → pack_front xs ≡ Whole n found → pack_front (xs ++ ys) ≡ Whole n found
   unfolding pack_front

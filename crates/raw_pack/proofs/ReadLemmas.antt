@@ -1,16 +1,16 @@
 -- Steps of reading, one after the other.
-use Rattle.std.proofs.Common.{◌≡◌, ◌⊎◌, ℕ, ◌+◌, ◌<◌, ◌≤◌, List, [], ◌++◌, length, take, drop, Bool, true, false, Option, Some, None, Result, Ok, Err, refl, sym, ◌∙◌, ap, subst, inl, inr, arith, append_assoc, length-append}
+use Rattle.std.proofs.Common.{◌≡◌, ℕ, ◌+◌, ◌<◌, ◌≤◌, List, [], ◌++◌, length, take, drop, Bool, true, false, Option, Some, None, Result, Ok, Err, refl, sym, ◌∙◌, ap, subst, inl, inr, arith, append_assoc, length-append}
 use Rattle.std.proofs.lemmas.List.{drop_at, take_all, length-take-le, append-nil}
 use Rattle.std.specs.Prelude.{IfOk}
-use Rattle.std.specs.Io.KnownBytes.{Consumes, IsAtEnd}
+use Rattle.std.specs.Io.KnownBytes.{Consumes}
 use Rattle.sha1.specs.Sha1.{Holds}
 use Rattle.sha1.specs.declared.Sha1.{Sha1}
 use Rattle.base_types.specs.Fronts.{Front, Whole, Broken, Partial}
 use Rattle.pktline_core.specs.LinkState.{LinkState}
 use Rattle.pktline_core.specs.Links.{IsLater, TakesAll}
-use Rattle.pktline_core.proofs.LinkLemmas.{consumes_more, later_more, risen_later}
+use Rattle.pktline_core.proofs.LinkLemmas.{consumes_more, risen_later}
 use Rattle.raw_pack.specs.Formats.{Format, gives, fails, wants, bytes, ◌>>=◌, front, behind, and_then}
-use Rattle.raw_pack.specs.Reading.{IsPartial, ShowsFault, DecidesFault, Decides, Reads, Leaves}
+use Rattle.raw_pack.specs.Reading.{ShowsFault, DecidesFault, Decides, Reads, Leaves}
 use Rattle.pktline_core.specs.declared.links.TakeFault.TheVariants.{Ended, Failed}
 use Rattle.raw_pack.specs.declared.fault.PackFault.{PackFault}
 use Rattle.raw_pack.specs.declared.fault.PackFault.TheVariants.{NotAPack, Version, Delta, BadHead, BadObject, Truncated, TrailerDiffers, TooLarge, TooMany, ReadFault, NoMemory}
@@ -154,7 +154,6 @@ nothing_consumed (Some xs) = refl
 
 nothing_hashed : (hasher : Sha1) (m : List ℕ) → Holds hasher m → Holds hasher (m ++ [])
 nothing_hashed hasher m h = subst (λ (l : List ℕ). Holds hasher l) (sym (append-nil m)) h
-
 
 module _ {W : Type 0} where
   pub given_here : (n : ℕ) (w : W) (rest : List ℕ) → behind n (front {F = PackFault} (gives w) rest) ≡ Whole n w

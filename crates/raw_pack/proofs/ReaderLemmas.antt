@@ -1,5 +1,5 @@
 -- The reader of entries, step by step.
-use Rattle.std.proofs.Common.{◌≡◌, ℕ, suc, ◌+◌, ◌-◌, ◌<◌, ◌≤◌, List, [], ◌∷◌, ◌++◌, length, Option, Some, None, Result, Ok, Err, refl, sym, ◌∙◌, ap, subst, arith, length-append}
+use Rattle.std.proofs.Common.{◌≡◌, ℕ, ◌+◌, ◌-◌, ◌<◌, ◌≤◌, List, [], ◌∷◌, ◌++◌, length, Option, Some, None, Result, Ok, Err, refl, sym, ◌∙◌, ap, subst, arith, length-append}
 use Rattle.sha1.specs.Sha1.{Holds, sha1}
 use Rattle.sha1.specs.declared.Sha1.{Sha1}
 use Rattle.git_object.specs.Content.{Content}
@@ -8,7 +8,7 @@ use Rattle.pktline_core.specs.Links.{IsLater}
 use Rattle.pktline_core.proofs.LinkLemmas.{later_more}
 use Rattle.raw_pack.specs.Formats.{front}
 use Rattle.raw_pack.specs.Packs.{header, pack_entry, pack_entries, pack_front, signed_part, trailer}
-use Rattle.raw_pack.specs.Reading.{Leaves, Reads, ReadsFront}
+use Rattle.raw_pack.specs.Reading.{Reads, ReadsFront}
 use Rattle.raw_pack.specs.Readers.{GoesOn, ReaderState, Repeats, Stands, end_answer}
 use Rattle.raw_pack.specs.declared.fault.PackFault.{PackFault}
 use Rattle.raw_pack.proofs.ReadLemmas.{leaves_whole, leaves_then}

@@ -1,12 +1,12 @@
 -- Bytes that a format takes whole, part by part.
-use Rattle.std.proofs.Common.{◌≡◌, ℕ, ◌+◌, ◌<◌, ◌≤◌, Bool, true, false, if◌then◌else◌, List, [], ◌∷◌, ◌++◌, length, take, drop, refl, sym, ◌∙◌, ap, arith, append_assoc, length-append, take-append-drop}
+use Rattle.std.proofs.Common.{◌≡◌, ℕ, ◌+◌, Bool, true, false, if◌then◌else◌, List, [], ◌++◌, length, take, drop, refl, sym, ◌∙◌, ap, arith, append_assoc, length-append, take-append-drop}
 use Rattle.std.proofs.Common.{inl, inr}
 use Rattle.std.proofs.Math.Seq.{take-add}
 use Rattle.std.proofs.lemmas.Bool.{cases_lt}
 use Rattle.std.proofs.lemmas.List.{length-take-le, length-drop, take_all, nil_from_length}
-use Rattle.base_types.specs.Fronts.{Front, Whole, Broken, Partial}
+use Rattle.base_types.specs.Fronts.{Front, Whole, Partial}
 use Rattle.raw_pack.specs.Formats.{Format, gives, fails, wants, bytes, ◌>>=◌, front, behind}
-use Rattle.raw_pack.proofs.FormatLemmas.{behind_zero, front-wants, front-wants_short, front-wants_long, decided_behind}
+use Rattle.raw_pack.proofs.FormatLemmas.{front-wants, front-wants_short, front-wants_long, decided_behind}
 
 -- This value stands at the front of these bytes, and takes them all.
 abbrev pub Spells : {V F : Type 0} → Format V F → List ℕ → V → Type 0

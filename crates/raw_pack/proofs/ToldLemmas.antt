@@ -4,7 +4,7 @@ use Rattle.std.proofs.lemmas.List.{take_at, drop_at, append-nil}
 use Rattle.std.specs.Io.KnownBytes.{Consumes, IsAtEnd}
 use Rattle.base_types.specs.Fronts.{Front, Whole, Broken, Partial}
 use Rattle.pktline_core.specs.LinkState.{LinkState}
-use Rattle.raw_pack.specs.Reading.{ShowsFault, DecidesFault, Decides, ReadsFront, AnswersInput, AnswersLeft}
+use Rattle.raw_pack.specs.Reading.{ShowsFault, Decides, ReadsFront, AnswersInput, AnswersLeft}
 use Rattle.raw_pack.specs.declared.fault.PackFault.{PackFault}
 use Rattle.raw_pack.specs.declared.fault.PackFault.TheVariants.{NotAPack, Version, Delta, BadHead, BadObject, Truncated, TrailerDiffers, TooLarge, TooMany, ReadFault, NoMemory}
 

@@ -10,7 +10,7 @@ use Rattle.git_object.specs.Object.{fault_of}
 use Rattle.git_object.specs.declared.kind.Kind.{Kind}
 use Rattle.git_object.specs.declared.kind.Kind.TheVariants.{Commit, Tree, Blob, Tag}
 use Rattle.git_object.specs.declared.fault.ObjFault.{ObjFault}
-use Rattle.raw_pack.specs.Formats.{Format, gives, fails, ◌>>=◌, bytes, front, and_then, behind}
+use Rattle.raw_pack.specs.Formats.{Format, gives, fails, ◌>>=◌, bytes, front, and_then}
 use Rattle.raw_pack.specs.declared.head.Head.{Head}
 use Rattle.raw_pack.specs.declared.fault.PackFault.{PackFault}
 use Rattle.raw_pack.specs.declared.fault.PackFault.TheVariants.{NotAPack, Version, Delta, BadHead, BadObject, Truncated, TrailerDiffers, TooLarge, TooMany}
@@ -76,8 +76,8 @@ more_size zero entry sum kind size unit = fails (TooLarge entry)
 more_size (suc left) entry sum kind size unit = do
   next ← byte entry
   if nat_lt 127 next
-    then more_size left entry sum kind (size + unit * (next % 128)) (unit * 128)
-    else (if next == 0 then fails (BadHead entry) else sized entry sum kind (size + unit * next))
+      then more_size left entry sum kind (size + unit * (next % 128)) (unit * 128)
+      else (if next == 0 then fails (BadHead entry) else sized entry sum kind (size + unit * next))
 
 -- the kind that three bits name: 1 to 4; 6 and 7 are deltas
 abbrev pub kind_of_bits : ℕ → Option Kind

@@ -10,7 +10,6 @@ use Rattle.raw_pack.specs.Formats.{Format, behind, front}
 use Rattle.raw_pack.specs.declared.fault.PackFault.{PackFault}
 use Rattle.raw_pack.specs.declared.fault.PackFault.TheVariants.{BadObject, ReadFault, NoMemory}
 use Rattle.git_object.specs.declared.fault.ObjFault.{ObjFault}
-use Rattle.git_object.specs.declared.fault.ObjFault.TheVariants as ObjFault
 
 -- the bytes end before anything is decided
 abbrev pub IsPartial : {V : Type 0} → Front V PackFault → Type 0

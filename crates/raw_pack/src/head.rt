@@ -24,6 +24,7 @@ pub const MAX_ENTRIES: u32 = 100_000;
 
 /// How many bytes a body has at most, and all bodies of a pack together.
 pub const MAX_BODY: u64 = 16_777_216;
+
 pub const MAX_SUM: u64 = 268_435_456;
 
 /// `PACK`, the version 2, and the number of entries, which is the result.

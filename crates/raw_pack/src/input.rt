@@ -31,11 +31,7 @@ pub fn take_bytes<S: Source>(
 }
 
 /// One byte.
-pub fn take_byte<S: Source>(
-    source: &mut S,
-    hasher: &mut Sha1,
-    entry: u32,
-) -> Result<u8, PackFault>
+pub fn take_byte<S: Source>(source: &mut S, hasher: &mut Sha1, entry: u32) -> Result<u8, PackFault>
     ensures reads { Reads (byte entry) (S.state source.old) (S.state source.new) hasher.old hasher.new result }
     ensures writing { KeepsWriting (S.state source.old) (S.state source.new) }
     ensures later { IsLater (S.state source.old) (S.state source.new) }

@@ -78,12 +78,7 @@ const FAULTS: [(usize, &[u8], PackFault, usize); 15] = [
     (12, b"\xd0", PackFault::BadHead(0), 13),
     (13, b"\0", PackFault::BadHead(0), 14),
     (170, b"\xa0\0", PackFault::BadHead(1), 172),
-    (
-        12,
-        b"\xbf\xff\xff\xff\xff",
-        PackFault::TooLarge(0),
-        17,
-    ),
+    (12, b"\xbf\xff\xff\xff\xff", PackFault::TooLarge(0), 17),
     (12, b"\xb1\x80\x80\x40", PackFault::TooLarge(0), 16),
     (12, b"\xb0\x80\x80\x40", PackFault::Truncated(0), 192),
     (17, b"f", PackFault::BadObject(0), 170),

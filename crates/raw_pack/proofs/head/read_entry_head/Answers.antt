@@ -1,4 +1,4 @@
-use Rattle.std.proofs.Common.{◌≡◌, ◌/◌, ◌%◌, true, false, Some, None, refl, sym, arith}
+use Rattle.std.proofs.Common.{◌≡◌, ◌/◌, ◌%◌, true, false, Some, None, refl, arith}
 use Rattle.std.proofs.lemmas.Bool.{lt-ltb, le-ltb}
 use Rattle.raw_pack.specs.Packs.{entry_head, is_too_large, kind_of_bits}
 use Rattle.raw_pack.proofs.ReadLemmas.{reads_gives, reads_fails, reads_first, reads_then}

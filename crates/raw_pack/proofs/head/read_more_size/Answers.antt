@@ -1,4 +1,4 @@
-use Rattle.std.proofs.Common.{◌≡◌, ◌*◌, ◌+◌, ◌-◌, ◌%◌, ◌<◌, suc, true, false, refl, ◌∙◌, ap, arith}
+use Rattle.std.proofs.Common.{◌≡◌, ◌*◌, ◌+◌, ◌-◌, ◌%◌, ◌<◌, suc, true, false, ◌∙◌, ap, arith}
 use Rattle.pktline_core.proofs.LinkLemmas.{later_more, writing_more}
 use Rattle.raw_pack.specs.Packs.{is_too_large}
 use Rattle.raw_pack.proofs.HeadLemmas.{size_below, unit_more, size_cut, size_zero, size_more, size_large, size_last, size_endless}

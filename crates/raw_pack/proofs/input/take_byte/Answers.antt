@@ -1,5 +1,4 @@
 use Rattle.std.proofs.Common.{refl}
-use Rattle.std.specs.Prelude.{slice_index}
 use Rattle.raw_pack.specs.Packs.{byte}
 use Rattle.raw_pack.proofs.ReadLemmas.{reads_gives, reads_first}
 use Rattle.raw_pack.proofs.input.take_byte.Goals as goal

@@ -1,5 +1,4 @@
 use Rattle.std.proofs.Common.{refl}
-use Rattle.std.specs.Int.{w32, from_be_bytes}
 use Rattle.raw_pack.specs.Packs.{word}
 use Rattle.raw_pack.proofs.ReadLemmas.{reads_gives, reads_first}
 use Rattle.raw_pack.proofs.input.take_word.Goals as goal

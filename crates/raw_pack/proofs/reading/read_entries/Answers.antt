@@ -1,4 +1,4 @@
-use Rattle.std.proofs.Common.{◌≡◌, ◌-◌, ◌+◌, ◌++◌, ◌∷◌, [], length, Err, rules, refl, arith, length-append}
+use Rattle.std.proofs.Common.{◌≡◌, ◌-◌, ◌+◌, ◌++◌, ◌∷◌, [], Err, rules, refl, arith, length-append}
 use Rattle.pktline_core.proofs.LinkLemmas.{later_same, later_more, writing_more}
 use Rattle.raw_pack.specs.declared.fault.PackFault.TheVariants.{NoMemory}
 use Rattle.raw_pack.proofs.ReadLemmas.{leaves_whole, leaves_lacks}

@@ -1,4 +1,4 @@
-use Rattle.std.proofs.Common.{◌≡◌, length, Err, rules, ◌∙◌, sym, arith, ap}
+use Rattle.std.proofs.Common.{◌≡◌, length, Err, rules, arith}
 use Rattle.std.proofs.lemmas.List.{with_items_is}
 use Rattle.raw_pack.proofs.EntryLemmas.{entry_cut_in_head, entry_cut, entry_whole, entry_refused}
 use Rattle.raw_pack.proofs.reading.read_object.Goals as goal

@@ -1,5 +1,4 @@
 use Rattle.std.proofs.Common.{◌≡◌, List, Ok, Err, Result, rules}
-use Rattle.sha1.specs.Sha1.{Holds, sha1}
 use Rattle.git_object.specs.Content.{Content}
 use Rattle.pktline_core.specs.LinkState.{LinkState}
 use Rattle.pktline_core.proofs.LinkLemmas.{later_more}

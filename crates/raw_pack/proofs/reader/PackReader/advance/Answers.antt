@@ -1,4 +1,4 @@
-use Rattle.std.proofs.Common.{◌≡◌, Some, None, Ok, Err, Option, Result, sym, ◌∙◌, ap}
+use Rattle.std.proofs.Common.{◌≡◌, Some, Ok, Err, Option, Result, sym, ◌∙◌, ap}
 use Rattle.raw_pack.specs.Readers.{ReaderState}
 use Rattle.raw_pack.specs.declared.fault.PackFault.{PackFault}
 use Rattle.raw_pack.proofs.ReaderLemmas.{ended_goes, ended_repeats, open_repeats}

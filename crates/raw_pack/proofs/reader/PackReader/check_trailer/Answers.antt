@@ -1,5 +1,4 @@
-use Rattle.std.proofs.Common.{◌≡◌, List, ℕ, sym}
-use Rattle.sha1.specs.Sha1.{Holds, sha1}
+use Rattle.std.proofs.Common.{sym}
 use Rattle.raw_pack.proofs.ReaderLemmas.{goes_end, goes_broken}
 use Rattle.raw_pack.proofs.reader.PackReader.check_trailer.Goals as goal
 
