@@ -1,0 +1,45 @@
+use Rattle.std.proofs.Common.{◌≡◌, ◌-◌, ◌+◌, ◌++◌, ◌∷◌, [], Err, rules, refl, arith, length-append}
+use Rattle.pktline_core.proofs.LinkLemmas.{later_same, later_more, writing_more}
+use Rattle.raw_pack.specs.declared.fault.PackFault.TheVariants.{NoMemory}
+use Rattle.raw_pack.proofs.ReadLemmas.{leaves_whole, leaves_lacks}
+use Rattle.raw_pack.proofs.EntryLemmas.{entries_end, entries_cut, entries_more}
+use Rattle.raw_pack.proofs.reading.read_entries.Goals as goal
+
+pub loop-entry-init : goal.loop-entry-init
+loop-entry-init g c =
+    let all : c.args.count - 0 ≡ c.args.count = omega arith in
+    record {
+      leaves = rw (all, c.new-objects.ensures) (leaves_whole _ _ _);
+      writing = record { written = refl; write_faults = refl };
+      later = later_same _;
+      sum = omega arith;
+      all = rw c.new-objects.ensures;
+    }
+
+pub returns-in_err-object-clause-reads : goal.returns-in_err-object-clause-reads
+returns-in_err-object-clause-reads g c =
+    let answer : c.from_residual.result ≡ Err c.in_err-object.field-0.0 = search rules in
+    rw answer
+    (entries_cut _ _ _ _ _ _ _ _ _ c.loop-entry.invariant.leaves (c.args.count - (c.loop-entry.entry + 1)) (omega arith) _ _ c.in_err-object.field-0.0 c.loop-entry.invariant.later
+    c.in_err-object.ensures.reads)
+
+pub returns-in_err-push-clause-reads : goal.returns-in_err-push-clause-reads
+returns-in_err-push-clause-reads g c =
+    let answer : c.from_residual-in_err-push.result ≡ Err NoMemory = search rules in
+    rw answer
+    (leaves_lacks _ _ _ _ _ _ _ _ (entries_more _ _ _ _ _ _ _ _ _ c.loop-entry.invariant.leaves (c.args.count - (c.loop-entry.entry + 1)) (omega arith) _ _ c.in_ok-object.object c.in_ok-object.ensures.reads))
+
+pub loop-entry-preserved : goal.loop-entry-preserved
+loop-entry-preserved g c =
+    let pushed : c.push.new.self ≡ c.loop-entry.objects ++ c.in_ok-object.object ∷ [] = search rules in
+    record {
+      leaves = rw (pushed, c.body.ensures.body)
+          (entries_more _ _ _ _ _ _ _ _ _ c.loop-entry.invariant.leaves (c.args.count - (c.loop-entry.entry + 1)) (omega arith) _ _ c.in_ok-object.object c.in_ok-object.ensures.reads);
+      writing = writing_more _ _ _ c.loop-entry.invariant.writing c.read_object.ensures.writing;
+      later = later_more _ _ _ c.loop-entry.invariant.later c.read_object.ensures.later;
+      sum = rw c.body.ensures.body c.in_ok-object.ensures.small;
+      all = rw pushed (omega (arith, length-append c.loop-entry.objects (c.in_ok-object.object ∷ []), c.loop-entry.invariant.all));
+    }
+
+pub returns-clause-reads : goal.returns-clause-reads
+returns-clause-reads g c = entries_end _ _ _ _ _ _ _ _ _ c.loop-entry.invariant.leaves (omega arith) c.loop-entry.invariant.later

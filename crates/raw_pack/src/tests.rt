@@ -1,0 +1,173 @@
+// Values from outside: the trailers by `sha1sum`, of GNU coreutils, over what comes before them; the name by
+// `git hash-object -t commit --stdin`, of Git 2.39.5.
+use super::*;
+use git_object::Kind;
+use pktline_core::MemoryLink;
+use std::alloc::Global;
+use std::test::Fail;
+
+// A pack of 191 bytes: a commit of 156 bytes and the empty tree.
+const SIGNED: &[u8] =
+    b"PACK\0\0\0\x02\0\0\0\x02\x9c\x09tree 4b825dc642cb6eb9a060e54bf8d69288fbee4904\nauthor Carol <carol@example.com> 1700000000 +0000\ncommitter Carol <carol@example.com> 1700000000 +0000\n\nfirst\n\x20";
+
+const TRAILER: [u8; 20] = [
+    100, 229, 109, 182, 94, 64, 237, 22, 11, 59, 211, 64, 82, 90, 182, 30, 130, 105, 219, 219,
+];
+
+const COMMIT_NAME: &str = "1c73cda3964d5dd51bdaad94efd235c910cf59de";
+
+const EMPTY_PACK: &[u8] =
+    b"PACK\0\0\0\x02\0\0\0\0\x02\x9d\x08\x82;\xd8\xa8\xea\xb5\x10\xadj\xc7\\\x82<\xfd>\xd3\x1e";
+
+// The pack, with these bytes in place of as many at a place, and one byte behind it.
+fn pack_with(alloc: Global, place: usize, patch: &[u8]) -> Result<Vec<u8>, Fail> {
+    let mut whole = SIGNED.to_vec(alloc)?;
+    whole.extend_from_slice(&TRAILER)?;
+    whole.push(b'!')?;
+    let behind = (place.min(192) + patch.len().min(192)).min(whole.len());
+    let mut input = whole.split_at(place.min(whole.len())).0.to_vec(alloc)?;
+    input.extend_from_slice(patch)?;
+    input.extend_from_slice(whole.split_at(behind).1)?;
+    Ok(input)
+}
+
+fn link_over(
+    alloc: Global,
+    input: &[u8],
+    most: usize,
+    failing_takes: &[u64],
+) -> Result<MemoryLink, Fail> {
+    Ok(MemoryLink::new(
+        input.to_vec(alloc)?,
+        most.max(1),
+        failing_takes.to_vec(alloc)?,
+        Vec::new(alloc),
+    ))
+}
+
+#[test]
+fn a_pack_is_read(rt: HostRuntime) -> Result<(), Fail> {
+    let alloc = rt.alloc();
+    for most in [1, 5, 1000] {
+        let mut link = link_over(alloc, &pack_with(alloc, 0, b"")?, most, &[])?;
+        let objects = read_pack(alloc, &mut link).ok().ok_or("refused")?;
+        assert_eq!(rt; link.left(), b"!".as_slice());
+        assert_eq!(rt; objects.len(), 2);
+        let commit = objects.get(0).ok_or("none")?;
+        assert!(rt; commit.kind() == Kind::Commit && commit.body().len() == 156);
+        let text = commit.name().hex();
+        assert!(rt; text.as_slice() == COMMIT_NAME.as_bytes());
+        let tree = objects.get(1).ok_or("none")?;
+        assert!(rt; tree.kind() == Kind::Tree && tree.body().is_empty());
+    }
+    let mut link = link_over(alloc, EMPTY_PACK, 1000, &[])?;
+    let objects = read_pack(alloc, &mut link).ok().ok_or("refused")?;
+    assert!(rt; objects.is_empty() && link.left().is_empty());
+    Ok(())
+}
+
+// Where the pack is changed, to what, the fault, and how many bytes show it.
+const FAULTS: [(usize, &[u8], PackFault, usize); 15] = [
+    (3, b"k", PackFault::NotAPack, 4),
+    (7, b"\x03", PackFault::Version(3), 8),
+    (4, b"\x01\0\0\x02", PackFault::Version(16_777_218), 8),
+    (8, b"\0\x01\x86\xa1", PackFault::TooMany(100_001), 12),
+    (12, b"\x60", PackFault::Delta(0), 13),
+    (12, b"\xf0", PackFault::Delta(0), 13),
+    (12, b"\x00", PackFault::BadHead(0), 13),
+    (12, b"\xd0", PackFault::BadHead(0), 13),
+    (13, b"\0", PackFault::BadHead(0), 14),
+    (170, b"\xa0\0", PackFault::BadHead(1), 172),
+    (12, b"\xbf\xff\xff\xff\xff", PackFault::TooLarge(0), 17),
+    (12, b"\xb1\x80\x80\x40", PackFault::TooLarge(0), 16),
+    (12, b"\xb0\x80\x80\x40", PackFault::Truncated(0), 192),
+    (17, b"f", PackFault::BadObject(0), 170),
+    (
+        190,
+        b"\xda",
+        PackFault::TrailerDiffers {
+            read: [
+                100, 229, 109, 182, 94, 64, 237, 22, 11, 59, 211, 64, 82, 90, 182, 30, 130, 105,
+                219, 218,
+            ],
+            computed: TRAILER,
+        },
+        191,
+    ),
+];
+
+#[test]
+fn the_first_fault_is_told(rt: HostRuntime) -> Result<(), Fail> {
+    let alloc = rt.alloc();
+    for (place, patch, fault, used) in FAULTS {
+        let input = pack_with(alloc, place, patch)?;
+        let mut link = link_over(alloc, &input, 1000, &[])?;
+        assert_eq!(rt; read_pack(alloc, &mut link).err(), Some(fault));
+        assert_eq!(rt;
+            link.left().len(),
+            input.len().saturating_sub(used),
+            "{fault:?}"
+        );
+    }
+    Ok(())
+}
+
+// The entry in which an input of so many bytes ends.
+fn cut_in(size: usize) -> u32 {
+    match size {
+        0..170 => 0,
+        170 => 1,
+        _ => 2,
+    }
+}
+
+#[test]
+fn a_pack_ends_early(rt: HostRuntime) -> Result<(), Fail> {
+    let alloc = rt.alloc();
+    let whole = pack_with(alloc, 0, b"")?;
+    for size in 0..191 {
+        let input = whole.split_at(size.min(whole.len())).0;
+        let mut link = link_over(alloc, input, 1000, &[])?;
+        let fault = Some(PackFault::Truncated(cut_in(size)));
+        assert_eq!(rt; read_pack(alloc, &mut link).err(), fault, "{size}");
+        let mut link = link_over(alloc, &whole, 1, &[size as u64])?;
+        let fault = Some(PackFault::ReadFault);
+        assert_eq!(rt; read_pack(alloc, &mut link).err(), fault, "{size}");
+        assert_eq!(rt; link.left().len(), 192 - size);
+    }
+    Ok(())
+}
+
+// The commit's body, which stands between its head and the head of the tree.
+fn body_of(signed: &[u8]) -> &[u8] {
+    let entry = signed.split_at(signed.len().saturating_sub(1)).0;
+    entry.split_at(entry.len().min(14)).1
+}
+
+#[test]
+fn entries_are_lent_one_by_one(rt: HostRuntime) -> Result<(), Fail> {
+    let alloc = rt.alloc();
+    let mut link = link_over(alloc, &pack_with(alloc, 0, b"")?, 7, &[])?;
+    let mut reader = PackReader::begin(alloc, &mut link).ok().ok_or("refused")?;
+    let commit = PackEntry {
+        kind: Kind::Commit,
+        body: body_of(SIGNED),
+    };
+    let tree = PackEntry {
+        kind: Kind::Tree,
+        body: b"",
+    };
+    assert!(rt; reader.next_entry(&mut link) == Ok(Some(commit)));
+    assert!(rt; reader.next_entry(&mut link) == Ok(Some(tree)));
+    for _ in 0..2 {
+        assert!(rt; reader.next_entry(&mut link) == Ok(None));
+        assert_eq!(rt; link.left(), b"!".as_slice());
+    }
+    let mut link = link_over(alloc, &pack_with(alloc, 0, b"")?, 1, &[20])?;
+    let mut reader = PackReader::begin(alloc, &mut link).ok().ok_or("refused")?;
+    for _ in 0..2 {
+        assert!(rt; reader.next_entry(&mut link) == Err(PackFault::ReadFault));
+        assert_eq!(rt; link.left().len(), 172);
+    }
+    Ok(())
+}
