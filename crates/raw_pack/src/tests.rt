@@ -1,8 +1,12 @@
 // Values from outside: the trailers by `sha1sum`, of GNU coreutils, over what comes before them; the name by
 // `git hash-object -t commit --stdin`, of Git 2.39.5.
+ghost use Rattle.std.specs.Prelude.{◌<◌, ◌^◌, None, false, length};
+ghost use Rattle.std.proofs.Common.{arith};
+ghost use Rattle.pktline_core.specs.LinkState.{LinkState};
+
 use super::*;
 use git_object::Kind;
-use pktline_core::MemoryLink;
+use pktline_core::{Endpoint, MemoryLink, Source, Taken};
 use std::alloc::Global;
 use std::test::Fail;
 
@@ -168,6 +172,64 @@ fn entries_are_lent_one_by_one(rt: HostRuntime) -> Result<(), Fail> {
     for _ in 0..2 {
         assert!(rt; reader.next_entry(&mut link) == Err(PackFault::ReadFault));
         assert_eq!(rt; link.left().len(), 172);
+    }
+    Ok(())
+}
+
+// A pack of 17 blobs of 16,777,216 zero bytes, made as it is read: so far into it. The first 16 are as large as the
+// bodies of a pack may be together.
+#[derive(Drop)]
+struct MadePack {
+    at: u64,
+    ghost below: { at < 2 ^ 63 },
+}
+
+// The header, and the head of an entry.
+const MADE: [u8; 16] = *b"PACK\0\0\0\x02\0\0\0\x11\xb0\x80\x80\x40";
+
+const MADE_ENTRY: u64 = 16_777_220;
+
+impl Endpoint for MadePack {
+    ghost state = { λ made. record { left = None; given = made.at; read_faults = 0; written = None; write_faults = 0; may_lack = false; may_fail = false } };
+}
+
+impl Source for MadePack {
+    fn take(&mut self, room: &mut [u8]) -> Taken {
+        if self.at >= 1 << 40 {
+            return Taken::End;
+        }
+        let place = match self.at {
+            0..12 => self.at,
+            _ => 12 + (self.at - 12) % MADE_ENTRY,
+        };
+        if let Some(byte) = MADE.get(place as usize) {
+            room[0] = *byte;
+            self.at += 1;
+            return Taken::Got(1);
+        }
+        let count = room.len().min((12 + MADE_ENTRY - place) as usize);
+        room.split_at_mut(count).0.fill(0);
+        self.at += count as u64;
+        Taken::Got(count)
+    }
+
+    ghost given_below = { λ made. made.below };
+}
+
+#[test]
+fn all_bodies_together_are_too_large(rt: HostRuntime) -> Result<(), Fail> {
+    let mut made = MadePack { at: 0 };
+    let mut reader = PackReader::begin(rt.alloc(), &mut made)
+        .ok()
+        .ok_or("refused")?;
+    for _ in 0..16 {
+        let entry = reader.next_entry(&mut made).ok().ok_or("refused")?;
+        let body = entry.ok_or("ended")?.body;
+        assert_eq!(rt; body.len(), 16_777_216);
+    }
+    for _ in 0..2 {
+        assert!(rt; reader.next_entry(&mut made) == Err(PackFault::TooLarge(16)));
+        assert_eq!(rt; made.at, 12 + 16 * MADE_ENTRY + 4);
     }
     Ok(())
 }
