@@ -7,3 +7,4 @@ pub mod ToldLemmas
 pub mod ReaderLemmas
 pub mod SpellingLemmas
 pub mod GrammarLemmas
+pub mod WrittenLemmas
