@@ -15,7 +15,7 @@ use Rattle.git_object.specs.declared.kind.Kind.{Kind}
 use Rattle.git_object.specs.declared.kind.Kind.TheVariants.{Commit, Tree, Blob, Tag}
 use Rattle.raw_pack.specs.Formats.{Format, gives, fails, wants, bytes, ◌>>=◌, front, behind}
 use Rattle.raw_pack.specs.Grammar.{kind_bits, SpellsSize, IsHead, IsEntry, AreEntries, signed, IsPack}
-use Rattle.raw_pack.specs.Laws.{AreShort, IsWithin, total}
+use Rattle.raw_pack.specs.Laws.{AreShort, BeginsWith, IsWithin, total}
 use Rattle.raw_pack.specs.Packs.{word, signature, version, entry_count, header, byte, is_too_large, sized, more_size, kind_of_bits, head_by_kind, entry_head, formed, pack_entry, pack_entries, signed_part, trailer, pack_end, pack_front}
 use Rattle.raw_pack.specs.declared.head.Head.{Head}
 use Rattle.raw_pack.specs.declared.fault.PackFault.{PackFault}
@@ -198,8 +198,8 @@ pack_taken xs contents (entries, are, is) within =
     ∙ ap (behind (length (signed entries contents))) (end_taken (sha1 (signed entries contents)) contents (twenty (signed entries contents)))
     ∙ ap (λ (n : ℕ). Whole n contents) (sym (length-append (signed entries contents) (sha1 (signed entries contents))) ∙ ap length (sym is))
 
-pub pack_is_read : (input : List ℕ) (n : ℕ) (contents : List Content) → n ≤ length input → IsPack (take n input) contents → IsWithin contents → pack_front input ≡ Whole n contents
-pack_is_read input n contents within is limits =
+pub pack_is_read : (input : List ℕ) (n : ℕ) (contents : List Content) → BeginsWith input n contents → pack_front input ≡ Whole n contents
+pack_is_read input n contents begins =
     ap pack_front (sym (take-append-drop n input))
-    ∙ pack_whole_stays (take n input) (drop n input) (length (take n input)) contents (pack_taken (take n input) contents is limits)
-    ∙ ap (λ (m : ℕ). Whole m contents) (length-take-le n input within)
+    ∙ pack_whole_stays (take n input) (drop n input) (length (take n input)) contents (pack_taken (take n input) contents begins.pack begins.limits)
+    ∙ ap (λ (m : ℕ). Whole m contents) (length-take-le n input begins.within)

@@ -1,5 +1,5 @@
 -- What holds of the format of packs.
-use Rattle.std.specs.Prelude.{◌≡◌, ℕ, ◌+◌, ◌≤◌, ◌<◌, List, [], ◌∷◌, ◌++◌, length, take, slice_index}
+use Rattle.std.specs.Prelude.{◌≡◌, ◌↔◌, ℕ, ◌+◌, ◌≤◌, ◌<◌, List, [], ◌∷◌, ◌++◌, length, take, slice_index}
 use Rattle.base_types.specs.Fronts.{Whole, Broken}
 use Rattle.git_object.specs.Content.{Content}
 use Rattle.raw_pack.specs.Grammar.{IsPack}
@@ -26,11 +26,15 @@ pub record IsWithin (contents : List Content) : Type 0 where
   pub short : AreShort contents
   pub light : total contents ≤ largest_sum
 
+-- these bytes begin with a pack of these objects, of so many bytes and within the limits
+pub record BeginsWith (bytes : List ℕ) (n : ℕ) (contents : List Content) : Type 0 where
+  pub within : n ≤ length bytes
+  pub pack : IsPack (take n bytes) contents
+  pub limits : IsWithin contents
+
 pub record PackLaws : Type 0 where
-  -- What stands whole at the front of an input is a pack by the grammar.
-  pub read_is_pack : (bytes : List ℕ) (n : ℕ) (contents : List Content) → AreBytes bytes → pack_front bytes ≡ Whole n contents → (n ≤ length bytes) × IsPack (take n bytes) contents
-  -- A pack by the grammar, within the limits, stands whole at the front of an input that begins with it.
-  pub pack_is_read : (bytes : List ℕ) (n : ℕ) (contents : List Content) → n ≤ length bytes → IsPack (take n bytes) contents → IsWithin contents → pack_front bytes ≡ Whole n contents
+  -- A pack stands whole at the front of an input exactly where the input begins with a pack by the grammar, within the limits.
+  pub grammar : (bytes : List ℕ) (n : ℕ) (contents : List Content) → AreBytes bytes → (pack_front bytes ≡ Whole n contents) ↔ BeginsWith bytes n contents
   -- What is known of a beginning stays so, whatever follows it.
   pub whole_stays : (bytes more : List ℕ) (n : ℕ) (contents : List Content) → pack_front bytes ≡ Whole n contents → pack_front (bytes ++ more) ≡ Whole n contents
   pub broken_stays : (bytes more : List ℕ) (n : ℕ) (fault : PackFault) → pack_front bytes ≡ Broken n fault → pack_front (bytes ++ more) ≡ Broken n fault

@@ -4,4 +4,4 @@ use Rattle.raw_pack.proofs.WrittenLemmas.{pack_is_read}
 use Rattle.raw_pack.proofs.laws.hold_laws.Goals as goal
 
 pub returns : goal.returns
-returns c = record { read_is_pack = read_is_pack; pack_is_read = pack_is_read; whole_stays = pack_whole_stays; broken_stays = pack_broken_stays }
+returns c = record { grammar = λ bytes n contents are. (read_is_pack bytes n contents are, pack_is_read bytes n contents); whole_stays = pack_whole_stays; broken_stays = pack_broken_stays }
