@@ -1,5 +1,5 @@
 -- A pack of the grammar within the limits is read whole.
-use Rattle.std.proofs.Common.{◌≡◌, ℕ, zero, suc, ◌+◌, ◌*◌, ◌/◌, ◌%◌, ◌^◌, ◌<◌, ◌≤◌, ◌==◌, nat_lt, true, false, if◌then◌else◌, List, [], ◌∷◌, ◌++◌, length, take, drop, get_or, Some, None, codes, refl, sym, ◌∙◌, ap, subst, arith, append_assoc, length-append, take-append-drop}
+use Rattle.std.proofs.Common.{◌≡◌, ℕ, zero, suc, ◌+◌, ◌*◌, ◌/◌, ◌%◌, ◌^◌, ◌<◌, ◌≤◌, ◌==◌, nat_lt, true, false, if◌then◌else◌, List, [], ◌∷◌, ◌++◌, length, take, drop, get_or, Some, codes, refl, sym, ◌∙◌, ap, subst, arith, append_assoc, length-append, take-append-drop}
 use Rattle.std.proofs.Math.Nat.{mul-le-mul_left}
 use Rattle.std.proofs.lemmas.Bool.{lt-ltb, le-ltb, ne_eqb}
 use Rattle.std.proofs.lemmas.List.{append-nil, length-take-le}
@@ -8,7 +8,7 @@ use Rattle.std.proofs.lemmas.Slice.Eq.{bytes_eq-Decides}
 use Rattle.std.specs.Int.{w32, from_be_bytes, to_be_bytes}
 use Rattle.std.specs.Str.{bytes_eq}
 use Rattle.sha1.specs.Sha1.{sha1, digest_bytes}
-use Rattle.base_types.specs.Fronts.{Front, Whole}
+use Rattle.base_types.specs.Fronts.{Whole}
 use Rattle.git_object.specs.Content.{Content}
 use Rattle.git_object.specs.Object.{fault_of}
 use Rattle.git_object.specs.declared.kind.Kind.{Kind}
@@ -17,9 +17,8 @@ use Rattle.raw_pack.specs.Formats.{Format, gives, fails, wants, bytes, ◌>>=◌
 use Rattle.raw_pack.specs.Grammar.{kind_bits, SpellsSize, IsHead, IsEntry, AreEntries, signed, IsPack}
 use Rattle.raw_pack.specs.Laws.{AreShort, BeginsWith, IsWithin, total}
 use Rattle.raw_pack.specs.Packs.{word, signature, version, entry_count, header, byte, is_too_large, sized, more_size, kind_of_bits, head_by_kind, entry_head, formed, pack_entry, pack_entries, signed_part, trailer, pack_end, pack_front}
-use Rattle.raw_pack.specs.declared.head.Head.{Head}
 use Rattle.raw_pack.specs.declared.fault.PackFault.{PackFault}
-use Rattle.raw_pack.specs.declared.fault.PackFault.TheVariants.{NotAPack, Version, TooMany, TooLarge, BadHead, Truncated, TrailerDiffers}
+use Rattle.raw_pack.specs.declared.fault.PackFault.TheVariants.{NotAPack, Version, TooMany, BadHead, Truncated, TrailerDiffers}
 use Rattle.raw_pack.proofs.FormatLemmas.{front-wants}
 use Rattle.raw_pack.proofs.ReadLemmas.{front-both, given_here}
 use Rattle.raw_pack.proofs.SpellingLemmas.{Spells}

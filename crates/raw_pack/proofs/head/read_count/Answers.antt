@@ -16,6 +16,6 @@ returns-clause-reads g c =
 
 pub returns-in_err-number-clause-reads : goal.returns-in_err-number-clause-reads
 unfolding entry_count
-returns-in_err-number-clause-reads g c = 
+returns-in_err-number-clause-reads g c =
     let answer : c.from_residual.result ≡ Err c.in_err-number.field-0.0 = search rules in
     rw answer (reads_first _ _ _ _ _ _ _ c.in_err-number.field-0.0 c.in_err-number.ensures.reads)

@@ -6,7 +6,7 @@ use Rattle.raw_pack.proofs.head.read_entry_head.Goals as goal
 
 pub returns-in_err-first-clause-reads : goal.returns-in_err-first-clause-reads
 unfolding entry_head
-returns-in_err-first-clause-reads g c = 
+returns-in_err-first-clause-reads g c =
     let answer : c.from_residual.result ≡ Err c.in_err-first.field-0.0 = search rules in
     rw answer (reads_first _ _ _ _ _ _ _ c.in_err-first.field-0.0 c.in_err-first.ensures.reads)
 

@@ -6,7 +6,6 @@ use Rattle.raw_pack.proofs.head.read_more_size.Goals as goal
 
 pub returns-in_err-next-clause-reads : goal.returns-in_err-next-clause-reads
 returns-in_err-next-clause-reads g c =
-    
     let answer : c.from_residual.result ≡ Err c.in_err-next.field-0.0 = search rules in
     rw answer (size_cut _ _ _ _ _ _ _ _ _ _ c.loop-left.left (c.loop-left.left - 1) _ _ (omega arith) c.loop-left.invariant.leaves c.in_err-next.field-0.0 c.loop-left.invariant.later c.in_err-next.ensures.reads)
 

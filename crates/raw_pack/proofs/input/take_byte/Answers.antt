@@ -9,6 +9,6 @@ returns-clause-reads g c = reads_gives _ _ _ _ _ _ _ _ refl c.in_ok-take_bytes.e
 
 pub returns-in_err-take_bytes-clause-reads : goal.returns-in_err-take_bytes-clause-reads
 unfolding byte
-returns-in_err-take_bytes-clause-reads g c = 
+returns-in_err-take_bytes-clause-reads g c =
     let answer : c.from_residual.result ≡ Err c.in_err-take_bytes.field-0.0 = search rules in
     rw answer (reads_first _ _ _ _ _ _ _ c.in_err-take_bytes.field-0.0 c.in_err-take_bytes.ensures.reads)

@@ -9,6 +9,6 @@ returns-clause-reads g c = rw c.from_be_bytes.ensures (reads_gives _ _ _ _ _ _ _
 
 pub returns-in_err-take_bytes-clause-reads : goal.returns-in_err-take_bytes-clause-reads
 unfolding word
-returns-in_err-take_bytes-clause-reads g c = 
+returns-in_err-take_bytes-clause-reads g c =
     let answer : c.from_residual.result ≡ Err c.in_err-take_bytes.field-0.0 = search rules in
     rw answer (reads_first _ _ _ _ _ _ _ c.in_err-take_bytes.field-0.0 c.in_err-take_bytes.ensures.reads)
