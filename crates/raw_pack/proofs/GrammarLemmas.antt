@@ -1,7 +1,7 @@
 -- What is read as a whole pack is a pack of the grammar.
-use Rattle.std.proofs.Common.{take-append-drop, ◌≡◌, ℕ, zero, suc, ◌+◌, ◌*◌, ◌/◌, ◌%◌, ◌<◌, ◌≤◌, ◌==◌, nat_lt, Bool, true, false, if◌then◌else◌, List, [], ◌∷◌, ◌++◌, length, take, drop, get_or, Option, None, Some, codes, refl, sym, ◌∙◌, ap, subst, inl, inr, arith, append_assoc}
+use Rattle.std.proofs.Common.{◌||◌, take-append-drop, ◌≡◌, ℕ, zero, suc, ◌+◌, ◌*◌, ◌/◌, ◌%◌, ◌<◌, ◌≤◌, ◌==◌, nat_lt, Bool, true, false, if◌then◌else◌, List, [], ◌∷◌, ◌++◌, length, take, drop, get_or, Option, None, Some, codes, refl, sym, ◌∙◌, ap, subst, inl, inr, arith, append_assoc}
 use Rattle.std.proofs.Math.Seq.{take-add}
-use Rattle.std.proofs.lemmas.Bool.{cases_lt, lt-ltb, le-ltb, eqb-true, eqb-false}
+use Rattle.std.proofs.lemmas.Bool.{cases_lt, lt-ltb, le-ltb, ltb-false, eqb-true, eqb-false}
 use Rattle.std.proofs.lemmas.List.{append-nil, length-take-le, length-drop, get_or_append_left, get_or-append-add, get_or_past}
 use Rattle.std.proofs.lemmas.Nat.{be_bytes_4}
 use Rattle.std.proofs.lemmas.Slice.Eq.{bytes_eq-Decides}
@@ -16,7 +16,7 @@ use Rattle.git_object.specs.declared.kind.Kind.TheVariants.{Commit, Tree, Blob, 
 use Rattle.git_object.specs.declared.fault.ObjFault.{ObjFault}
 use Rattle.raw_pack.specs.Formats.{gives, fails, bytes, ◌>>=◌, front, behind, and_then}
 use Rattle.raw_pack.specs.Grammar.{kind_bits, SpellsSize, IsHead, IsEntry, AreEntries, signed, IsPack}
-use Rattle.raw_pack.specs.Laws.{AreBytes}
+use Rattle.raw_pack.specs.Laws.{AreBytes, AreShort, BeginsWith, IsWithin, total}
 use Rattle.raw_pack.specs.Packs.{word, signature, version, entry_count, header, byte, is_too_large, sized, more_size, kind_of_bits, head_by_kind, entry_head, formed, pack_entry, pack_entries, signed_part, trailer, pack_end, pack_front}
 use Rattle.raw_pack.specs.declared.head.Head.{Head}
 use Rattle.raw_pack.specs.declared.fault.PackFault.{PackFault}
@@ -61,15 +61,15 @@ version_spelled xs are is =
     let whole : xs ≡ parts.ys = parts.both ∙ ap (λ (l : List ℕ). parts.ys ++ l) last.1 ∙ append-nil parts.ys in
     whole ∙ word_spelled parts.ys parts.v (subst AreBytes whole are) parts.first ∙ ap (to_be_bytes w32) (eqb-true parts.v 2 last.0)
 
-count_spelled : (xs : List ℕ) (count : ℕ) → AreBytes xs → Spells entry_count xs count → xs ≡ to_be_bytes w32 count
+count_spelled : (xs : List ℕ) (count : ℕ) → AreBytes xs → Spells entry_count xs count → (xs ≡ to_be_bytes w32 count) × (count ≤ 100000)
 unfolding entry_count
 count_spelled xs count are is =
     let parts = splits (λ number. if nat_lt 100000 number then fails (TooMany number) else gives number) word xs count is in
     let last = unless_spelled (nat_lt 100000 parts.v) parts.v count (TooMany parts.v) parts.zs parts.second in
     let whole : xs ≡ parts.ys = parts.both ∙ ap (λ (l : List ℕ). parts.ys ++ l) last.1 ∙ append-nil parts.ys in
-    whole ∙ word_spelled parts.ys parts.v (subst AreBytes whole are) parts.first ∙ ap (to_be_bytes w32) last.2
+    (whole ∙ word_spelled parts.ys parts.v (subst AreBytes whole are) parts.first ∙ ap (to_be_bytes w32) last.2, subst (λ (n : ℕ). n ≤ 100000) last.2 (ltb-false 100000 parts.v last.0))
 
-header_spelled : (xs : List ℕ) (count : ℕ) → AreBytes xs → Spells header xs count → xs ≡ codes "PACK" ++ to_be_bytes w32 2 ++ to_be_bytes w32 count
+header_spelled : (xs : List ℕ) (count : ℕ) → AreBytes xs → Spells header xs count → (xs ≡ codes "PACK" ++ to_be_bytes w32 2 ++ to_be_bytes w32 count) × (count ≤ 100000)
 unfolding header
 header_spelled xs count are is =
     let parts = splits (λ packed. version >>= (λ known. entry_count)) signature xs count is in
@@ -77,8 +77,8 @@ header_spelled xs count are is =
     let more = splits (λ known. entry_count) version parts.zs count parts.second in
     let one : parts.ys ≡ codes "PACK" = signature_spelled parts.ys parts.first in
     let two : more.ys ≡ to_be_bytes w32 2 = version_spelled more.ys (bytes_before more.ys more.zs (subst AreBytes more.both behind_first)) more.first in
-    let three : more.zs ≡ to_be_bytes w32 count = count_spelled more.zs count (bytes_behind more.ys more.zs (subst AreBytes more.both behind_first)) more.second in
-    parts.both ∙ ap (λ (l : List ℕ). parts.ys ++ l) more.both ∙ sym (append_assoc parts.ys more.ys more.zs) ∙ rw (one, two, three)
+    let three = count_spelled more.zs count (bytes_behind more.ys more.zs (subst AreBytes more.both behind_first)) more.second in
+    (parts.both ∙ ap (λ (l : List ℕ). parts.ys ++ l) more.both ∙ sym (append_assoc parts.ys more.ys more.zs) ∙ rw (one, two, three.0), three.1)
 
 single : (xs : List ℕ) (b : ℕ) → length xs ≡ 1 → get_or xs 0 0 ≡ b → xs ≡ b ∷ []
 single [] b len is = absurd (omega (arith, len))
@@ -95,14 +95,15 @@ byte_spelled entry xs b is =
     single xs b (ap length whole ∙ one.0) (ap (λ (l : List ℕ). get_or l 0 0) (whole ∙ sym one.1) ∙ last.1)
 
 -- a head's size, seven bits a byte
-pub record HasSize (kind : Kind) (xs : List ℕ) (size unit : ℕ) (head : Head) : Type 0 where
+pub record HasSize (sum : ℕ) (kind : Kind) (xs : List ℕ) (size unit : ℕ) (head : Head) : Type 0 where
   pub n : ℕ
   pub spelled : SpellsSize xs n
   pub adds : head.size ≡ size + unit * n
   pub same : head.kind ≡ kind
+  pub fits : is_too_large sum head.size ≡ false
 
 last_size : (entry sum : ℕ) (kind : Kind) (size unit next : ℕ) (zs : List ℕ) (head : Head) (none : Bool) → (none ≡ false → 0 < next) → next < 128
-    → Spells (if none then fails (BadHead entry) else sized entry sum kind (size + unit * next)) zs head → HasSize kind (next ∷ zs) size unit head
+    → Spells (if none then fails (BadHead entry) else sized entry sum kind (size + unit * next)) zs head → HasSize sum kind (next ∷ zs) size unit head
 last_size entry sum kind size unit next zs head true low high is = absurd (fails_spelled (BadHead entry) head zs is)
 last_size entry sum kind size unit next zs head false low high is =
     let last = unless_spelled (is_too_large sum (size + unit * next)) (record { kind = kind; size = size + unit * next }) head (TooLarge entry) zs is in
@@ -111,14 +112,15 @@ last_size entry sum kind size unit next zs head false low high is =
       spelled = subst (λ (l : List ℕ). SpellsSize (next ∷ l) next) (sym last.1) (refl, low refl, high);
       adds = ap (λ (h : Head). h.size) (sym last.2);
       same = ap (λ (h : Head). h.kind) (sym last.2);
+      fits = subst (λ (h : Head). is_too_large sum h.size ≡ false) last.2 last.0;
     }
 
 some_next : (next : ℕ) → (next == 0) ≡ false → 0 < next
 some_next next other = let ne : next ≡ 0 → ⊥ = eqb-false next 0 other in omega arith
 
-more_spelled : (kind : Kind) (size unit next : ℕ) (zs : List ℕ) (head : Head) → 127 < next → next < 256 → HasSize kind zs (size + unit * (next % 128)) (unit * 128) head → HasSize kind (next ∷ zs) size unit head
-more_spelled kind size unit next [] head high byte rest = absurd rest.spelled
-more_spelled kind size unit next (c ∷ more) head high byte rest =
+more_spelled : (sum : ℕ) (kind : Kind) (size unit next : ℕ) (zs : List ℕ) (head : Head) → 127 < next → next < 256 → HasSize sum kind zs (size + unit * (next % 128)) (unit * 128) head → HasSize sum kind (next ∷ zs) size unit head
+more_spelled sum kind size unit next [] head high byte rest = absurd rest.spelled
+more_spelled sum kind size unit next (c ∷ more) head high byte rest =
     let n = next % 128 + 128 * rest.n in
     let quotient : (next % 128 + 128 * rest.n) / 128 ≡ rest.n = omega arith in
     record {
@@ -126,19 +128,20 @@ more_spelled kind size unit next (c ∷ more) head high byte rest =
       spelled = (omega arith, subst (SpellsSize (c ∷ more)) (sym quotient) rest.spelled);
       adds = rest.adds ∙ omega arith;
       same = rest.same;
+      fits = rest.fits;
     }
 
-size_spelled : (left entry sum : ℕ) (kind : Kind) (size unit : ℕ) (xs : List ℕ) (head : Head) → AreBytes xs → Spells (more_size left entry sum kind size unit) xs head → HasSize kind xs size unit head
+size_spelled : (left entry sum : ℕ) (kind : Kind) (size unit : ℕ) (xs : List ℕ) (head : Head) → AreBytes xs → Spells (more_size left entry sum kind size unit) xs head → HasSize sum kind xs size unit head
 unfolding more_size
 size_spelled zero entry sum kind size unit xs head are is = absurd (fails_spelled (TooLarge entry) head xs is)
 size_spelled (suc left) entry sum kind size unit xs head are is =
     let parts = splits (λ next. if nat_lt 127 next then more_size left entry sum kind (size + unit * (next % 128)) (unit * 128) else (if next == 0 then fails (BadHead entry) else sized entry sum kind (size + unit * next))) (byte entry) xs head is in
     let whole : xs ≡ parts.v ∷ parts.zs = parts.both ∙ ap (λ (l : List ℕ). l ++ parts.zs) (byte_spelled entry parts.ys parts.v parts.first) in
     let are_here : AreBytes (parts.v ∷ parts.zs) = subst AreBytes whole are in
-    subst (λ (l : List ℕ). HasSize kind l size unit head) (sym whole)
+    subst (λ (l : List ℕ). HasSize sum kind l size unit head) (sym whole)
     (elim (cases_lt 127 parts.v) [
       | inl high ↦
-          more_spelled kind size unit parts.v parts.zs head high (are_here 0)
+          more_spelled sum kind size unit parts.v parts.zs head high (are_here 0)
           (size_spelled left entry sum kind (size + unit * (parts.v % 128)) (unit * 128) parts.zs head (bytes_behind (parts.v ∷ []) parts.zs are_here) (rw (lt-ltb 127 parts.v high) at parts.second))
       | inr low ↦ last_size entry sum kind size unit parts.v parts.zs head (parts.v == 0) (some_next parts.v) (omega arith) (rw (le-ltb 127 parts.v low) at parts.second)
     ])
@@ -158,16 +161,21 @@ no_kind : (b : Bool) (entry : ℕ) (zs : List ℕ) (head : Head) → Spells (if 
 no_kind true entry zs head is = fails_spelled (Delta entry) head zs is
 no_kind false entry zs head is = fails_spelled (BadHead entry) head zs is
 
-long_head : (first : ℕ) (kind : Kind) (zs : List ℕ) (head : Head) → 128 ≤ first → first < 256 → kind_bits kind ≡ first / 16 % 8 → HasSize kind zs (first % 16) 16 head → IsHead (first ∷ zs) head.kind head.size
-long_head first kind [] head high byte bits has = absurd has.spelled
-long_head first kind (b ∷ more) head high byte bits has =
+long_head : (sum first : ℕ) (kind : Kind) (zs : List ℕ) (head : Head) → 128 ≤ first → first < 256 → kind_bits kind ≡ first / 16 % 8 → HasSize sum kind zs (first % 16) 16 head → IsHead (first ∷ zs) head.kind head.size
+long_head sum first kind [] head high byte bits has = absurd has.spelled
+long_head sum first kind (b ∷ more) head high byte bits has =
     let low : head.size % 16 ≡ first % 16 = omega (arith, has.adds) in
     let rest : head.size / 16 ≡ has.n = omega (arith, has.adds) in
     let same : kind_bits head.kind ≡ first / 16 % 8 = ap kind_bits has.same ∙ bits in
     (omega arith, subst (SpellsSize (b ∷ more)) (sym rest) has.spelled)
 
+-- a head by the grammar, of a body within the limits
+record HasHead (sum : ℕ) (xs : List ℕ) (head : Head) : Type 0 where
+  is : IsHead xs head.kind head.size
+  fits : is_too_large sum head.size ≡ false
+
 head_by : (entry sum first : ℕ) (zs : List ℕ) (head : Head) → AreBytes (first ∷ zs) → (found : Option Kind) → kind_of_bits (first / 16 % 8) ≡ found → Spells (head_by_kind entry sum first found) zs head
-    → IsHead (first ∷ zs) head.kind head.size
+    → HasHead sum (first ∷ zs) head
 head_by entry sum first zs head are None is spells = absurd (no_kind (nat_lt 5 (first / 16 % 8)) entry zs head spells)
 head_by entry sum first zs head are (Some kind) is spells =
     let bits : kind_bits kind ≡ first / 16 % 8 = kind_bits_of (first / 16 % 8) kind is in
@@ -175,24 +183,33 @@ head_by entry sum first zs head are (Some kind) is spells =
       | inl low ↦
           let last = unless_spelled (is_too_large sum (first % 16)) (record { kind = kind; size = first % 16 }) head (TooLarge entry) zs (rw (lt-ltb first 128 low) at spells) in
           let short : IsHead (first ∷ []) kind (first % 16) = (omega arith, omega arith) in
-          subst (λ (l : List ℕ). IsHead (first ∷ l) head.kind head.size) (sym last.1) (subst (λ (h : Head). IsHead (first ∷ []) h.kind h.size) last.2 short)
+          record {
+            is = subst (λ (l : List ℕ). IsHead (first ∷ l) head.kind head.size) (sym last.1) (subst (λ (h : Head). IsHead (first ∷ []) h.kind h.size) last.2 short);
+            fits = subst (λ (h : Head). is_too_large sum h.size ≡ false) last.2 last.0;
+          }
       | inr high ↦
-          long_head first kind zs head high (are 0) bits (size_spelled 4 entry sum kind (first % 16) 16 zs head (bytes_behind (first ∷ []) zs are) (rw (le-ltb first 128 high) at spells))
+          let has = size_spelled 4 entry sum kind (first % 16) 16 zs head (bytes_behind (first ∷ []) zs are) (rw (le-ltb first 128 high) at spells) in
+          record { is = long_head sum first kind zs head high (are 0) bits has; fits = has.fits }
     ]
 
-head_spelled : (entry sum : ℕ) (xs : List ℕ) (head : Head) → AreBytes xs → Spells (entry_head entry sum) xs head → IsHead xs head.kind head.size
+head_spelled : (entry sum : ℕ) (xs : List ℕ) (head : Head) → AreBytes xs → Spells (entry_head entry sum) xs head → HasHead sum xs head
 unfolding entry_head
 head_spelled entry sum xs head are is =
     let parts = splits (λ first. head_by_kind entry sum first (kind_of_bits (first / 16 % 8))) (byte entry) xs head is in
     let whole : xs ≡ parts.v ∷ parts.zs = parts.both ∙ ap (λ (l : List ℕ). l ++ parts.zs) (byte_spelled entry parts.ys parts.v parts.first) in
-    subst (λ (l : List ℕ). IsHead l head.kind head.size) (sym whole)
+    subst (λ (l : List ℕ). HasHead sum l head) (sym whole)
     (head_by entry sum parts.v parts.zs head (subst AreBytes whole are) (kind_of_bits (parts.v / 16 % 8)) refl parts.second)
 
 formed_spelled : (entry : ℕ) (made content : Content) (at : Option ObjFault) (xs : List ℕ) → Spells (formed entry made at) xs content → (at ≡ None) × (xs ≡ []) × (made ≡ content)
 formed_spelled entry made content None xs is = let both = gives_spelled made content xs is in (refl, both.0, both.1)
 formed_spelled entry made content (Some fault) xs is = absurd (fails_spelled (BadObject entry) content xs is)
 
-entry_spelled : (entry sum : ℕ) (xs : List ℕ) (content : Content) → AreBytes xs → Spells (pack_entry entry sum) xs content → IsEntry xs content
+-- an entry by the grammar, within the limits
+record HasEntry (sum : ℕ) (xs : List ℕ) (content : Content) : Type 0 where
+  is : IsEntry xs content
+  fits : is_too_large sum (length content.body) ≡ false
+
+entry_spelled : (entry sum : ℕ) (xs : List ℕ) (content : Content) → AreBytes xs → Spells (pack_entry entry sum) xs content → HasEntry sum xs content
 unfolding pack_entry
 entry_spelled entry sum xs content are is =
     let parts = splits (λ head. bytes head.size (Truncated entry) >>= (λ body. formed entry (record { kind = head.kind; body = body }) (fault_of head.kind body))) (entry_head entry sum) xs content is in
@@ -201,35 +218,54 @@ entry_spelled entry sum xs content are is =
     let last = formed_spelled entry (record { kind = parts.v.kind; body = more.v }) content (fault_of parts.v.kind more.v) more.zs more.second in
     let tail : parts.zs ≡ more.v = more.both ∙ ap (λ (l : List ℕ). more.ys ++ l) last.1 ∙ append-nil more.ys ∙ sym body.1 in
     let size : parts.v.size ≡ length more.v = sym body.0 ∙ ap length (sym body.1) in
-    let head : IsHead parts.ys parts.v.kind parts.v.size = head_spelled entry sum parts.ys parts.v (bytes_before parts.ys parts.zs (subst AreBytes parts.both are)) parts.first in
-    let made : IsEntry xs (record { kind = parts.v.kind; body = more.v }) = (parts.ys, parts.both ∙ ap (λ (l : List ℕ). parts.ys ++ l) tail, subst (IsHead parts.ys parts.v.kind) size head, last.0) in
-    subst (IsEntry xs) last.2 made
+    let head = head_spelled entry sum parts.ys parts.v (bytes_before parts.ys parts.zs (subst AreBytes parts.both are)) parts.first in
+    let made : IsEntry xs (record { kind = parts.v.kind; body = more.v }) = (parts.ys, parts.both ∙ ap (λ (l : List ℕ). parts.ys ++ l) tail, subst (IsHead parts.ys parts.v.kind) size head.is, last.0) in
+    record {
+      is = subst (IsEntry xs) last.2 made;
+      fits = subst (λ (c : Content). is_too_large sum (length c.body) ≡ false) last.2 (subst (λ (n : ℕ). is_too_large sum n ≡ false) size head.fits);
+    }
 
-record HasEntries (left : ℕ) (read : List Content) (xs : List ℕ) (all : List Content) : Type 0 where
+or_false : (a b : Bool) → (a || b) ≡ false → (a ≡ false) × (b ≡ false)
+or_false true b is = absurd (cc)
+or_false false b is = (refl, is)
+
+fits_is : (sum size : ℕ) → is_too_large sum size ≡ false → (size ≤ 16777216) × (sum + size ≤ 268435456)
+fits_is sum size is =
+    let both = or_false (nat_lt 16777216 size) (nat_lt 268435456 (sum + size)) is in
+    (ltb-false 16777216 size both.0, ltb-false 268435456 (sum + size) both.1)
+
+record HasEntries (left sum : ℕ) (read : List Content) (xs : List ℕ) (all : List Content) : Type 0 where
   news : List Content
   both : all ≡ read ++ news
   are : AreEntries xs news
   count : length news ≡ left
+  short : AreShort news
+  light : sum + total news ≤ 268435456
 
-entries_spelled : (left entry sum : ℕ) (read : List Content) (xs : List ℕ) (all : List Content) → AreBytes xs → Spells (pack_entries left entry sum read) xs all → HasEntries left read xs all
+entries_spelled : (left entry sum : ℕ) (read : List Content) (xs : List ℕ) (all : List Content) → sum ≤ 268435456 → AreBytes xs → Spells (pack_entries left entry sum read) xs all → HasEntries left sum read xs all
 unfolding pack_entries
-entries_spelled zero entry sum read xs all are is =
+entries_spelled zero entry sum read xs all low are is =
     let both = gives_spelled read all xs is in
-    record { news = []; both = sym both.1 ∙ sym (append-nil read); are = both.0; count = refl }
-entries_spelled (suc left) entry sum read xs all are is =
+    record { news = []; both = sym both.1 ∙ sym (append-nil read); are = both.0; count = refl; short = tt; light = omega (arith, low) }
+entries_spelled (suc left) entry sum read xs all low are is =
     let parts = splits (λ content. pack_entries left (entry + 1) (sum + length content.body) (read ++ content ∷ [])) (pack_entry entry sum) xs all is in
     let are_both : AreBytes (parts.ys ++ parts.zs) = subst AreBytes parts.both are in
-    let rest = entries_spelled left (entry + 1) (sum + length parts.v.body) (read ++ parts.v ∷ []) parts.zs all (bytes_behind parts.ys parts.zs are_both) parts.second in
+    let one = entry_spelled entry sum parts.ys parts.v (bytes_before parts.ys parts.zs are_both) parts.first in
+    let fits = fits_is sum (length parts.v.body) one.fits in
+    let rest = entries_spelled left (entry + 1) (sum + length parts.v.body) (read ++ parts.v ∷ []) parts.zs all fits.1 (bytes_behind parts.ys parts.zs are_both) parts.second in
     record {
       news = parts.v ∷ rest.news;
       both = rest.both ∙ append_assoc read (parts.v ∷ []) rest.news;
-      are = (parts.ys, parts.zs, parts.both, entry_spelled entry sum parts.ys parts.v (bytes_before parts.ys parts.zs are_both) parts.first, rest.are);
+      are = (parts.ys, parts.zs, parts.both, one.is, rest.are);
       count = omega (arith, rest.count);
+      short = (fits.0, rest.short);
+      light = omega (arith, rest.light);
     }
 
 record HasSigned (xs : List ℕ) (contents : List Content) : Type 0 where
   entries : List ℕ
   are : AreEntries entries contents
+  within : IsWithin contents
   whole : xs ≡ signed entries contents
 
 signed_spelled : (xs : List ℕ) (contents : List Content) → AreBytes xs → Spells signed_part xs contents → HasSigned xs contents
@@ -237,13 +273,18 @@ unfolding signed_part
 signed_spelled xs contents are is =
     let parts = splits (λ count. pack_entries count 0 0 []) header xs contents is in
     let are_both : AreBytes (parts.ys ++ parts.zs) = subst AreBytes parts.both are in
-    let rest = entries_spelled parts.v 0 0 [] parts.zs contents (bytes_behind parts.ys parts.zs are_both) parts.second in
-    let head : parts.ys ≡ codes "PACK" ++ to_be_bytes w32 2 ++ to_be_bytes w32 parts.v = header_spelled parts.ys parts.v (bytes_before parts.ys parts.zs are_both) parts.first in
+    let rest = entries_spelled parts.v 0 0 [] parts.zs contents (omega arith) (bytes_behind parts.ys parts.zs are_both) parts.second in
+    let head = header_spelled parts.ys parts.v (bytes_before parts.ys parts.zs are_both) parts.first in
     let count : parts.v ≡ length contents = sym rest.count ∙ ap length (sym rest.both) in
     record {
       entries = parts.zs;
       are = subst (AreEntries parts.zs) (sym rest.both) rest.are;
-      whole = parts.both ∙ ap (λ (l : List ℕ). l ++ parts.zs) head ∙ ap (λ (n : ℕ). codes "PACK" ++ to_be_bytes w32 2 ++ to_be_bytes w32 n ++ parts.zs) count;
+      within = record {
+        few = subst (λ (n : ℕ). n ≤ 100000) count head.1;
+        short = subst AreShort (sym rest.both) rest.short;
+        light = subst (λ (l : List Content). total l ≤ 268435456) (sym rest.both) (omega (arith, rest.light));
+      };
+      whole = parts.both ∙ ap (λ (l : List ℕ). l ++ parts.zs) head.0 ∙ ap (λ (n : ℕ). codes "PACK" ++ to_be_bytes w32 2 ++ to_be_bytes w32 n ++ parts.zs) count;
     }
 
 end_spelled : (computed : List ℕ) (found contents : List Content) (xs : List ℕ) → Spells (pack_end computed found) xs contents → (xs ≡ computed) × (found ≡ contents)
@@ -260,7 +301,7 @@ end_spelled computed found contents xs is =
     )
 
 pack_by : (input : List ℕ) (n : ℕ) (contents : List Content) (at : Front (List Content) PackFault) → AreBytes input → front signed_part input ≡ at → pack_front input ≡ Whole n contents
-    → (n ≤ length input) × IsPack (take n input) contents
+    → BeginsWith input n contents
 unfolding pack_front
 pack_by input n contents (Broken m fault) are is whole = absurd (let at : pack_front input ≡ Broken m fault = ap (λ at. and_then at (λ n found. front (pack_end (sha1 (take n input)) found) (drop n input))) is in cc)
 pack_by input n contents (Partial fault) are is whole = absurd (let at : pack_front input ≡ Partial fault = ap (λ at. and_then at (λ n found. front (pack_end (sha1 (take n input)) found) (drop n input))) is in cc)
@@ -278,7 +319,11 @@ pack_by input n contents (Whole m found) are is whole =
     let cut : take n input ≡ take m input ++ take inner.0 (drop m input) = ap (λ (i : ℕ). take i input) inner.2 ∙ take-add m inner.0 input in
     let pack : IsPack (take n input) found =
     (signed_is.entries, signed_is.are, cut ∙ ap (λ (l : List ℕ). take m input ++ l) end_is.0 ∙ ap (λ (l : List ℕ). l ++ sha1 l) signed_is.whole) in
-    (omega (arith, inner.2, rest, within, length-drop m input), subst (IsPack (take n input)) end_is.1 pack)
+    record {
+      within = omega (arith, inner.2, rest, within, length-drop m input);
+      pack = subst (IsPack (take n input)) end_is.1 pack;
+      limits = subst IsWithin end_is.1 signed_is.within;
+    }
 
-pub read_is_pack : (input : List ℕ) (n : ℕ) (contents : List Content) → AreBytes input → pack_front input ≡ Whole n contents → (n ≤ length input) × IsPack (take n input) contents
+pub read_is_pack : (input : List ℕ) (n : ℕ) (contents : List Content) → AreBytes input → pack_front input ≡ Whole n contents → BeginsWith input n contents
 read_is_pack input n contents are is = pack_by input n contents (front signed_part input) are refl is

@@ -84,7 +84,7 @@ unfolding signed_part
 signed_both old mid new before between after count answer p later q = reads_then header (λ count. pack_entries count 0 0 []) old mid new before between after count answer p later q
 
 -- a trailer behind a signed part that is whole
-front-pack : (xs ys : List ℕ) (contents : List Content) → front signed_part xs ≡ Whole (length xs) contents → pack_front (xs ++ ys) ≡ behind (length xs) (front (pack_end (sha1 xs) contents) ys)
+pub front-pack : (xs ys : List ℕ) (contents : List Content) → front signed_part xs ≡ Whole (length xs) contents → pack_front (xs ++ ys) ≡ behind (length xs) (front (pack_end (sha1 xs) contents) ys)
 unfolding pack_front
 front-pack xs ys contents is =
     ap (λ at. and_then at (λ n found. front (pack_end (sha1 (take n (xs ++ ys))) found) (drop n (xs ++ ys)))) (whole_stays signed_part xs ys (length xs) contents is)

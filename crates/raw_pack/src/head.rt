@@ -33,14 +33,9 @@ pub fn read_header<S: Source>(source: &mut S, hasher: &mut Sha1) -> Result<u32, 
     ensures writing { KeepsWriting (S.state source.old) (S.state source.new) }
     ensures later { IsLater (S.state source.old) (S.state source.new) }
 {
-    match read_signature(source, hasher) {
-        Ok(()) => {}
-        Err(fault) => return Err(fault),
-    }
-    match read_version(source, hasher) {
-        Ok(()) => read_count(source, hasher),
-        Err(fault) => Err(fault),
-    }
+    read_signature(source, hasher)?;
+    read_version(source, hasher)?;
+    read_count(source, hasher)
 }
 
 fn read_signature<S: Source>(source: &mut S, hasher: &mut Sha1) -> Result<(), PackFault>
@@ -49,10 +44,7 @@ fn read_signature<S: Source>(source: &mut S, hasher: &mut Sha1) -> Result<(), Pa
     ensures later { IsLater (S.state source.old) (S.state source.new) }
 {
     let mut four = [0; 4];
-    match take_bytes(source, hasher, &mut four, 0) {
-        Ok(()) => {}
-        Err(fault) => return Err(fault),
-    }
+    take_bytes(source, hasher, &mut four, 0)?;
     if four.as_slice() == b"PACK".as_slice() {
         return Ok(());
     }
@@ -64,11 +56,11 @@ fn read_version<S: Source>(source: &mut S, hasher: &mut Sha1) -> Result<(), Pack
     ensures writing { KeepsWriting (S.state source.old) (S.state source.new) }
     ensures later { IsLater (S.state source.old) (S.state source.new) }
 {
-    match take_word(source, hasher) {
-        Ok(2) => Ok(()),
-        Ok(number) => Err(PackFault::Version(number)),
-        Err(fault) => Err(fault),
+    let number = take_word(source, hasher)?;
+    if number == 2 {
+        return Ok(());
     }
+    Err(PackFault::Version(number))
 }
 
 fn read_count<S: Source>(source: &mut S, hasher: &mut Sha1) -> Result<u32, PackFault>
@@ -76,15 +68,11 @@ fn read_count<S: Source>(source: &mut S, hasher: &mut Sha1) -> Result<u32, PackF
     ensures writing { KeepsWriting (S.state source.old) (S.state source.new) }
     ensures later { IsLater (S.state source.old) (S.state source.new) }
 {
-    match take_word(source, hasher) {
-        Ok(number) => {
-            if number > MAX_ENTRIES {
-                return Err(PackFault::TooMany(number));
-            }
-            Ok(number)
-        }
-        Err(fault) => Err(fault),
+    let number = take_word(source, hasher)?;
+    if number > MAX_ENTRIES {
+        return Err(PackFault::TooMany(number));
     }
+    Ok(number)
 }
 
 /// The head of an entry, where the bodies before have so many bytes together.
@@ -100,10 +88,7 @@ pub fn read_entry_head<S: Source>(
     ensures writing { KeepsWriting (S.state source.old) (S.state source.new) }
     ensures later { IsLater (S.state source.old) (S.state source.new) }
 {
-    let first = match take_byte(source, hasher, entry) {
-        Ok(first) => first,
-        Err(fault) => return Err(fault),
-    };
+    let first = take_byte(source, hasher, entry)?;
     let bits = first / 16 % 8;
     let Some(kind) = kind_of(bits) else {
         if bits > 5 {
@@ -163,10 +148,7 @@ fn read_more_size<S: Source>(
     let mut unit = 16;
     let mut left = 4u8;
     while left > 0 {
-        let next = match take_byte(source, hasher, entry) {
-            Ok(next) => next,
-            Err(fault) => return Err(fault),
-        };
+        let next = take_byte(source, hasher, entry)?;
         if next == 0 {
             return Err(PackFault::BadHead(entry));
         }

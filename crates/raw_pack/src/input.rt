@@ -37,10 +37,8 @@ pub fn take_byte<S: Source>(source: &mut S, hasher: &mut Sha1, entry: u32) -> Re
     ensures later { IsLater (S.state source.old) (S.state source.new) }
 {
     let mut room = [0; 1];
-    match take_bytes(source, hasher, &mut room, entry) {
-        Ok(()) => Ok(room[0]),
-        Err(fault) => Err(fault),
-    }
+    take_bytes(source, hasher, &mut room, entry)?;
+    Ok(room[0])
 }
 
 /// Four bytes of the header as a number, the highest first.
@@ -50,8 +48,6 @@ pub fn take_word<S: Source>(source: &mut S, hasher: &mut Sha1) -> Result<u32, Pa
     ensures later { IsLater (S.state source.old) (S.state source.new) }
 {
     let mut room = [0; 4];
-    match take_bytes(source, hasher, &mut room, 0) {
-        Ok(()) => Ok(u32::from_be_bytes(room)),
-        Err(fault) => Err(fault),
-    }
+    take_bytes(source, hasher, &mut room, 0)?;
+    Ok(u32::from_be_bytes(room))
 }

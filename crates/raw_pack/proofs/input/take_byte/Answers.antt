@@ -1,12 +1,14 @@
-use Rattle.std.proofs.Common.{refl}
+use Rattle.std.proofs.Common.{refl, ◌≡◌, Err, rules}
 use Rattle.raw_pack.specs.Packs.{byte}
 use Rattle.raw_pack.proofs.ReadLemmas.{reads_gives, reads_first}
 use Rattle.raw_pack.proofs.input.take_byte.Goals as goal
 
-pub returns-in-Ok-clause-reads : goal.returns-in-Ok-clause-reads
+pub returns-clause-reads : goal.returns-clause-reads
 unfolding byte
-returns-in-Ok-clause-reads g c = reads_gives _ _ _ _ _ _ _ _ refl c.in-Ok.ensures.reads
+returns-clause-reads g c = reads_gives _ _ _ _ _ _ _ _ refl c.in_ok-take_bytes.ensures.reads
 
-pub returns-in-Err-clause-reads : goal.returns-in-Err-clause-reads
+pub returns-in_err-take_bytes-clause-reads : goal.returns-in_err-take_bytes-clause-reads
 unfolding byte
-returns-in-Err-clause-reads g c = reads_first _ _ _ _ _ _ _ c.in-Err.fault c.in-Err.ensures.reads
+returns-in_err-take_bytes-clause-reads g c =
+    let answer : c.from_residual.result ≡ Err c.in_err-take_bytes.field-0.0 = search rules in
+    rw answer (reads_first _ _ _ _ _ _ _ c.in_err-take_bytes.field-0.0 c.in_err-take_bytes.ensures.reads)
