@@ -1,0 +1,10 @@
+pub mod Reader
+pub mod ObjectId
+pub mod Kind
+pub mod Commit
+pub mod Tree
+pub mod Tag
+pub mod Content
+pub mod Object
+pub mod Before
+pub mod Spelling
