@@ -1,0 +1,4 @@
+pub mod ListLemmas
+pub mod NameLemmas
+pub mod HistoryLemmas
+pub mod ObjectLemmas
