@@ -89,10 +89,8 @@ once-push : (state : State) (pinned : Pinned) (pack : List Content) (commands : 
 unfolding push_change
 once-push state pinned pack commands outcomes each = by_done (list_any is_done outcomes)
   where
-    abbrev now : Repository
-    now = repository_at state pinned.repo
-    by_done : (b : Bool) → EachOnce (placed_in state.repositories (put_in_place pinned.repo (if b then Some (record now { objects = with_pack now.objects pack; refs = refs_left now.refs commands outcomes }) else None)))
-    by_done true = once-insert state.repositories pinned.repo _ (once-with_pack now.objects pack (once_at state each pinned.repo)) each
+    by_done : (b : Bool) → EachOnce (placed_in state.repositories (put_in_place pinned.repo (if b then Some (record (repository_at state pinned.repo) { objects = with_pack (repository_at state pinned.repo).objects pack; refs = refs_left (repository_at state pinned.repo).refs commands outcomes }) else None)))
+    by_done true = once-insert state.repositories pinned.repo _ (once-with_pack (repository_at state pinned.repo).objects pack (once_at state each pinned.repo)) each
     by_done false = each
 
 once-after : (h : History) (event : Event) → IsDue h event → EachOnce h.state.repositories → EachOnce (after h event).state.repositories

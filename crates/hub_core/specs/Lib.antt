@@ -6,5 +6,7 @@ pub mod Pin
 pub mod Push
 pub mod History
 pub mod Hub
+pub mod Answer
+pub mod Desk
 pub mod Laws
 pub mod Codes

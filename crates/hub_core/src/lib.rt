@@ -14,13 +14,16 @@
 #![tactic(auto)]
 
 mod command;
+mod desk;
 mod entry;
+mod hub;
 mod judging;
 mod laws;
 mod name;
 mod name_table;
 mod outcome;
 mod pin;
+mod push;
 mod rule;
 mod state;
 mod store;
@@ -28,7 +31,9 @@ mod verdict;
 
 pub use base_types::{ItemList, NoMemory, Text};
 pub use command::{Command, CommandList};
+pub use desk::{Desk, LoneDesk};
 pub use entry::{EnterKept, Entry, EntryList, Event};
+pub use hub::{Entered, Hub, Pushed};
 pub use judging::{Judged, judge};
 pub use laws::laws as hold_laws;
 pub use name::{RepoName, UserName};

@@ -1,5 +1,6 @@
 // The rules in force.
-ghost use Rattle.std.specs.Prelude.{◌≡◌, IfOk, length, ◌≤◌};
+ghost use Rattle.std.specs.Prelude.{◌≡◌, ◌<◌, IfOk, IfSome};
+ghost use Rattle.std.specs.List.{position};
 ghost use Rattle.hub_core.specs.Rule.{covers_user, covers, first_stage, may_create, setup_rules};
 
 use crate::name::{RepoName, UserName};
@@ -72,10 +73,17 @@ impl Policy {
     pub(crate) fn first_stage(&self, user: &UserName, repo: &RepoName, want: Want) -> Verdict
         ensures { result ≡ first_stage self.now user.now repo.now want }
     {
-        match self.rules.iter().position(|rule| rule.covers(user, repo)) {
+        match self.first_covering(user, repo) {
             Some(at) => Verdict::Allowed(at as u32 + 1),
             None => Verdict::Fallthru,
         }
+    }
+
+    fn first_covering(&self, user: &UserName, repo: &RepoName) -> Option<usize>
+        ensures first { result ≡ position (covers user.now repo.now) self.now }
+        ensures few { IfSome result (λ at. at < 100000) }
+    {
+        self.rules.iter().position(|rule| rule.covers(user, repo))
     }
 
     pub(crate) fn may_create(&self, user: &UserName, repo: &RepoName) -> Verdict

@@ -1,5 +1,5 @@
 // A repository as the hub hosts it.
-ghost use Rattle.std.specs.Prelude.{◌≡◌, IfOk};
+ghost use Rattle.std.specs.Prelude.{◌≡◌, [], IfOk};
 ghost use Rattle.hub_core.specs.State.{store_of};
 
 use crate::name::UserName;
