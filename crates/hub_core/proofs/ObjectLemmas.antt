@@ -31,15 +31,17 @@ none_of_two : (a b : Bool) → (a || b) ≡ false → (a ≡ false) × (b ≡ fa
 none_of_two true b is = cc
 none_of_two false b is = (refl, is)
 
-all_more : (P : ObjectId → Type 0) (objects : List Content) (o : Content) → AllByRecursion P (map object_name objects) → P (object_name o) → AllByRecursion P (map object_name (objects ++ o ∷ []))
-all_more P [] o all here = (here, tt)
-all_more P (x ∷ xs) o all here = (all.0, all_more P xs o all.1 here)
+any_more : (p : Content → Bool) (objects : List Content) (o : Content) → list_any p objects ≡ false → p o ≡ false → list_any p (objects ++ o ∷ []) ≡ false
+any_more p [] o none here = ap (λ b. b || false) here
+any_more p (x ∷ xs) o none here =
+    let parts = none_of_two (p x) (list_any p xs) none in
+    ap (λ b. b || list_any p (xs ++ o ∷ [])) parts.0 ∙ any_more p xs o parts.1 here
 
 once_more : (objects : List Content) (o : Content) → HasNamesOnce objects → has_object objects (object_name o) ≡ false → HasNamesOnce (objects ++ o ∷ [])
-once_more [] o once absent = (tt, tt)
+once_more [] o once absent = (refl, tt)
 once_more (x ∷ xs) o once absent =
     let apart = none_of_two (same_id (object_name x) (object_name o)) (has_object xs (object_name o)) absent in
-    (all_more (λ y. same_id (object_name x) y ≡ false) xs o once.0 apart.0, once_more xs o once.1 apart.1)
+    (any_more (λ later. same_id (object_name x) (object_name later)) xs o once.0 apart.0, once_more xs o once.1 apart.1)
 
 once-with_pack : (objects pack : List Content) → HasNamesOnce objects → HasNamesOnce (with_pack objects pack)
 once-with_pack objects [] once = once

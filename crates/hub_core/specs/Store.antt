@@ -1,6 +1,6 @@
 -- What a repository stores: objects, of which each has its name once, and refs.
-use Rattle.std.specs.Prelude.{ℕ, Bool, ◌&&◌, not, nat_eq, List, [], ◌∷◌, ◌++◌, map, Option, None, Some, if◌then◌else◌}
-use Rattle.std.specs.List.{list_any, IsDistinct}
+use Rattle.std.specs.Prelude.{◌≡◌, ℕ, Bool, false, ◌&&◌, not, nat_eq, List, [], ◌∷◌, ◌++◌, Option, None, Some, if◌then◌else◌}
+use Rattle.std.specs.List.{list_any}
 use Rattle.std.specs.Option.{unwrap_or}
 use Rattle.std.specs.FinMap.{get, insert, remove}
 use Rattle.base_types.specs.Names.{ByName}
@@ -53,6 +53,7 @@ abbrev pub with_pack : List Content → List Content → List Content
 with_pack objects [] = objects
 with_pack objects (o ∷ os) = with_pack (if has_object objects (object_name o) then objects else objects ++ o ∷ []) os
 
--- no two objects have one name
+-- no two objects have one name: none has the name of one before it
 abbrev pub HasNamesOnce : List Content → Type 0
-HasNamesOnce objects = IsDistinct same_id (map object_name objects)
+HasNamesOnce [] = Unit {0}
+HasNamesOnce (o ∷ os) = (list_any (λ later. same_id (object_name o) (object_name later)) os ≡ false) × HasNamesOnce os
