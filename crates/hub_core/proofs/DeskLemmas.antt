@@ -35,6 +35,6 @@ pub calls_keep : (old new : DeskView) (before : List Entry) (e : Option Event) �
 calls_keep old new before None calls pin stands = subst (λ (d : DeskView). Stands pin (known d)) (sym calls.0) stands
 calls_keep old new before (Some e) calls pin stands =
     let grown : known new ≡ record { admin = old.admin; log = old.seen ++ (calls.others ++ calls.entry ∷ []) } =
-        ap (λ a. record { admin = a; log = new.seen }) calls.admin
-        ∙ ap (λ l. record { admin = old.admin; log = l }) (calls.seen ∙ ap (λ l. l ++ calls.entry ∷ []) calls.before_is ∙ append_assoc old.seen calls.others (calls.entry ∷ [])) in
+    ap (λ a. record { admin = a; log = new.seen }) calls.admin
+    ∙ ap (λ l. record { admin = old.admin; log = l }) (calls.seen ∙ ap (λ l. l ++ calls.entry ∷ []) calls.before_is ∙ append_assoc old.seen calls.others (calls.entry ∷ [])) in
     subst (λ (h : HubView). Stands pin h) (sym grown) (stands_kept old.admin old.seen (calls.others ++ calls.entry ∷ []) pin.place pin.pinned stands)

@@ -8,5 +8,6 @@ pub mod History
 pub mod Hub
 pub mod Answer
 pub mod Desk
+pub mod Run
 pub mod Laws
 pub mod Codes

@@ -248,7 +248,9 @@ impl Hub {
         ensures logs { IfOk result (λ os. self.new ≡ logged self.old caller (Event.Pushed pin.now.place pack commands atomic os)) }
         ensures err { OnErr result (self.new ≡ self.old) }
     {
-        let Decided { outcomes, next } = self.decide_now(alloc, pin, &pack, &commands, atomic, &judged)?;
+        let Decided { outcomes, next } = self.decide_now(
+            alloc, pin, &pack, &commands, atomic, &judged,
+        )?;
         let told = outcomes.clone()?;
         let changes = in_place(alloc, pin.repo_name(), next)?;
         let event = Event::Pushed {

@@ -1,5 +1,5 @@
 // Laws of the definitions.
-ghost use Rattle.hub_core.specs.Laws.{BeginningIsLegal, LegalByPlaces, NamesStayOnce, OpeningStays, PinsOfItsPlace, StateStays};
+ghost use Rattle.hub_core.specs.Laws.{BeginningIsLegal, LegalByPlaces, NamesStayOnce, OpeningStays, PinsOfItsPlace, PushesNameOpenings, RunsAreLegal, StateStays};
 
 /// Laws, which hold of every log.
 pub fn laws()
@@ -8,5 +8,7 @@ pub fn laws()
     ensures stays { StateStays }
     ensures stands { OpeningStays }
     ensures pins { PinsOfItsPlace }
+    ensures pushes { PushesNameOpenings }
     ensures names { NamesStayOnce }
+    ensures runs { RunsAreLegal }
 {}

@@ -42,3 +42,6 @@ pub use pin::Pin;
 pub use rule::{Policy, Rule};
 pub use store::Repo;
 pub use verdict::{Verdict, Want};
+
+#[cfg(test)]
+mod tests;

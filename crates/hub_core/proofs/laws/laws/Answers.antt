@@ -3,6 +3,9 @@ use Rattle.std.proofs.lemmas.List.{take-append-le}
 use Rattle.hub_core.specs.History.{new_history, replay}
 use Rattle.hub_core.proofs.HistoryLemmas.{IsLegalFrom-beginning, stands_kept, due_at, legal_by_places, opening_at-place}
 use Rattle.hub_core.proofs.ObjectLemmas.{names_once}
+use Rattle.hub_core.specs.Run.{new_hub}
+use Rattle.hub_core.proofs.OpeningLemmas.{push_named}
+use Rattle.hub_core.proofs.RunLemmas.{run_keeps}
 use Rattle.hub_core.proofs.laws.laws.Goals as goal
 
 pub returns-clause-places : goal.returns-clause-places
@@ -22,3 +25,9 @@ returns-clause-pins c = λ admin before entry more. opening_at-place admin befor
 
 pub returns-clause-names : goal.returns-clause-names
 returns-clause-names c = λ admin log legal name repository is. names_once admin log legal name repository is
+
+pub returns-clause-runs : goal.returns-clause-runs
+returns-clause-runs c = λ admin later run. run_keeps (new_hub admin) later run tt
+
+pub returns-clause-pushes : goal.returns-clause-pushes
+returns-clause-pushes c = λ admin log index caller place pack commands atomic outcomes legal here. push_named admin log index caller place pack commands atomic outcomes legal here

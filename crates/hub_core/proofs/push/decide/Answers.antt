@@ -17,7 +17,7 @@ pub together-requires : goal.together-requires
 together-requires c =
     let slice : c.as_slice.result.now ≡ c.args.commands.now = c.as_slice.ensures in
     let len : length c.in_ok-ran.ran ≡ length c.as_slice.result.now =
-        ap length c.in_ok-ran.ensures.outcomes ∙ length-in_order c.in_ok-repo.repo.refs c.as_slice.result.now c.args.judged.now (c.requires.alike ∙ ap length (sym slice)) in
+    ap length c.in_ok-ran.ensures.outcomes ∙ length-in_order c.in_ok-repo.repo.refs c.as_slice.result.now c.args.judged.now (c.requires.alike ∙ ap length (sym slice)) in
     omega (arith, len, ap length slice, c.requires.few)
 
 pub returns-clause-next : goal.returns-clause-next
