@@ -2,6 +2,7 @@
 use Rattle.std.proofs.Common.{◌≡◌, ℕ, List, [], ◌∷◌, ◌++◌, refl, sym, ◌∙◌, ap, ◌≤◌, length, drop, nat_eq, append-nil, append_assoc, subst}
 use Rattle.std.specs.Prelude.{Option, Some, None}
 use Rattle.std.specs.List.{filter}
+use Rattle.std.proofs.Math.Seq.{drop-length}
 use Rattle.std.proofs.lemmas.List.{drop-append-le}
 use Rattle.std.proofs.lemmas.List.Elements.{filter-append}
 use Rattle.hub_core.specs.declared.entry.Entry.{Entry}
@@ -38,3 +39,7 @@ calls_keep old new before (Some e) calls pin stands =
     ap (λ a. record { admin = a; log = new.seen }) calls.admin
     ∙ ap (λ l. record { admin = old.admin; log = l }) (calls.seen ∙ ap (λ l. l ++ calls.entry ∷ []) calls.before_is ∙ append_assoc old.seen calls.others (calls.entry ∷ [])) in
     subst (λ (h : HubView). Stands pin h) (sym grown) (stands_kept old.admin old.seen (calls.others ++ calls.entry ∷ []) pin.place pin.pinned stands)
+
+-- a desk that begins has no entries of its own
+pub known_alone-new : (hub : HubView) → known_alone (length hub.log) hub ≡ record { admin = hub.admin; seen = hub.log; mine = [] }
+known_alone-new hub = ap (λ l. record { admin = hub.admin; seen = hub.log; mine = filter (λ (e : Entry). nat_eq e.caller 0) l }) (drop-length hub.log)

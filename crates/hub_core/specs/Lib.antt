@@ -8,6 +8,7 @@ pub mod History
 pub mod Hub
 pub mod Answer
 pub mod Desk
+pub mod LoneDesk
 pub mod Run
 pub mod Laws
 pub mod Codes

@@ -2,7 +2,7 @@
 ghost use Rattle.std.specs.Prelude.{◌≡◌, ◌<◌, ◌≤◌, ◌^◌, length};
 ghost use Rattle.hub_core.specs.Hub.{Stands};
 ghost use Rattle.hub_core.specs.Push.{judgement};
-ghost use Rattle.hub_core.specs.Desk.{DeskView, Enters, KeepsPins, known, known_alone, Pushes};
+ghost use Rattle.hub_core.specs.Desk.{DeskView, Enters, KeepsPins, known, Pushes};
 
 use crate::command::CommandList;
 use crate::hub::{Entered, Hub, Pushed};
@@ -51,16 +51,20 @@ pub struct LoneDesk {
 }
 
 impl LoneDesk {
+    ghost use Rattle.std.specs.Prelude.{◌≡◌, []};
+    ghost use Rattle.hub_core.specs.Desk.{known};
+    ghost use Rattle.hub_core.specs.LoneDesk.{desk_of};
+
+    /// The desk's own entries are those that it will make.
     pub fn new(hub: Hub) -> LoneDesk
-        ensures hub { result.hub ≡ hub }
-        ensures start { result.start ≡ length hub.log }
+        ensures { desk_of result ≡ record { admin = hub.admin; seen = hub.log; mine = [] } }
     {
         let start = hub.log().len();
         LoneDesk { hub, start }
     }
 
     pub fn into_hub(self) -> Hub
-        ensures { result ≡ self.hub }
+        ensures { result ≡ known (desk_of self) }
     {
         let LoneDesk { hub, start: _ } = self;
         hub
@@ -68,7 +72,9 @@ impl LoneDesk {
 }
 
 impl Desk for LoneDesk {
-    ghost view = { λ d. known_alone d.start d.hub };
+    ghost use Rattle.hub_core.specs.LoneDesk.{desk_of};
+
+    ghost view = { desk_of };
 
     fn enter(&mut self, alloc: Global, user: &UserName, repo: &RepoName, want: Want) -> Entered {
         self.hub.enter(alloc, 0, user, repo, want)

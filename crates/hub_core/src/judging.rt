@@ -51,11 +51,11 @@ pub fn judge(
 
 fn judge_one(
     pin: &Pin,
-    _pack: &ObjectList,
-    _commands: &CommandList,
+    pack: &ObjectList,
+    commands: &CommandList,
     command: &Command,
 ) -> Option<Outcome>
-    ensures { result ≡ judged pin.now.pinned _pack.now _commands.now command.now }
+    ensures { result ≡ judged pin.now.pinned pack.now commands.now command.now }
 {
     let value = pin.repo().value(&command.name);
     if value == command.old {

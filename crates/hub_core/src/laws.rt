@@ -1,8 +1,8 @@
 // Laws of the definitions.
 ghost use Rattle.hub_core.specs.Laws.{BeginningIsLegal, LegalByPlaces, NamesStayOnce, OpeningStays, PinsOfItsPlace, PushesNameOpenings, RunsAreLegal, StateStays};
 
-/// Laws, which hold of every log.
-pub fn laws()
+/// The laws hold, of every log.
+pub fn hold_laws()
     ensures places { LegalByPlaces }
     ensures beginning { BeginningIsLegal }
     ensures stays { StateStays }

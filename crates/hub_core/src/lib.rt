@@ -35,7 +35,7 @@ pub use desk::{Desk, LoneDesk};
 pub use entry::{EnterKept, Entry, EntryList, Event};
 pub use hub::{Entered, Hub, Pushed};
 pub use judging::{Judged, judge};
-pub use laws::laws as hold_laws;
+pub use laws::hold_laws;
 pub use name::{RepoName, UserName};
 pub use outcome::{Outcome, OutcomeList};
 pub use pin::Pin;

@@ -142,21 +142,21 @@ fn create<D: Desk>(
 }
 
 // Two openings before two creates of one branch, and a third create of it by an opening behind them.
-fn create_thrice<D: Desk>(alloc: Global, desk: &mut D) -> Result<[OutcomeList; 3], Fail> {
+fn create_thrice<D: Desk>(alloc: Global, desk: &mut D) -> Result<(OutcomeList, OutcomeList, OutcomeList), Fail> {
     let first = open(alloc, desk, b"carol", b"testing")?.ok_or("first")?;
     let second = open(alloc, desk, b"dave", b"testing")?.ok_or("second")?;
     let done = create(alloc, desk, first, b"1", b"a", A, false)?;
     let stale = create(alloc, desk, second, b"2", b"a", B, false)?;
     let third = open(alloc, desk, b"carol", b"testing")?.ok_or("third")?;
     let late = create(alloc, desk, third, b"3", b"a", A, false)?;
-    Ok([done, stale, late])
+    Ok((done, stale, late))
 }
 
 #[test]
 fn a_create_is_judged_by_its_opening_and_then_by_the_refs(rt: HostRuntime) -> Result<(), Fail> {
     let alloc = rt.alloc();
     let mut desk = new_desk(alloc)?;
-    let [done, stale, late] = create_thrice(alloc, &mut desk)?;
+    let (done, stale, late) = create_thrice(alloc, &mut desk)?;
     assert!(rt; done.as_slice() == [Outcome::Done].as_slice());
     assert!(rt; stale.as_slice() == [Outcome::Stale(A)].as_slice());
     assert!(rt; late.as_slice() == [Outcome::NotAdvertised(A)].as_slice());

@@ -6,7 +6,7 @@ use Rattle.hub_core.proofs.ObjectLemmas.{names_once}
 use Rattle.hub_core.specs.Run.{new_hub}
 use Rattle.hub_core.proofs.OpeningLemmas.{push_named}
 use Rattle.hub_core.proofs.RunLemmas.{run_keeps}
-use Rattle.hub_core.proofs.laws.laws.Goals as goal
+use Rattle.hub_core.proofs.laws.hold_laws.Goals as goal
 
 pub returns-clause-places : goal.returns-clause-places
 returns-clause-places c = λ admin log. (λ legal place entry is. due_at (new_history admin) log place entry legal is, λ each. legal_by_places (new_history admin) log each)
