@@ -76,6 +76,7 @@ push_named admin log index caller place pack commands atomic outcomes legal here
   where
     before_legal : IsLegal admin (take index log)
     before_legal = IsLegalFrom-beginning (new_history admin) (take index log) (drop index log) (subst (IsLegal admin) (sym (take-append-drop index log)) legal)
+
     by_opening : (o : Option Pinned) → opening_at (history admin (take index log)) place ≡ o → IsDuePush (replay admin (take index log)) o pack commands atomic outcomes → NamesOpening admin (take index log) place pack commands atomic outcomes
     by_opening None is due = absurd due
     by_opening (Some p) is due = record { pinned = p; for_writing = due.0; opening = pinned_at admin (take index log) place p before_legal is; some_commands = due.1; told = due.2 }

@@ -81,10 +81,21 @@ fn pack(alloc: Global, body: &[u8; 1]) -> Result<ObjectList, Fail> {
     Ok(pack)
 }
 
-// How many objects `testing` has, and the value of a branch there.
-fn testing(alloc: Global, hub: &Hub, branch: &[u8]) -> Result<(usize, ObjectId), Fail> {
+// Whether `testing` has so many objects, and a branch of this value.
+fn testing_has(
+    alloc: Global,
+    hub: &Hub,
+    branch: &[u8],
+    objects: usize,
+    value: ObjectId,
+) -> Result<bool, Fail> {
     let repo = hub.repo(&Text::of(alloc, b"testing")?).ok_or("testing")?;
-    Ok((repo.objects().len(), repo.value(&Text::of(alloc, branch)?)))
+    let branch = Text::of(alloc, branch)?;
+    Ok(repo.objects().len() == objects && repo.value(&branch) == value)
+}
+
+fn is_told(outcomes: &OutcomeList, due: &[Outcome]) -> bool {
+    outcomes.as_slice() == due
 }
 
 fn answers(log: &EntryList, place: usize, due: EnterKept) -> bool {
@@ -142,7 +153,10 @@ fn create<D: Desk>(
 }
 
 // Two openings before two creates of one branch, and a third create of it by an opening behind them.
-fn create_thrice<D: Desk>(alloc: Global, desk: &mut D) -> Result<(OutcomeList, OutcomeList, OutcomeList), Fail> {
+fn create_thrice<D: Desk>(
+    alloc: Global,
+    desk: &mut D,
+) -> Result<(OutcomeList, OutcomeList, OutcomeList), Fail> {
     let first = open(alloc, desk, b"carol", b"testing")?.ok_or("first")?;
     let second = open(alloc, desk, b"dave", b"testing")?.ok_or("second")?;
     let done = create(alloc, desk, first, b"1", b"a", A, false)?;
@@ -157,11 +171,11 @@ fn a_create_is_judged_by_its_opening_and_then_by_the_refs(rt: HostRuntime) -> Re
     let alloc = rt.alloc();
     let mut desk = new_desk(alloc)?;
     let (done, stale, late) = create_thrice(alloc, &mut desk)?;
-    assert!(rt; done.as_slice() == [Outcome::Done].as_slice());
-    assert!(rt; stale.as_slice() == [Outcome::Stale(A)].as_slice());
-    assert!(rt; late.as_slice() == [Outcome::NotAdvertised(A)].as_slice());
+    assert!(rt; is_told(&done, &[Outcome::Done]));
+    assert!(rt; is_told(&stale, &[Outcome::Stale(A)]));
+    assert!(rt; is_told(&late, &[Outcome::NotAdvertised(A)]));
     let hub = desk.into_hub();
-    assert!(rt; testing(alloc, &hub, b"refs/heads/a")? == (1, A));
+    assert!(rt; testing_has(alloc, &hub, b"refs/heads/a", 1, A)?);
     assert_eq!(rt; hub.log().len(), 6);
     Ok(())
 }
@@ -175,20 +189,38 @@ fn overtaken<D: Desk>(alloc: Global, desk: &mut D, atomic: bool) -> Result<Outco
 }
 
 #[test]
-fn an_atomic_push_does_all_or_nothing(rt: HostRuntime) -> Result<(), Fail> {
+fn an_atomic_push_with_a_refusal_changes_nothing(rt: HostRuntime) -> Result<(), Fail> {
     let alloc = rt.alloc();
     let mut desk = new_desk(alloc)?;
     let told = overtaken(alloc, &mut desk, true)?;
-    let due = [Outcome::AtomicOther(1), Outcome::Stale(A), Outcome::AtomicOther(1)];
-    assert!(rt; told.as_slice() == due.as_slice());
+    let due = [
+        Outcome::AtomicOther(1),
+        Outcome::Stale(A),
+        Outcome::AtomicOther(1),
+    ];
+    assert!(rt; is_told(&told, &due));
     let hub = desk.into_hub();
-    assert!(rt; testing(alloc, &hub, b"refs/heads/a")? == (1, ObjectId::zero()));
+    assert!(rt; testing_has(alloc, &hub, b"refs/heads/a", 1, ObjectId::zero())?);
+    Ok(())
+}
+
+#[test]
+fn another_push_does_what_is_not_refused(rt: HostRuntime) -> Result<(), Fail> {
+    let alloc = rt.alloc();
     let mut desk = new_desk(alloc)?;
     let told = overtaken(alloc, &mut desk, false)?;
-    let due = [Outcome::Done, Outcome::Stale(A), Outcome::Done];
-    assert!(rt; told.as_slice() == due.as_slice());
+    assert!(rt; is_told(&told, &[Outcome::Done, Outcome::Stale(A), Outcome::Done]));
     let hub = desk.into_hub();
-    assert!(rt; testing(alloc, &hub, b"refs/heads/a")? == (2, B));
-    assert!(rt; testing(alloc, &hub, b"refs/heads/b")? == (2, A));
+    assert!(rt; testing_has(alloc, &hub, b"refs/heads/a", 2, B)?);
+    assert!(rt; testing_has(alloc, &hub, b"refs/heads/b", 2, A)?);
     Ok(())
+}
+
+fn needs_send<T: Send + Sync + Drop>(_value: T) {}
+
+// A hub, a pin and a judgement may cross threads.
+fn cross(hub: Hub, pin: Pin, judged: Judged) {
+    needs_send(hub);
+    needs_send(pin);
+    needs_send(judged);
 }
