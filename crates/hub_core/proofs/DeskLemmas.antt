@@ -7,7 +7,6 @@ use Rattle.std.proofs.lemmas.List.{drop-append-le}
 use Rattle.std.proofs.lemmas.List.Elements.{filter-append}
 use Rattle.hub_core.specs.declared.entry.Entry.{Entry}
 use Rattle.hub_core.specs.declared.entry.Event.{Event}
-use Rattle.hub_core.specs.Pin.{Opening}
 use Rattle.hub_core.specs.History.{IsLegal}
 use Rattle.hub_core.specs.Hub.{HubView, Logs, Stands}
 use Rattle.hub_core.specs.Desk.{DeskView, Calls, KeepsPins, known, entries_of, known_alone}

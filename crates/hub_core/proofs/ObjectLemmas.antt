@@ -1,5 +1,5 @@
 -- Each object has its name once.
-use Rattle.std.proofs.Common.{◌≡◌, List, ℕ, [], ◌∷◌, ◌++◌, refl, sym, ◌∙◌, ap, subst, Bool, true, false, ◌||◌, map, cond}
+use Rattle.std.proofs.Common.{◌≡◌, List, [], ◌∷◌, ◌++◌, refl, sym, ◌∙◌, ap, subst, Bool, true, false, ◌||◌, cond}
 use Rattle.std.specs.Prelude.{Option, Some, None, if◌then◌else◌}
 use Rattle.std.specs.List.{list_any, AllByRecursion}
 use Rattle.std.specs.Option.{unwrap_or}
@@ -9,11 +9,9 @@ use Rattle.std.specs.FinMap.{get, insert, empty, get-insert, get-empty}
 use Rattle.base_types.specs.Names.{ByName}
 use Rattle.git_object.specs.Content.{Content}
 use Rattle.git_object.specs.Object.{object_name}
-use Rattle.git_object.specs.declared.object_id.ObjectId.{ObjectId}
 use Rattle.hub_core.specs.declared.name_table.Named.{Named}
 use Rattle.hub_core.specs.declared.command.Command.{Command}
 use Rattle.hub_core.specs.declared.outcome.Outcome.{Outcome}
-use Rattle.hub_core.specs.declared.verdict.Want.{Want}
 use Rattle.hub_core.specs.declared.entry.Entry.{Entry}
 use Rattle.hub_core.specs.declared.entry.EnterKept.{EnterKept}
 use Rattle.hub_core.specs.declared.entry.EnterKept.TheVariants.{Granted, Created, Denied, NoRepo}
@@ -21,10 +19,10 @@ use Rattle.hub_core.specs.declared.entry.Event.{Event}
 use Rattle.hub_core.specs.declared.entry.Event.TheVariants.{Entered, Pushed}
 use Rattle.hub_core.specs.Name.{Name, same_id, placed_in}
 use Rattle.hub_core.specs.Store.{has_object, with_pack, HasNamesOnce}
-use Rattle.hub_core.specs.State.{Repository, State, Change, start, changed, repository_at, empty_repository, put_in_place}
+use Rattle.hub_core.specs.State.{Repository, State, start, changed, repository_at, empty_repository, put_in_place}
 use Rattle.hub_core.specs.Pin.{Pinned, answer_to, made_by}
-use Rattle.hub_core.specs.Push.{is_done, landed, refs_left}
-use Rattle.hub_core.specs.History.{History, new_history, after, step, after_push, opening_at, outcomes_at, push_change, IsDue, IsLegal, history, replay}
+use Rattle.hub_core.specs.Push.{is_done, refs_left}
+use Rattle.hub_core.specs.History.{History, new_history, after, after_push, opening_at, outcomes_at, push_change, IsDue, IsLegal, replay}
 use Rattle.hub_core.proofs.HistoryLemmas.{history-keeps}
 
 none_of_two : (a b : Bool) → (a || b) ≡ false → (a ≡ false) × (b ≡ false)

@@ -7,7 +7,6 @@ use Rattle.git_object.specs.Content.{Content}
 use Rattle.hub_core.specs.declared.command.Command.{Command}
 use Rattle.hub_core.specs.declared.outcome.Outcome.{Outcome}
 use Rattle.hub_core.specs.declared.verdict.Want.{Want}
-use Rattle.hub_core.specs.declared.verdict.Want.TheVariants.{Write}
 use Rattle.hub_core.specs.declared.entry.Entry.{Entry}
 use Rattle.hub_core.specs.declared.entry.EnterKept.{EnterKept}
 use Rattle.hub_core.specs.declared.entry.EnterKept.TheVariants.{Granted, Created, Denied, NoRepo}
@@ -16,7 +15,7 @@ use Rattle.hub_core.specs.declared.entry.Event.TheVariants.{Entered, Pushed}
 use Rattle.hub_core.specs.Name.{Name}
 use Rattle.hub_core.specs.State.{State}
 use Rattle.hub_core.specs.Pin.{Pinned, answer_to, pinned_in, pins}
-use Rattle.hub_core.specs.History.{History, new_history, after, step, pinned_by, joined, opening_at, history_from, history, replay, IsDue, IsDuePush, IsLegal, IsLegalFrom}
+use Rattle.hub_core.specs.History.{History, new_history, after, step, pinned_by, joined, opening_at, history_from, history, replay, IsDue, IsDuePush, IsLegal}
 use Rattle.hub_core.specs.Laws.{IsOpeningAt, NamesOpening}
 use Rattle.hub_core.proofs.HistoryLemmas.{due_at, IsLegalFrom-beginning}
 

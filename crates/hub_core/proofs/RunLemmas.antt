@@ -1,14 +1,12 @@
 -- Calls of a hub keep its log legal.
-use Rattle.std.proofs.Common.{◌≡◌, ℕ, List, [], ◌∷◌, ◌++◌, sym, subst}
+use Rattle.std.proofs.Common.{◌≡◌, ℕ, List, [], ◌∷◌, sym, subst}
 use Rattle.std.specs.Prelude.{Option, Some, None}
 use Rattle.std.specs.Option.{IfSome}
-use Rattle.git_object.specs.Content.{Content}
 use Rattle.hub_core.specs.declared.entry.EnterKept.{EnterKept}
 use Rattle.hub_core.specs.declared.entry.Event.{Event}
 use Rattle.hub_core.specs.declared.entry.Event.TheVariants.{Entered, Pushed}
 use Rattle.hub_core.specs.declared.hub.Pushed.{Pushed as Told}
 use Rattle.hub_core.specs.declared.hub.Pushed.TheVariants as told
-use Rattle.hub_core.specs.Name.{Name}
 use Rattle.hub_core.specs.Pin.{Pinned, answer_to}
 use Rattle.hub_core.specs.History.{new_history, history, replay, IsDue, IsDuePush, IsLegal}
 use Rattle.hub_core.specs.Hub.{HubView, logged, Logs}
