@@ -1,0 +1,9 @@
+pub mod ListLemmas
+pub mod NameLemmas
+pub mod HistoryLemmas
+pub mod ObjectLemmas
+pub mod OpeningLemmas
+pub mod PinLemmas
+pub mod PushLemmas
+pub mod DeskLemmas
+pub mod RunLemmas

@@ -1,0 +1,65 @@
+-- What a caller knows of a hub, and what its calls do.
+use Rattle.std.specs.Prelude.{◌≡◌, ℕ, List, [], ◌∷◌, ◌++◌, Option, None, Some, Bool, nat_eq, drop}
+use Rattle.std.specs.List.{filter}
+use Rattle.git_object.specs.Content.{Content}
+use Rattle.hub_core.specs.declared.command.Command.{Command}
+use Rattle.hub_core.specs.declared.verdict.Want.{Want}
+use Rattle.hub_core.specs.declared.entry.Entry.{Entry}
+use Rattle.hub_core.specs.declared.entry.Event.{Event}
+use Rattle.hub_core.specs.declared.hub.Entered.{Entered}
+use Rattle.hub_core.specs.declared.hub.Pushed.{Pushed}
+use Rattle.hub_core.specs.Name.{Name}
+use Rattle.hub_core.specs.Pin.{Opening}
+use Rattle.hub_core.specs.History.{IsLegal}
+use Rattle.hub_core.specs.Hub.{HubView, Stands}
+use Rattle.hub_core.specs.Answer.{kept, opened, AnswersOpening, settled, AnswersPush}
+
+-- admin: the name from whose setup the log is legal
+-- seen: the beginning of the log that the caller knows
+-- mine: the caller's own entries in it
+pub record DeskView : Type 0 where
+  pub admin : Name
+  pub seen : List Entry
+  pub mine : List Entry
+
+-- the hub, as far as the caller knows it
+abbrev pub known : DeskView → HubView
+known desk = record { admin = desk.admin; log = desk.seen }
+
+-- A call that makes an entry: the log had gone on, by entries of others, to what it was just before the call's own entry,
+-- and the caller has then seen it up to that entry. A call that makes none leaves all as it was
+pub record MakesEntry (old new : DeskView) (before : List Entry) (event : Event) : Type 0 where
+  pub others : List Entry
+  pub entry : Entry
+  pub before_is : before ≡ old.seen ++ others
+  pub event_is : entry.event ≡ event
+  pub admin : new.admin ≡ old.admin
+  pub seen : new.seen ≡ before ++ entry ∷ []
+  pub mine : new.mine ≡ old.mine ++ entry ∷ []
+  pub legal : IsLegal new.admin new.seen
+
+abbrev pub Calls : DeskView → DeskView → List Entry → Option Event → Type 0
+Calls old new before None = (new ≡ old) × (before ≡ old.seen)
+Calls old new before (Some event) = MakesEntry old new before event
+
+-- an opening, answered by the log just before its own entry
+abbrev pub Enters : DeskView → DeskView → Name → Name → Want → Entered → Type 0
+Enters old new user repo want result =
+    (before : List Entry) × Calls old new before (opened user repo want (kept result)) × AnswersOpening (record { admin = old.admin; log = before }) (known new) user repo want result
+
+-- a push, settled by the log just before its own entry
+abbrev pub Pushes : DeskView → DeskView → Opening → List Content → List Command → Bool → Pushed → Type 0
+Pushes old new pin pack commands atomic result =
+    (before : List Entry) × Calls old new before (settled pin pack commands atomic result) × AnswersPush (record { admin = old.admin; log = before }) pin pack commands atomic result
+
+-- every pin that stood goes on standing
+abbrev pub KeepsPins : DeskView → DeskView → Type 0
+KeepsPins old new = (pin : Opening) → Stands pin (known old) → Stands pin (known new)
+
+-- the entries of a log from a place on that bear a number
+abbrev pub entries_of : ℕ → ℕ → List Entry → List Entry
+entries_of caller start log = filter (λ (e : Entry). nat_eq e.caller caller) (drop start log)
+
+-- what the only caller of a hub knows, whose own entries begin at a place
+abbrev pub known_alone : ℕ → HubView → DeskView
+known_alone start hub = record { admin = hub.admin; seen = hub.log; mine = entries_of 0 start hub.log }

@@ -1,0 +1,75 @@
+-- Laws of the definitions.
+use Rattle.std.specs.Prelude.{◌≡◌, ◌↔◌, ◌⊎◌, ℕ, ◌+◌, ◌<◌, ◌≤◌, Bool, List, [], ◌∷◌, ◌++◌, length, take, Some}
+use Rattle.std.specs.List.{slice_get}
+use Rattle.std.specs.FinMap.{get}
+use Rattle.git_object.specs.Content.{Content}
+use Rattle.hub_core.specs.declared.command.Command.{Command}
+use Rattle.hub_core.specs.declared.outcome.Outcome.{Outcome}
+use Rattle.hub_core.specs.declared.verdict.Want.TheVariants.{Write}
+use Rattle.hub_core.specs.declared.entry.Entry.{Entry}
+use Rattle.hub_core.specs.declared.entry.EnterKept.{EnterKept}
+use Rattle.hub_core.specs.declared.entry.EnterKept.TheVariants.{Granted, Created}
+use Rattle.hub_core.specs.declared.entry.Event.TheVariants.{Entered, Pushed}
+use Rattle.hub_core.specs.Name.{Name}
+use Rattle.hub_core.specs.Store.{HasNamesOnce}
+use Rattle.hub_core.specs.State.{Repository}
+use Rattle.hub_core.specs.Pin.{Opening, Pinned, pinned_in}
+use Rattle.hub_core.specs.History.{history, replay, opening_at, pinned_by, outcomes_at, IsDue, IsLegal}
+use Rattle.hub_core.specs.Hub.{HubView, Stands}
+use Rattle.hub_core.specs.Run.{IsRun, at_end, new_hub}
+
+-- a log is legal exactly where, for each place, the answer recorded there is due on the history of the entries before that place
+abbrev pub LegalByPlaces : Type 0
+LegalByPlaces =
+    (admin : Name) (log : List Entry) → IsLegal admin log ↔ ((place : ℕ) (entry : Entry) → slice_get log place ≡ Some entry → IsDue (history admin (take place log)) entry.event)
+
+-- a beginning of a legal log is legal
+abbrev pub BeginningIsLegal : Type 0
+BeginningIsLegal = (admin : Name) (log more : List Entry) → IsLegal admin (log ++ more) → IsLegal admin log
+
+-- the state at a place isn't changed by what is appended
+abbrev pub StateStays : Type 0
+StateStays = (admin : Name) (log more : List Entry) (place : ℕ) → place ≤ length log → replay admin (take place (log ++ more)) ≡ replay admin (take place log)
+
+-- an opening that stands goes on standing, whatever is appended
+abbrev pub OpeningStays : Type 0
+OpeningStays = (admin : Name) (log more : List Entry) (opening : Opening) → Stands opening (record { admin = admin; log = log }) → Stands opening (record { admin = admin; log = log ++ more })
+
+-- what the opening at a place pins is what the state has after the entries up to and including that place
+abbrev pub PinsOfItsPlace : Type 0
+PinsOfItsPlace =
+    (admin : Name) (before : List Entry) (entry : Entry) (more : List Entry)
+    → opening_at (history admin (before ++ entry ∷ more)) (length before) ≡ pinned_by (replay admin before) (replay admin (before ++ entry ∷ [])) entry.event
+
+-- at a place of a log an opening stands that was granted, and this is what it pinned: what the state had after the entries up to and including it
+pub record IsOpeningAt (admin : Name) (log : List Entry) (place : ℕ) (pinned : Pinned) : Type 0 where
+  pub caller : ℕ
+  pub answer : EnterKept
+  pub stands : slice_get log place ≡ Some (record { caller = caller; event = Entered pinned.user pinned.repo pinned.want answer })
+  pub granted : (answer ≡ Granted) ⊎ (answer ≡ Created)
+  pub pinned_is : pinned ≡ pinned_in (replay admin (take (place + 1) log)) pinned.user pinned.repo pinned.want
+
+-- a push names an opening for writing that stands in the log before it, and is told what is due by that opening and by the state before the push
+pub record NamesOpening (admin : Name) (before : List Entry) (place : ℕ) (pack : List Content) (commands : List Command) (atomic : Bool) (outcomes : List Outcome) : Type 0 where
+  pub pinned : Pinned
+  pub opening : IsOpeningAt admin before place pinned
+  pub for_writing : pinned.want ≡ Write
+  pub some_commands : 0 < length commands
+  pub told : outcomes ≡ outcomes_at (replay admin before) pinned pack commands atomic
+
+-- each push of a legal log does
+abbrev pub PushesNameOpenings : Type 0
+PushesNameOpenings =
+    (admin : Name) (log : List Entry) (index caller place : ℕ) (pack : List Content) (commands : List Command) (atomic : Bool) (outcomes : List Outcome)
+    → IsLegal admin log → slice_get log index ≡ Some (record { caller = caller; event = Pushed place pack commands atomic outcomes })
+    → NamesOpening admin (take index log) place pack commands atomic outcomes
+
+-- over every list of calls of any callers on a new hub the log is legal
+abbrev pub RunsAreLegal : Type 0
+RunsAreLegal = (admin : Name) (later : List HubView) → IsRun (new_hub admin) later → IsLegal (at_end (new_hub admin) later).admin (at_end (new_hub admin) later).log
+
+-- in the state that a legal log leads to, no two objects of a repository have one name
+abbrev pub NamesStayOnce : Type 0
+NamesStayOnce =
+    (admin : Name) (log : List Entry) → IsLegal admin log
+    → (name : Name) (repository : Repository) → get (replay admin log).repositories name ≡ Some repository → HasNamesOnce repository.objects

@@ -1,0 +1,14 @@
+pub mod Name
+pub mod Rule
+pub mod Store
+pub mod State
+pub mod Pin
+pub mod Push
+pub mod History
+pub mod Hub
+pub mod Answer
+pub mod Desk
+pub mod LoneDesk
+pub mod Run
+pub mod Laws
+pub mod Codes

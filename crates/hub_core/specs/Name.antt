@@ -1,0 +1,30 @@
+-- Names compared, and values by their names.
+use Rattle.std.specs.Prelude.{ℕ, Bool, List, [], ◌∷◌, nat_eq, map, replicate}
+use Rattle.std.specs.FinMap.{from_entries, insert}
+use lib.Pointwise.{pointwise}
+use Rattle.base_types.specs.Names.{ByName}
+use Rattle.git_object.specs.declared.object_id.ObjectId.{ObjectId}
+use Rattle.hub_core.specs.declared.name_table.Named.{Named}
+
+-- bytes: the name of a user, of a repository, of a ref
+abbrev pub Name : Type 0
+Name = List ℕ
+
+abbrev pub same_name : Name → Name → Bool
+same_name a b = pointwise nat_eq a b
+
+abbrev pub same_id : ObjectId → ObjectId → Bool
+same_id a b = pointwise nat_eq a.bytes b.bytes
+
+-- the id that stands for no object
+abbrev pub zero_id : ObjectId
+zero_id = record { bytes = replicate 20 0 }
+
+-- the map that named values make; of two with one name the first counts
+abbrev pub map_of : {X : Type 0} → List (Named X) → ByName X
+map_of {X} items = from_entries (map (λ (e : Named X). (e.name, e.value)) items)
+
+-- a map with named values put in place; of two with one name the first counts
+abbrev pub placed_in : {X : Type 0} → ByName X → List (Named X) → ByName X
+placed_in known [] = known
+placed_in known (n ∷ ns) = insert (placed_in known ns) n.name n.value

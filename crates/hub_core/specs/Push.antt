@@ -1,0 +1,89 @@
+-- A push: the outcome of each of its commands, and the repository that it leaves.
+use Rattle.std.specs.Prelude.{ℕ, Bool, true, false, not, nat_lt, List, [], ◌∷◌, map, length, Option, None, Some, if◌then◌else◌}
+use Rattle.std.specs.List.{list_any, position}
+use Rattle.git_object.specs.Content.{Content}
+use Rattle.git_object.specs.declared.object_id.ObjectId.{ObjectId}
+use Rattle.hub_core.specs.declared.command.Command.{Command}
+use Rattle.hub_core.specs.declared.outcome.Outcome.{Outcome}
+use Rattle.hub_core.specs.declared.outcome.Outcome.TheVariants.{Done, NotAdvertised, Stale, AtomicOther, Collided, Full}
+use Rattle.hub_core.specs.Name.{same_id}
+use Rattle.hub_core.specs.Store.{Refs, value, moved, collision, with_pack}
+use Rattle.hub_core.specs.State.{Repository}
+use Rattle.hub_core.specs.Pin.{Pinned}
+
+-- I. By the opening, the pack and the commands alone
+
+-- the outcome of a command by what the opening pinned, or none
+abbrev pub judged : Pinned → List Content → List Command → Command → Option Outcome
+judged pinned pack commands command =
+    if same_id (value pinned.repository.refs command.name) command.old then None
+    else Some (NotAdvertised (value pinned.repository.refs command.name))
+
+abbrev pub judgement : Pinned → List Content → List Command → List (Option Outcome)
+judgement pinned pack commands = map (judged pinned pack commands) commands
+
+-- II. By the refs just before, as the push's earlier commands leave them
+
+abbrev pub by_refs : Refs → Command → Option Outcome → Outcome
+by_refs refs command (Some outcome) = outcome
+by_refs refs command None =
+    if same_id (value refs command.name) command.old then Done
+    else Stale (value refs command.name)
+
+abbrev pub is_done : Outcome → Bool
+is_done Done = true
+is_done _ = false
+
+-- a command that is done moves its ref
+abbrev pub refs_after : Refs → Command → Outcome → Refs
+refs_after refs command outcome = if is_done outcome then moved refs command.name command.new else refs
+
+-- the outcomes of the commands in order
+abbrev pub in_order : Refs → List Command → List (Option Outcome) → List Outcome
+in_order refs [] judgements = []
+in_order refs (c ∷ cs) [] = []
+in_order refs (c ∷ cs) (j ∷ js) = by_refs refs c j ∷ in_order (refs_after refs c (by_refs refs c j)) cs js
+
+-- III. Together, where the push is atomic
+
+-- what a command is told beside the first refusal
+abbrev pub beside : ℕ → Outcome → Outcome
+beside first outcome = if is_done outcome then AtomicOther first else outcome
+
+abbrev pub beside_first : Option ℕ → List Outcome → List Outcome
+beside_first None outcomes = outcomes
+beside_first (Some first) outcomes = map (beside first) outcomes
+
+-- where an atomic push has a refusal, the commands that have none name the first that has one, counted from 0
+abbrev pub together : Bool → List Outcome → List Outcome
+together atomic outcomes = if atomic then beside_first (position (λ o. not (is_done o)) outcomes) outcomes else outcomes
+
+-- IV. Before all of that: an object that differs from one of its name, and too many objects. Then every command is told so
+
+abbrev pub unless_collided : Option ObjectId → List Command → List Outcome → List Outcome
+unless_collided (Some id) commands outcomes = map (λ c. Collided id) commands
+unless_collided None commands outcomes = outcomes
+
+abbrev pub unless_full : ℕ → List Command → List Outcome → List Outcome
+unless_full count commands outcomes = if nat_lt 4294967295 count then map (λ c. Full count) commands else outcomes
+
+-- the outcomes of a push into a repository as it is just before
+abbrev pub outcomes_in : Repository → List Content → List Command → Bool → List (Option Outcome) → List Outcome
+outcomes_in now pack commands atomic judgements =
+    unless_collided (collision now.objects pack) commands
+    (unless_full (length (with_pack now.objects pack)) commands
+    (together atomic (in_order now.refs commands judgements)))
+
+-- V. What the outcomes leave
+
+abbrev pub refs_left : Refs → List Command → List Outcome → Refs
+refs_left refs [] outcomes = refs
+refs_left refs (c ∷ cs) [] = refs
+refs_left refs (c ∷ cs) (o ∷ os) = refs_left (refs_after refs c o) cs os
+
+-- the repository that a push leaves, where a command is done: the refs of the commands that are done, and the objects with the pack's
+abbrev pub landed : Repository → List Content → List Command → List Outcome → Option Repository
+landed now pack commands outcomes =
+    if list_any is_done outcomes
+    then Some (record now { objects = with_pack now.objects pack; refs = refs_left now.refs commands outcomes })
+    else None

@@ -1,0 +1,14 @@
+// Laws of the definitions.
+ghost use Rattle.hub_core.specs.Laws.{BeginningIsLegal, LegalByPlaces, NamesStayOnce, OpeningStays, PinsOfItsPlace, PushesNameOpenings, RunsAreLegal, StateStays};
+
+/// The laws hold, of every log.
+pub fn hold_laws()
+    ensures places { LegalByPlaces }
+    ensures beginning { BeginningIsLegal }
+    ensures stays { StateStays }
+    ensures stands { OpeningStays }
+    ensures pins { PinsOfItsPlace }
+    ensures pushes { PushesNameOpenings }
+    ensures names { NamesStayOnce }
+    ensures runs { RunsAreLegal }
+{}

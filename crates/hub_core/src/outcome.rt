@@ -1,0 +1,43 @@
+// Outcomes of commands.
+ghost use Rattle.std.specs.Prelude.{◌≡◌};
+ghost use Rattle.hub_core.specs.Push.{is_done};
+
+use base_types::ItemList;
+use git_object::ObjectId;
+use std::alloc::AllocError;
+
+/// What became of a command.
+#[derive(Copy, Debug, PartialEq, Eq)]
+pub enum Outcome {
+    /// The ref has moved.
+    Done,
+    /// The ref's value at the opening, which isn't the command's old value.
+    NotAdvertised(ObjectId),
+    /// The ref's value just before, which isn't the command's old value.
+    Stale(ObjectId),
+    /// The push is atomic, and the command of this place, counted from 0, is the first that was refused.
+    AtomicOther(u32),
+    /// The pack holds another object of this name.
+    Collided(ObjectId),
+    /// With the pack the repository would have this many objects.
+    Full(u64),
+}
+
+/// The outcomes of a push, in the order of its commands.
+pub type OutcomeList = ItemList<Outcome>;
+
+impl Clone for Outcome {
+    ghost is_clone = { λ outcome copy. copy ≡ outcome };
+
+    fn clone(&self) -> Result<Outcome, AllocError> {
+        Ok(*self)
+    }
+}
+
+impl Outcome {
+    pub fn is_done(self) -> bool
+        ensures { result ≡ is_done self }
+    {
+        matches!(self, Outcome::Done)
+    }
+}

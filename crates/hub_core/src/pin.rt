@@ -1,0 +1,85 @@
+// What an opening pins.
+ghost use Rattle.std.specs.Prelude.{◌≡◌};
+ghost use Rattle.hub_core.specs.State.{store_of, rules_of};
+
+use crate::name::{RepoName, UserName};
+use crate::rule::Policy;
+use crate::state::HostedRepo;
+use crate::store::Repo;
+use crate::verdict::Want;
+use std::marker::Model;
+
+/// What held at an opening that was granted: who opened which repository to do what, the rules, and the repository.
+#[derive(Drop)]
+pub struct Pin {
+    place: u64,
+    user: UserName,
+    name: RepoName,
+    want: Want,
+    policy: Policy,
+    hosted: HostedRepo,
+}
+
+impl Model for Pin {
+    ghost use Rattle.hub_core.specs.Pin.{Opening};
+    ghost use Rattle.hub_core.specs.Codes.{coded_opening};
+
+    ghost Value = { Opening };
+
+    ghost coded = { coded_opening };
+
+    ghost view = { λ p. record { place = p.place; pinned = record { user = p.user; repo = p.name; want = p.want; conf = p.policy; repository = p.hosted } } };
+}
+
+impl Pin {
+    pub(crate) fn new(
+        place: u64,
+        user: UserName,
+        name: RepoName,
+        want: Want,
+        policy: Policy,
+        hosted: HostedRepo,
+    ) -> Pin
+        ensures { result ≡ record { place = place; pinned = record { user = user; repo = name; want = want; conf = policy; repository = hosted } } }
+    {
+        Pin {
+            place,
+            user,
+            name,
+            want,
+            policy,
+            hosted,
+        }
+    }
+
+    /// The opening's place in the log, from 0.
+    pub fn place(&self) -> u64
+        ensures { result ≡ self.now.place }
+    {
+        self.place
+    }
+
+    pub fn user(&self) -> &UserName
+        ensures { result.now ≡ self.now.pinned.user }
+    {
+        &self.user
+    }
+
+    pub fn repo_name(&self) -> &RepoName
+        ensures { result.now ≡ self.now.pinned.repo }
+    {
+        &self.name
+    }
+
+    pub fn repo(&self) -> &Repo
+        ensures { result.now ≡ store_of self.now.pinned.repository }
+    {
+        self.hosted.repo()
+    }
+
+    pub fn policy(&self) -> &Policy
+        ensures { result.now ≡ rules_of self.now.pinned.conf }
+    {
+        &self.policy
+    }
+}

@@ -1,0 +1,237 @@
+// Sessions over the only desk of a new hub, with the answers that docs/HISTORY.md gives.
+ghost use Rattle.std.specs.Prelude.{◌≡◌, ◌<◌, ◌^◌, IfOk, IfSome, length};
+ghost use Rattle.hub_core.specs.Hub.{Stands};
+ghost use Rattle.hub_core.specs.Desk.{KeepsPins, known};
+
+use super::*;
+use git_object::{Kind, Object, ObjectId, ObjectList};
+use std::alloc::Global;
+use std::test::Fail;
+
+const A: ObjectId = ObjectId { bytes: [10; 20] };
+
+const B: ObjectId = ObjectId { bytes: [11; 20] };
+
+fn new_desk(alloc: Global) -> Result<LoneDesk, NoMemory> {
+    let admin = Text::of(alloc, b"admin")?;
+    Ok(LoneDesk::new(Hub::start(alloc, &admin)?))
+}
+
+// The pin of an opening for writing, where it is granted.
+fn open<D: Desk>(
+    alloc: Global,
+    desk: &mut D,
+    user: &[u8],
+    repo: &[u8],
+) -> Result<Option<Pin>, NoMemory>
+    ensures write { IfOk result (λ o. IfSome o (λ pin. pin.pinned.want ≡ Want.Write)) }
+    ensures stands { IfOk result (λ o. IfSome o (λ pin. Stands pin (known (D.view desk.new)))) }
+    ensures keeps { KeepsPins (D.view desk.old) (D.view desk.new) }
+{
+    let user = Text::of(alloc, user)?;
+    let repo = Text::of(alloc, repo)?;
+    match desk.enter(alloc, &user, &repo, Want::Write) {
+        Entered::Granted(pin) => Ok(Some(pin)),
+        Entered::NoMemory => Err(NoMemory),
+        _ => Ok(None),
+    }
+}
+
+// A push that is judged by its pin.
+fn push<D: Desk>(
+    alloc: Global,
+    desk: &mut D,
+    pin: Pin,
+    pack: ObjectList,
+    commands: CommandList,
+    atomic: bool,
+) -> Result<OutcomeList, NoMemory>
+    requires write { pin.pinned.want ≡ Want.Write }
+    requires stands { Stands pin (known (D.view desk.old)) }
+    requires some { 0 < length commands }
+    requires few { length commands < 2 ^ 32 }
+    ensures keeps { KeepsPins (D.view desk.old) (D.view desk.new) }
+{
+    let judged = judge(alloc, &pin, &pack, &commands)?;
+    match desk.push(alloc, pin, pack, commands, atomic, judged) {
+        Pushed::Settled(outcomes) => Ok(outcomes),
+        Pushed::NoMemory(_) => Err(NoMemory),
+    }
+}
+
+// A create for each letter, of the branch of that name.
+fn creates(alloc: Global, letters: &[u8], new: ObjectId) -> Result<CommandList, NoMemory>
+    ensures { IfOk result (λ l. length l ≡ length letters.now) }
+{
+    let mut list = CommandList::new(alloc);
+    for letter in letters {
+        let mut name = b"refs/heads/".to_vec(alloc)?;
+        name.push(*letter)?;
+        let old = ObjectId::zero();
+        let name = Text::from(name);
+        list.push(Command { old, new, name })?;
+    }
+    Ok(list)
+}
+
+// A pack of one blob.
+fn pack(alloc: Global, body: &[u8; 1]) -> Result<ObjectList, Fail> {
+    let mut pack = ObjectList::new(alloc);
+    pack.push(Object::parse(alloc, Kind::Blob, body)?)?;
+    Ok(pack)
+}
+
+// Whether `testing` has so many objects, and a branch of this value.
+fn testing_has(
+    alloc: Global,
+    hub: &Hub,
+    branch: &[u8],
+    objects: usize,
+    value: ObjectId,
+) -> Result<bool, Fail> {
+    let repo = hub.repo(&Text::of(alloc, b"testing")?).ok_or("testing")?;
+    let branch = Text::of(alloc, branch)?;
+    Ok(repo.objects().len() == objects && repo.value(&branch) == value)
+}
+
+// Whether there is one outcome, and this one.
+fn is_told(outcomes: &OutcomeList, due: Outcome) -> bool {
+    outcomes.len() == 1 && is_told_at(outcomes, 0, due)
+}
+
+fn is_told_at(outcomes: &OutcomeList, place: usize, due: Outcome) -> bool {
+    match outcomes.get(place) {
+        Some(outcome) => *outcome == due,
+        None => false,
+    }
+}
+
+// Whether the first and the third of three outcomes are these, and the second is stale at A.
+fn is_overtaken(outcomes: &OutcomeList, others: Outcome) -> bool {
+    outcomes.len() == 3
+        && is_told_at(outcomes, 0, others)
+        && is_told_at(outcomes, 1, Outcome::Stale(A))
+        && is_told_at(outcomes, 2, others)
+}
+
+fn answers(log: &EntryList, place: usize, due: EnterKept) -> bool {
+    match log.get(place) {
+        Some(
+            Entry {
+                caller: 0,
+                event: Event::Entered { answer, .. },
+            },
+        ) => *answer == due,
+        _ => false,
+    }
+}
+
+#[test]
+fn openings_are_answered_by_the_two_rules(rt: HostRuntime) -> Result<(), Fail> {
+    let alloc = rt.alloc();
+    let mut desk = new_desk(alloc)?;
+    let rows = [
+        (b"carol".as_slice(), b"testing".as_slice(), true),
+        (b"carol", b"gitolite-admin", false),
+        (b"admin", b"gitolite-admin", true),
+        (b"admin", b"web", false),
+    ];
+    for (user, repo, granted) in rows {
+        assert_eq!(rt; open(alloc, &mut desk, user, repo)?.is_some(), granted);
+    }
+    let log = desk.into_hub().into_log();
+    assert_eq!(rt; log.len(), 4);
+    assert!(rt; answers(&log, 0, EnterKept::Granted) && answers(&log, 2, EnterKept::Granted));
+    let denied = EnterKept::Denied(Verdict::Fallthru);
+    assert!(rt; answers(&log, 1, denied) && answers(&log, 3, denied));
+    Ok(())
+}
+
+// A push of a blob and of creates, by the pin.
+fn create<D: Desk>(
+    alloc: Global,
+    desk: &mut D,
+    pin: Pin,
+    body: &[u8; 1],
+    letters: &[u8],
+    new: ObjectId,
+    atomic: bool,
+) -> Result<OutcomeList, Fail>
+    requires write { pin.pinned.want ≡ Want.Write }
+    requires stands { Stands pin (known (D.view desk.old)) }
+    requires some { 0 < length letters.now }
+    requires few { length letters.now < 2 ^ 32 }
+    ensures keeps { KeepsPins (D.view desk.old) (D.view desk.new) }
+{
+    let pack = pack(alloc, body)?;
+    let commands = creates(alloc, letters, new)?;
+    Ok(push(alloc, desk, pin, pack, commands, atomic)?)
+}
+
+// Two openings before two creates of one branch, and a third create of it by an opening behind them.
+fn create_thrice<D: Desk>(
+    alloc: Global,
+    desk: &mut D,
+) -> Result<(OutcomeList, OutcomeList, OutcomeList), Fail> {
+    let first = open(alloc, desk, b"carol", b"testing")?.ok_or("first")?;
+    let second = open(alloc, desk, b"dave", b"testing")?.ok_or("second")?;
+    let done = create(alloc, desk, first, b"1", b"a", A, false)?;
+    let stale = create(alloc, desk, second, b"2", b"a", B, false)?;
+    let third = open(alloc, desk, b"carol", b"testing")?.ok_or("third")?;
+    let late = create(alloc, desk, third, b"3", b"a", A, false)?;
+    Ok((done, stale, late))
+}
+
+#[test]
+fn a_create_is_judged_by_its_opening_and_then_by_the_refs(rt: HostRuntime) -> Result<(), Fail> {
+    let alloc = rt.alloc();
+    let mut desk = new_desk(alloc)?;
+    let (done, stale, late) = create_thrice(alloc, &mut desk)?;
+    assert!(rt; is_told(&done, Outcome::Done));
+    assert!(rt; is_told(&stale, Outcome::Stale(A)));
+    assert!(rt; is_told(&late, Outcome::NotAdvertised(A)));
+    let hub = desk.into_hub();
+    assert!(rt; testing_has(alloc, &hub, b"refs/heads/a", 1, A)?);
+    assert_eq!(rt; hub.log().len(), 6);
+    Ok(())
+}
+
+// Three creates, of which another push has made the second since the opening.
+fn overtaken<D: Desk>(alloc: Global, desk: &mut D, atomic: bool) -> Result<OutcomeList, Fail> {
+    let first = open(alloc, desk, b"carol", b"testing")?.ok_or("first")?;
+    let second = open(alloc, desk, b"dave", b"testing")?.ok_or("second")?;
+    let _done = create(alloc, desk, second, b"1", b"b", A, true)?;
+    create(alloc, desk, first, b"2", b"abc", B, atomic)
+}
+
+#[test]
+fn an_atomic_push_with_a_refusal_changes_nothing(rt: HostRuntime) -> Result<(), Fail> {
+    let alloc = rt.alloc();
+    let mut desk = new_desk(alloc)?;
+    let told = overtaken(alloc, &mut desk, true)?;
+    assert!(rt; is_overtaken(&told, Outcome::AtomicOther(1)));
+    let hub = desk.into_hub();
+    assert!(rt; testing_has(alloc, &hub, b"refs/heads/a", 1, ObjectId::zero())?);
+    Ok(())
+}
+
+#[test]
+fn another_push_does_what_is_not_refused(rt: HostRuntime) -> Result<(), Fail> {
+    let alloc = rt.alloc();
+    let mut desk = new_desk(alloc)?;
+    let told = overtaken(alloc, &mut desk, false)?;
+    assert!(rt; is_overtaken(&told, Outcome::Done));
+    let hub = desk.into_hub();
+    assert!(rt; testing_has(alloc, &hub, b"refs/heads/a", 2, B)?);
+    assert!(rt; testing_has(alloc, &hub, b"refs/heads/b", 2, A)?);
+    Ok(())
+}
+
+fn needs_send<T: Send + Sync + Drop>(_value: T) {}
+
+// A hub, a pin and a judgement may cross threads.
+fn cross(hub: Hub, pin: Pin, judged: Judged) {
+    needs_send(hub);
+    needs_send(pin);
+    needs_send(judged);
+}
