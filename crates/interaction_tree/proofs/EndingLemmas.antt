@@ -1,0 +1,86 @@
+-- What code keeps that ran an interaction, by its end.
+use Rattle.std.proofs.Common.{◌≡◌, ◌⊎◌, inl, inr, ℕ, false, List, [], ◌++◌, Option, None, Some, Err, refl}
+use Rattle.std.specs.Bool.{⊤}
+use Rattle.std.specs.Io.KnownBytes.{IsAtEnd, Consumes}
+use Rattle.base_types.specs.Counts.{HasRisen}
+use Rattle.pktline_core.specs.LinkState.{LinkState}
+use Rattle.hub_core.specs.Desk.{DeskView}
+use Rattle.interaction_tree.specs.Interaction.{Interaction}
+use Rattle.interaction_tree.specs.Traces.{Halt, Reading, Writing, Memory, Ended, Failed}
+use Rattle.interaction_tree.specs.Runs.{Runs}
+use Rattle.interaction_tree.specs.Order.{IsOrdered}
+use Rattle.interaction_tree.specs.Endings.{IsInput, TakesTurn}
+use Rattle.interaction_tree.proofs.TurnLemmas.{trace_ended, trace_reading, trace_failed}
+use Rattle.interaction_tree.proofs.OrderLemmas.{trace_writing}
+
+left_of : Option (List ℕ) → List ℕ
+left_of None = []
+left_of (Some bytes) = bytes
+
+none_left : (left : Option (List ℕ)) → IsAtEnd left → left_of left ≡ []
+unfolding left_of
+none_left None over = refl
+none_left (Some bytes) over = over
+
+is_input : (a b : Option (List ℕ)) (read : List ℕ) → Consumes a b read → IsInput a (read ++ left_of b)
+unfolding left_of
+is_input None b read consumed = tt
+is_input (Some xs) None read consumed = absurd consumed
+is_input (Some xs) (Some ys) read consumed = consumed
+
+pub runs_turn : {E A : Type 0} (a b : LinkState) (d e : DeskView) (t : Interaction E A) (halt : Halt E) → IsOrdered t → Runs a b d e t (Err halt) → TakesTurn a b d e t halt
+runs_turn a b d e t (Ended end) ordered p =
+    let is = trace_ended b.left end t p.read p.written p.own (left_of b.left) (none_left b.left) p.trace in
+    record {
+      input = p.read ++ left_of b.left;
+      own = p.own;
+      told = is_input a.left b.left p.read p.consumed;
+      made = p.made;
+      read = rw is p.consumed;
+      counted = rw is p.counted;
+      entries = rw is refl;
+      written = rw is p.appended;
+      end_is = rw is refl;
+    }
+runs_turn a b d e t (Failed Reading) ordered p =
+    let is = trace_reading b.left t p.read p.written p.own p.trace in
+    record { part = p.read; own = p.own; made = p.made; read = p.consumed; counted = p.counted; entries = rw is refl; written = rw is p.appended; risen = p.caused.0; may_fail = p.caused.1 }
+runs_turn a b d e t (Failed Writing) ordered p =
+    let begins = trace_failed b.left Writing t p.read p.written p.own p.trace in
+    record {
+      part = p.read;
+      bytes = p.written;
+      own = p.own;
+      extent = begins.0;
+      is_extent = begins.1;
+      made = p.made;
+      read = p.consumed;
+      counted = p.counted;
+      entries = trace_writing false b.left t (λ w x. ⊤) p.read p.written p.own ordered p.trace;
+      written = p.appended;
+      begins = begins.2;
+      risen = p.caused.0;
+      may_fail = p.caused.1;
+    }
+runs_turn a b d e t (Failed Memory) ordered p =
+    let begins = trace_failed b.left Memory t p.read p.written p.own p.trace in
+    record {
+      part = p.read;
+      bytes = p.written;
+      own = p.own;
+      extent = begins.0;
+      is_extent = begins.1;
+      made = p.made;
+      read = p.consumed;
+      counted = p.counted;
+      entries = begins.3;
+      written = p.appended;
+      begins = begins.2;
+    }
+
+pub ends_or_lacks : {E A : Type 0} (a b : LinkState) (d e : DeskView) (t : Interaction E A) (halt : Halt E) → (HasRisen a.read_faults b.read_faults → ⊥) → (HasRisen a.write_faults b.write_faults → ⊥) → TakesTurn a b d e t halt
+    → ((end : E) × (halt ≡ Ended end)) ⊎ (halt ≡ Failed Memory)
+ends_or_lacks a b d e t (Ended end) reads writes turn = inl (end, refl)
+ends_or_lacks a b d e t (Failed Reading) reads writes turn = absurd (reads turn.risen)
+ends_or_lacks a b d e t (Failed Writing) reads writes turn = absurd (writes turn.risen)
+ends_or_lacks a b d e t (Failed Memory) reads writes turn = inr refl

@@ -1,0 +1,12 @@
+pub mod FrontLemmas
+pub mod TraceLemmas
+pub mod TurnLemmas
+pub mod OrderLemmas
+pub mod RunLemmas
+pub mod StepLemmas
+pub mod PacketSteps
+pub mod EndingLemmas
+pub mod DeskLemmas
+pub mod AloneLemmas
+pub mod CompositionLemmas
+mod Rows

@@ -1,0 +1,76 @@
+-- A small protocol, and what the definitions say of it: they compute.
+use Rattle.std.proofs.Common.{◌≡◌, ℕ, false, List, [], ◌∷◌, Result, Ok, Err, refl}
+use Rattle.std.specs.Prelude.{codes}
+use Rattle.std.specs.Bool.{⊤}
+use Rattle.pktline_core.specs.Packets as packets
+use Rattle.pktline_core.specs.Packets.{packet_front}
+use Rattle.pktline_core.specs.declared.packets.PktFault.{PktFault}
+use Rattle.hub_core.specs.declared.verdict.Want.TheVariants.{Read}
+use Rattle.interaction_tree.specs.Wanted.{Packet, front_of}
+use Rattle.interaction_tree.specs.Requests.{Request, Enter}
+use Rattle.interaction_tree.specs.Interaction.{Interaction, gives, ends, ◌>>=◌, write, read, ask}
+use Rattle.interaction_tree.specs.Turns.{Gave, Ended, Unanswered, Waiting, turn_over, turn, due}
+use Rattle.interaction_tree.specs.Order.{EntriesFirst, IsOrdered}
+use Rattle.interaction_tree.proofs.OrderLemmas.{order_bind}
+
+-- a name is read, its owner opens a repository, and is greeted; an input that ends inside the name is told so
+
+unfoldable name_in : Result packets.Packet PktFault → Interaction ℕ (List ℕ)
+name_in (Ok (packets.Line payload)) = gives payload
+name_in (Ok packets.Flush) = ends 2
+name_in (Err fault) = do
+  _ ← write (codes "bad")
+  ends 3
+
+abbrev opening : List ℕ → Request
+opening name = Enter name (codes "testing") Read
+
+unfoldable greeting : Interaction ℕ (Unit {0})
+greeting = do
+  first ← read Packet (λ fault. record { bytes = codes "cut"; end = 1 })
+  name ← name_in first.found
+  before ← ask (opening name)
+  write (codes "hello")
+
+-- what follows the packet isn't used
+served : turn greeting (codes "0007boband more") ([] ∷ []) ≡ record { used = codes "0007bob"; requests = opening (codes "bob") ∷ []; bytes = codes "hello"; stop = Gave tt }
+unfolding turn_over greeting name_in ◌>>=◌ read write ask front_of packet_front
+served = refl
+
+-- the entry is due, and what follows its answer isn't yet
+unanswered : turn greeting (codes "0007bob") [] ≡ record { used = codes "0007bob"; requests = opening (codes "bob") ∷ []; bytes = []; stop = Unanswered }
+unfolding turn_over greeting name_in ◌>>=◌ read write ask front_of packet_front
+unanswered = refl
+
+cut : turn greeting (codes "0007b") [] ≡ record { used = codes "0007b"; requests = []; bytes = codes "cut"; stop = Ended 1 }
+unfolding turn_over greeting name_in ◌>>=◌ read write ask front_of packet_front
+cut = refl
+
+waiting : due greeting (codes "0007b") [] ≡ record { used = codes "0007b"; requests = []; bytes = []; stop = Waiting }
+unfolding turn_over greeting name_in ◌>>=◌ read write ask front_of packet_front
+waiting = refl
+
+bad_length : turn greeting (codes "0003bob") [] ≡ record { used = codes "0003"; requests = []; bytes = codes "bad"; stop = Ended 3 }
+unfolding turn_over greeting name_in ◌>>=◌ read write ask front_of packet_front
+bad_length = refl
+
+-- an entry, and then bytes
+then_greets : List ℕ → Interaction ℕ (Unit {0})
+then_greets name = do
+  before ← ask (opening name)
+  write (codes "hello")
+
+name_ordered : (found : Result packets.Packet PktFault) → EntriesFirst false (name_in found) (λ wrote name. EntriesFirst wrote (then_greets name) (λ wrote unit. ⊤))
+unfolding EntriesFirst name_in then_greets ◌>>=◌ write ask
+name_ordered (Ok (packets.Line payload)) = (refl, λ before. tt)
+name_ordered (Ok packets.Flush) = tt
+name_ordered (Err fault) = tt
+
+greeting_ordered : IsOrdered greeting
+unfolding EntriesFirst greeting then_greets ◌>>=◌ read
+greeting_ordered = λ reply. order_bind false (name_in reply.found) then_greets (λ wrote unit. ⊤) (name_ordered reply.found)
+
+-- one that greets first isn't in order
+greeted_first : (request : Request) → IsOrdered {E = ℕ} (write (codes "hello") >>= λ unit. ask request) → ⊥
+unfolding EntriesFirst ◌>>=◌ write ask
+greeted_first request ordered = absurd cc

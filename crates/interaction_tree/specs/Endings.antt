@@ -1,0 +1,85 @@
+-- What a session keeps, by its end.
+use Rattle.std.specs.Prelude.{◌≡◌, ⊤, ℕ, ◌+◌, List, length, IsTrue, map, Option, None, Some}
+use Rattle.std.specs.Io.KnownBytes.{Consumes, Appends, IsAtEnd}
+use Rattle.base_types.specs.Counts.{HasRisen}
+use Rattle.pktline_core.specs.LinkState.{LinkState}
+use Rattle.hub_core.specs.Desk.{DeskView}
+use Rattle.interaction_tree.specs.Requests.{OwnEntry, asked, log_before}
+use Rattle.interaction_tree.specs.Interaction.{Interaction}
+use Rattle.interaction_tree.specs.Turns.{Extent, Closed, Open, turn_over, turn, due}
+use Rattle.interaction_tree.specs.Turns as stop
+use Rattle.interaction_tree.specs.Traces.{Reading, Writing, Memory, Halt, Ended, Failed, Begins}
+use Rattle.interaction_tree.specs.Runs.{MakesAll}
+
+-- the link's input, where it tells it
+abbrev pub IsInput : Option (List ℕ) → List ℕ → Type 0
+IsInput None input = ⊤
+IsInput (Some bytes) input = bytes ≡ input
+
+-- A part of an input is taken for its end only where nothing is left.
+abbrev pub IsExtent : Option (List ℕ) → Extent → Type 0
+IsExtent left Closed = IsAtEnd left
+IsExtent left Open = ⊤
+
+-- What was read is the used beginning of the input, the own entries are the ones due, what was written are the bytes due, and the end is the turn's.
+pub record EndsAsDue {E A : Type 0} (link link' : LinkState) (desk desk' : DeskView) (t : Interaction E A) (end : E) : Type 0 where
+  pub input : List ℕ
+  pub own : List OwnEntry
+  pub told : IsInput link.left input
+  pub made : MakesAll desk desk' own
+  pub read : Consumes link.left link'.left (turn t input (map log_before own)).used
+  pub counted : link'.given ≡ link.given + length (turn t input (map log_before own)).used
+  pub entries : map asked own ≡ (turn t input (map log_before own)).requests
+  pub written : Appends link.written link'.written (turn t input (map log_before own)).bytes
+  pub end_is : (turn t input (map log_before own)).stop ≡ stop.Ended end
+
+-- After a part of the input a read failed. What was written is due of that part, and the own entries are the ones due by it.
+pub record FailsReading {E A : Type 0} (link link' : LinkState) (desk desk' : DeskView) (t : Interaction E A) : Type 0 where
+  pub part : List ℕ
+  pub own : List OwnEntry
+  pub made : MakesAll desk desk' own
+  pub read : Consumes link.left link'.left part
+  pub counted : link'.given ≡ link.given + length part
+  pub entries : map asked own ≡ (due t part (map log_before own)).requests
+  pub written : Appends link.written link'.written (due t part (map log_before own)).bytes
+  pub risen : HasRisen link.read_faults link'.read_faults
+  pub may_fail : IsTrue link.may_fail
+
+-- After a part of the input a write failed. The own entries are the ones due by that part, and what was written begins what is due of it or,
+-- where all of the input was read, of the whole.
+pub record FailsWriting {E A : Type 0} (link link' : LinkState) (desk desk' : DeskView) (t : Interaction E A) : Type 0 where
+  pub part : List ℕ
+  pub bytes : List ℕ
+  pub own : List OwnEntry
+  pub extent : Extent
+  pub is_extent : IsExtent link'.left extent
+  pub made : MakesAll desk desk' own
+  pub read : Consumes link.left link'.left part
+  pub counted : link'.given ≡ link.given + length part
+  pub entries : map asked own ≡ (due t part (map log_before own)).requests
+  pub written : Appends link.written link'.written bytes
+  pub begins : Begins bytes (turn_over extent t part (map log_before own)).bytes
+  pub risen : HasRisen link.write_faults link'.write_faults
+  pub may_fail : IsTrue link.may_fail
+
+-- After a part of the input memory lacked. The own entries begin the ones due by that part, and what was written begins what is due of it or,
+-- where all of the input was read, of the whole.
+pub record LacksMemory {E A : Type 0} (link link' : LinkState) (desk desk' : DeskView) (t : Interaction E A) : Type 0 where
+  pub part : List ℕ
+  pub bytes : List ℕ
+  pub own : List OwnEntry
+  pub extent : Extent
+  pub is_extent : IsExtent link'.left extent
+  pub made : MakesAll desk desk' own
+  pub read : Consumes link.left link'.left part
+  pub counted : link'.given ≡ link.given + length part
+  pub entries : Begins (map asked own) (due t part (map log_before own)).requests
+  pub written : Appends link.written link'.written bytes
+  pub begins : Begins bytes (turn_over extent t part (map log_before own)).bytes
+
+-- a session took its turn: what holds, by its end
+abbrev pub TakesTurn : {E A : Type 0} → LinkState → LinkState → DeskView → DeskView → Interaction E A → Halt E → Type 0
+TakesTurn link link' desk desk' t (Ended end) = EndsAsDue link link' desk desk' t end
+TakesTurn link link' desk desk' t (Failed Reading) = FailsReading link link' desk desk' t
+TakesTurn link link' desk desk' t (Failed Writing) = FailsWriting link link' desk desk' t
+TakesTurn link link' desk desk' t (Failed Memory) = LacksMemory link link' desk desk' t

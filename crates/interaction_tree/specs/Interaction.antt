@@ -1,0 +1,44 @@
+-- What a session does, as an interaction tree: what it writes, reads and asks, one step after the other, each by the replies before it.
+use Rattle.std.specs.Prelude.{ℕ, List}
+use Rattle.hub_core.specs.declared.entry.Entry.{Entry}
+use Rattle.interaction_tree.specs.Wanted.{Wanted, Fault, Reply}
+use Rattle.interaction_tree.specs.Requests.{Request}
+
+-- how an input is taken that ends inside what is wanted: these bytes are still due, and this is the end
+pub record CutOff (E : Type 0) : Type 0 where
+  pub bytes : List ℕ
+  pub end : E
+
+-- An interaction that gives an A, or ends before with an E.
+pub data Interaction (E A : Type 0) : Type 0 where
+  -- it is done, and gives this
+  gives : A → Interaction E A
+  -- it ends
+  ends : E → Interaction E A
+  -- these bytes are due
+  writes : List ℕ → Interaction E A → Interaction E A
+  -- this is read, and the reply decides what follows; an input that ends inside it ends the interaction, as its fault says
+  reads : (wanted : Wanted) → (Fault wanted → CutOff E) → (Reply wanted → Interaction E A) → Interaction E A
+  -- an entry is made; the log just before it decides its answer, and what follows
+  asks : Request → (List Entry → Interaction E A) → Interaction E A
+
+-- one interaction, and then another that its value decides
+infixl 10 ◌>>=◌
+unfoldable pub ◌>>=◌ : {E A B : Type 0} → Interaction E A → (A → Interaction E B) → Interaction E B
+(gives a) >>= k = k a
+(ends e) >>= k = ends e
+(writes bytes t) >>= k = writes bytes (t >>= k)
+(reads wanted cut f) >>= k = reads wanted cut (λ reply. f reply >>= k)
+(asks request f) >>= k = asks request (λ before. f before >>= k)
+
+-- these bytes alone
+unfoldable pub write : {E : Type 0} → List ℕ → Interaction E (Unit {0})
+write bytes = writes bytes (gives tt)
+
+-- this reading alone
+unfoldable pub read : {E : Type 0} → (wanted : Wanted) → (Fault wanted → CutOff E) → Interaction E (Reply wanted)
+read wanted cut = reads wanted cut (λ reply. gives reply)
+
+-- this entry alone
+unfoldable pub ask : {E : Type 0} → Request → Interaction E (List Entry)
+ask request = asks request (λ before. gives before)

@@ -1,0 +1,12 @@
+pub mod Wanted
+pub mod Requests
+pub mod Interaction
+pub mod Turns
+pub mod Alone
+pub mod Traces
+pub mod Runs
+pub mod Order
+pub mod Steps
+pub mod Endings
+pub mod Growth
+pub mod Laws

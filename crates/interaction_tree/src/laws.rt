@@ -1,0 +1,31 @@
+// Laws of interactions, which hold of every protocol.
+ghost use Rattle.interaction_tree.specs.Laws.{AloneAsLogged, CutOffsRun, DueIsAnswered, EndsOrLacks, EntriesGrow, EntriesRun, HaltsCompose, NothingRuns, OrdersCompose, PacketsRun, PacksRun, ReadingsRun, RefusedPacksRun, RunsCompose, RunsTakeTurns, TurnsCompose, WritesRun};
+
+/// What follows of code that ran an interaction; a call does nothing.
+pub fn turns_hold<E, A>()
+    ensures turns { RunsTakeTurns E A }
+    ensures sure { EndsOrLacks E A }
+    ensures grow { EntriesGrow }
+    ensures answered { DueIsAnswered }
+    ensures alone { AloneAsLogged E A }
+{}
+
+/// How code runs an interaction, step after step; a call does nothing.
+pub fn steps_hold<E, A, B>()
+    ensures composed { RunsCompose E A B }
+    ensures halted { HaltsCompose E A B }
+    ensures nothing { NothingRuns E A }
+    ensures written { WritesRun E }
+    ensures read { ReadingsRun E }
+    ensures cut_off { CutOffsRun E A }
+    ensures entered { EntriesRun E }
+    ensures packets { PacketsRun E }
+    ensures packs { PacksRun E }
+    ensures refused { RefusedPacksRun E A }
+{}
+
+/// How turns, and the order of entries and bytes, compose; a call does nothing.
+pub fn composition_holds<E, A, B>()
+    ensures turns { TurnsCompose E A B }
+    ensures order { OrdersCompose E A B }
+{}
