@@ -1,0 +1,14 @@
+-- The ends of a session, as its interaction sees them.
+use Rattle.interaction_tree.specs.Traces.{Reading, Writing, Memory, Halt, Ended, Failed}
+use Rattle.gitolite_shell.specs.declared.end.SessionEnd.{SessionEnd}
+use Rattle.gitolite_shell.specs.declared.end.SessionEnd.TheVariants.{Served, Denied, NoRepo, ReadFault, WriteFault, NoMemory, NotBuilt}
+
+-- an end that the interaction gives, or what may stop it anywhere
+abbrev pub halt_of : SessionEnd → Halt SessionEnd
+halt_of Served = Ended Served
+halt_of Denied = Ended Denied
+halt_of NoRepo = Ended NoRepo
+halt_of NotBuilt = Ended NotBuilt
+halt_of ReadFault = Failed Reading
+halt_of WriteFault = Failed Writing
+halt_of NoMemory = Failed Memory

@@ -1,0 +1,48 @@
+-- A session's first packet, in the form that is built so far: a user's name, a space, `git-receive-pack`, a space, and a repository's name in
+-- single quotes. A user's name has lower-case letters, 1 to 64; a repository's name has lower-case letters and dashes, 1 to 64, a letter first.
+use Rattle.std.specs.Prelude.{ℕ, ◌-◌, Bool, not, ◌&&◌, ◌||◌, ◌==◌, nat_le, List, [], ◌∷◌, length, take, drop, position, Option, Some, None, codes, if◌then◌else◌}
+use Rattle.std.specs.Option.{unwrap_or}
+use Rattle.std.specs.Str.{bytes_eq}
+use Rattle.git_object.specs.Reader.{◌>>=◌, literal}
+use Rattle.hub_core.specs.Name.{Name}
+
+pub record Asked : Type 0 where
+  pub user : Name
+  pub repo : Name
+
+-- `a` to `z`
+abbrev pub is_letter : ℕ → Bool
+is_letter c = nat_le 97 c && nat_le c 122
+
+abbrev pub is_letter_or_dash : ℕ → Bool
+is_letter_or_dash c = is_letter c || (c == 45)
+
+-- how many bytes at the front are of this kind
+abbrev pub run_length : (ℕ → Bool) → List ℕ → ℕ
+run_length test bytes = unwrap_or (position (λ c. not (test c)) bytes) (length bytes)
+
+-- all bytes of this kind at the front, of which there are 1 to 64, and what follows them
+unfoldable pub word : (ℕ → Bool) → List ℕ → Option (List ℕ × List ℕ)
+word test bytes =
+    if nat_le 1 (run_length test bytes) && nat_le (run_length test bytes) 64
+    then Some (take (run_length test bytes) bytes, drop (run_length test bytes) bytes)
+    else None
+
+-- a packet's payload without one line feed at its end
+unfoldable pub without_feed : List ℕ → List ℕ
+without_feed payload = if bytes_eq (drop (length payload - 1) payload) (10 ∷ []) then take (length payload - 1) payload else payload
+
+-- nothing follows
+abbrev pub at_end : {A : Type 0} → A → List ℕ → Option A
+at_end value [] = Some value
+at_end value (b ∷ rest) = None
+
+-- what a first line asks for
+unfoldable pub asked : List ℕ → Option Asked
+asked line = do
+  user ← word is_letter line
+  quoted ← literal (codes " git-receive-pack '") user.1
+  repo ← word is_letter_or_dash quoted
+  letter ← word is_letter (take 1 quoted)
+  rest ← literal (codes "'") repo.1
+  at_end (record { user = user.0; repo = repo.0 }) rest

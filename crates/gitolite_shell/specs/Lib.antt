@@ -1,0 +1,5 @@
+pub mod End
+pub mod Texts
+pub mod FirstPacket
+pub mod Create
+pub mod Session

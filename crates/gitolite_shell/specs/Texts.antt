@@ -1,0 +1,89 @@
+-- What a session writes.
+use Rattle.std.specs.Prelude.{ℕ, List, [], ◌∷◌, ◌++◌, map, codes, decimal}
+use Rattle.std.specs.List.{flat_map, slice_get}
+use Rattle.std.specs.Option.{option_map_or}
+use Rattle.std.specs.FinMap.{entries}
+use Rattle.git_object.specs.declared.object_id.ObjectId.{ObjectId}
+use Rattle.git_object.specs.ObjectId.{hex_of}
+use Rattle.pktline_core.specs.Packets.{spelling, Line, Flush}
+use Rattle.hub_core.specs.declared.command.Command.{Command}
+use Rattle.hub_core.specs.declared.outcome.Outcome.{Outcome}
+use Rattle.hub_core.specs.declared.outcome.Outcome.TheVariants.{Done, NotAdvertised, Stale, AtomicOther, Collided, Full}
+use Rattle.hub_core.specs.declared.verdict.Verdict.{Verdict}
+use Rattle.hub_core.specs.declared.verdict.Verdict.TheVariants.{Allowed, DeniedBy, Fallthru}
+use Rattle.hub_core.specs.Name.{Name, zero_id}
+use Rattle.hub_core.specs.Store.{Refs}
+
+-- a packet of a line with this payload
+abbrev pub packet : List ℕ → List ℕ
+packet payload = spelling (Line payload)
+
+-- I. The advertisement, as Git's pack-protocol has it under "Reference Discovery"
+
+abbrev pub capabilities : List ℕ
+capabilities = codes "report-status delete-refs no-thin atomic"
+
+-- an id, a space, a name
+abbrev pub ref_text : Name × ObjectId → List ℕ
+ref_text ref = hex_of ref.1 ++ 32 ∷ ref.0
+
+-- what is advertised of refs; where there are none, a line without a ref bears the capabilities
+abbrev pub advertised : List (Name × ObjectId) → List (Name × ObjectId)
+advertised [] = (codes "capabilities^{}", zero_id) ∷ []
+advertised (ref ∷ refs) = ref ∷ refs
+
+abbrev pub first_line : Name × ObjectId → List ℕ
+first_line ref = ref_text ref ++ 0 ∷ capabilities ++ 10 ∷ []
+
+abbrev pub more_line : Name × ObjectId → List ℕ
+more_line ref = ref_text ref ++ 10 ∷ []
+
+abbrev pub advertised_lines : List (Name × ObjectId) → List (List ℕ)
+advertised_lines [] = []
+advertised_lines (ref ∷ refs) = first_line ref ∷ map more_line refs
+
+-- a line for each ref in the byte order of the names, the capabilities on the first, and a flush
+unfoldable pub advertisement : Refs → List ℕ
+advertisement refs = flat_map packet (advertised_lines (advertised (entries refs))) ++ spelling Flush
+
+-- II. Denials
+
+-- what denies: a rule by its number, or that none allows
+abbrev pub denier : Verdict → List ℕ
+denier (Allowed number) = codes "rule " ++ decimal number
+denier (DeniedBy number) = codes "rule " ++ decimal number
+denier Fallthru = codes "fallthru"
+
+-- the text of a denied opening for writing
+unfoldable pub denial : Name → Name → Verdict → List ℕ
+denial user repo verdict = codes "W any " ++ repo ++ 32 ∷ user ++ codes " DENIED by " ++ denier verdict
+
+-- III. The report of a push, as Git's pack-protocol has it under "Report Status"
+
+-- the ref of the command of a place
+abbrev pub ref_at : List Command → ℕ → List ℕ
+ref_at commands place = option_map_or (λ (c : Command). c.name) (slice_get commands place) []
+
+-- why a command isn't done
+abbrev pub reason : List Command → Outcome → List ℕ
+reason commands Done = []
+reason commands (NotAdvertised id) = codes "not advertised, it was " ++ hex_of id
+reason commands (Stale id) = codes "stale, it is " ++ hex_of id
+reason commands (AtomicOther place) = codes "atomic push refused with " ++ ref_at commands place
+reason commands (Collided id) = codes "name collision " ++ hex_of id
+reason commands (Full count) = codes "repository would have " ++ decimal count ++ codes " objects"
+
+-- what is reported of a ref
+abbrev pub status_text : List Command → Name → Outcome → List ℕ
+status_text commands ref Done = codes "ok " ++ ref ++ 10 ∷ []
+status_text commands ref outcome = codes "ng " ++ ref ++ 32 ∷ reason commands outcome ++ 10 ∷ []
+
+-- a line for each command, of all of the push's commands
+abbrev pub status_lines : List Command → List Command → List Outcome → List (List ℕ)
+status_lines all [] outcomes = []
+status_lines all (c ∷ cs) [] = []
+status_lines all (c ∷ cs) (o ∷ os) = status_text all c.name o ∷ status_lines all cs os
+
+-- that the pack was taken, a line for each command, and a flush
+unfoldable pub report : List Command → List Outcome → List ℕ
+report commands outcomes = flat_map packet (codes "unpack ok\n" ∷ status_lines commands commands outcomes) ++ spelling Flush
