@@ -3,3 +3,5 @@ pub mod Texts
 pub mod FirstPacket
 pub mod Create
 pub mod Session
+pub mod Frames
+pub mod ReadingFrames

@@ -9,6 +9,7 @@
 #![tactic(auto)]
 
 mod end;
+mod frames;
 
 use std::io;
 
