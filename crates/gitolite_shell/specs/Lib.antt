@@ -5,3 +5,5 @@ pub mod Create
 pub mod Session
 pub mod Frames
 pub mod ReadingFrames
+pub mod Script
+pub mod RunningScripts

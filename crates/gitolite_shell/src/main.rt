@@ -10,6 +10,9 @@
 
 mod end;
 mod frames;
+mod gate;
+mod script;
+mod session;
 
 use std::io;
 

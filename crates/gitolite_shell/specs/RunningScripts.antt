@@ -1,0 +1,89 @@
+-- What running a script does.
+use Rattle.std.specs.Prelude.{◌≡◌, ⊤, ℕ, ◌+◌, List, [], ◌∷◌, ◌++◌, length, Bool, IsTrue, is_some, Option, Some, None}
+use Rattle.std.specs.List.{flat_map}
+use Rattle.std.specs.Io.KnownBytes.{Appends, IsAtEnd}
+use Rattle.base_types.specs.Counts.{HasRisen}
+use Rattle.pktline_core.specs.LinkState.{LinkState}
+use Rattle.hub_core.specs.Desk.{DeskView}
+use Rattle.interaction_tree.specs.Traces.{Begins}
+use Rattle.interaction_tree.specs.Endings.{IsInput}
+use Rattle.gitolite_shell.specs.Frames.{frame_text, AreBodies, IsScript}
+use Rattle.gitolite_shell.specs.ReadingFrames.{Takes, TakesNoFrame}
+use Rattle.gitolite_shell.specs.Script.{stop_word, reply_text, fault_text, served_alone, sessions, bad_offset, script}
+use Rattle.gitolite_shell.specs.declared.script.ScriptFault.{ScriptFault}
+use Rattle.gitolite_shell.specs.declared.script.ScriptFault.TheVariants.{BadScript, InputFault, OutputFault, NoMemory}
+
+-- no other caller is at the desk's hub
+abbrev pub IsOnly : DeskView → Type 0
+IsOnly desk = ⊤
+
+-- one session was served, and this is printed of it
+pub record Serves (old new : DeskView) (number : ℕ) (body text : List ℕ) : Type 0 where
+  pub printed : text ≡ reply_text number (stop_word (served_alone old.admin body old.seen).stop) (served_alone old.admin body old.seen).bytes
+  pub seen : new.seen ≡ (served_alone old.admin body old.seen).log
+  pub admin : new.admin ≡ old.admin
+  pub only : IsOnly new
+
+-- Frames with these bodies were read, and their sessions served and printed, of which the first has this number.
+pub record Advances (source source' sink sink' : LinkState) (old new : DeskView) (number : ℕ) (bodies : List (List ℕ)) : Type 0 where
+  pub small : AreBodies bodies
+  pub takes : Takes source source' (flat_map frame_text bodies)
+  pub written : Appends sink.written sink'.written (sessions old.admin number bodies old.seen).output
+  pub seen : new.seen ≡ (sessions old.admin number bodies old.seen).log
+  pub admin : new.admin ≡ old.admin
+  pub only : IsOnly new
+
+-- the next session, whose frame takes so many bytes
+pub record AdvancesOne (source source' sink sink' : LinkState) (old new : DeskView) (number taken : ℕ) : Type 0 where
+  pub body : List ℕ
+  pub advances : Advances source source' sink sink' old new number (body ∷ [])
+  pub counted : taken ≡ length (frame_text body)
+
+-- the input was at its end, and nothing was done
+pub record FindsEnd (source source' sink sink' : LinkState) (old new : DeskView) : Type 0 where
+  pub takes : Takes source source' []
+  pub ended : IsAtEnd source'.left
+  pub sink_is : sink' ≡ sink
+  pub desk_is : new ≡ old
+
+-- a frame is bad, which was printed
+pub record FindsBad (source source' sink sink' : LinkState) (old new : DeskView) (offset : ℕ) : Type 0 where
+  pub read : TakesNoFrame source source'
+  pub written : Appends sink.written sink'.written (fault_text offset)
+  pub desk_is : new ≡ old
+
+-- why there is no next session: a bad frame, or a fault with its cause
+abbrev pub StopsAdvancing : LinkState → LinkState → LinkState → LinkState → DeskView → DeskView → ℕ → ScriptFault → Type 0
+StopsAdvancing source source' sink sink' old new offset BadScript = FindsBad source source' sink sink' old new offset
+StopsAdvancing source source' sink sink' old new offset InputFault = HasRisen source.read_faults source'.read_faults
+StopsAdvancing source source' sink sink' old new offset OutputFault = HasRisen sink.write_faults sink'.write_faults
+StopsAdvancing source source' sink sink' old new offset NoMemory = ⊤
+
+-- a text was not written
+abbrev pub StopsWriting : LinkState → LinkState → ScriptFault → Type 0
+StopsWriting sink sink' BadScript = ⊥
+StopsWriting sink sink' InputFault = ⊥
+StopsWriting sink sink' OutputFault = HasRisen sink.write_faults sink'.write_faults
+StopsWriting sink sink' NoMemory = ⊤
+
+-- A script was run to its end, or to a bad frame: its input is a script, and what was printed, and the log, are that script's.
+-- Of what follows the frames a part was read, which shows that it is no frame.
+pub record RunsScript (source source' sink sink' : LinkState) (old new : DeskView) (bad : Bool) : Type 0 where
+  pub input : List ℕ
+  pub bodies : List (List ℕ)
+  pub rest : List ℕ
+  pub part : List ℕ
+  pub told : IsInput source.left input
+  pub is_script : IsScript input bodies rest
+  pub bad_is : is_some (bad_offset bodies rest) ≡ bad
+  pub begins : Begins part rest
+  pub takes : Takes source source' (flat_map frame_text bodies ++ part)
+  pub written : Appends sink.written sink'.written (script old.admin bodies rest old.seen).output
+  pub seen : new.seen ≡ (script old.admin bodies rest old.seen).log
+
+-- why a script ended before its input did
+abbrev pub StopsScript : LinkState → LinkState → LinkState → LinkState → DeskView → DeskView → ScriptFault → Type 0
+StopsScript source source' sink sink' old new BadScript = RunsScript source source' sink sink' old new true
+StopsScript source source' sink sink' old new InputFault = HasRisen source.read_faults source'.read_faults
+StopsScript source source' sink sink' old new OutputFault = HasRisen sink.write_faults sink'.write_faults
+StopsScript source source' sink sink' old new NoMemory = ⊤
