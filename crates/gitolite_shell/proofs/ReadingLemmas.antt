@@ -20,7 +20,7 @@ takes_more a b c xs ys p q = record {
 pub fails_later : (a b c : LinkState) → IsLater a b → FailsToRead b c → FailsToRead a c
 fails_later a b c later f = record { risen = risen_later a.read_faults b.read_faults c.read_faults later.read_faults f.risen; may_fail = rw later.may_fail at f.may_fail }
 
-no_rest : (left : Option (List ℕ)) (rest : List ℕ) → IsAtEnd left → IsRest left rest → rest ≡ []
+pub no_rest : (left : Option (List ℕ)) (rest : List ℕ) → IsAtEnd left → IsRest left rest → rest ≡ []
 no_rest None rest ended is = is
 no_rest (Some xs) rest ended is = is ∙ ended
 

@@ -1,5 +1,5 @@
 -- What running a script does.
-use Rattle.std.specs.Prelude.{◌≡◌, ⊤, ℕ, ◌+◌, List, [], ◌∷◌, ◌++◌, length, Bool, IsTrue, is_some, Option, Some, None}
+use Rattle.std.specs.Prelude.{◌≡◌, ⊤, ℕ, ◌+◌, List, [], ◌∷◌, ◌++◌, length, Bool, true, IsTrue, is_some, Option, Some, None}
 use Rattle.std.specs.List.{flat_map}
 use Rattle.std.specs.Io.KnownBytes.{Appends, IsAtEnd}
 use Rattle.base_types.specs.Counts.{HasRisen}
@@ -13,16 +13,12 @@ use Rattle.gitolite_shell.specs.Script.{stop_word, reply_text, fault_text, serve
 use Rattle.gitolite_shell.specs.declared.script.ScriptFault.{ScriptFault}
 use Rattle.gitolite_shell.specs.declared.script.ScriptFault.TheVariants.{BadScript, InputFault, OutputFault, NoMemory}
 
--- no other caller is at the desk's hub
-abbrev pub IsOnly : DeskView → Type 0
-IsOnly desk = ⊤
-
 -- one session was served, and this is printed of it
 pub record Serves (old new : DeskView) (number : ℕ) (body text : List ℕ) : Type 0 where
   pub printed : text ≡ reply_text number (stop_word (served_alone old.admin body old.seen).stop) (served_alone old.admin body old.seen).bytes
   pub seen : new.seen ≡ (served_alone old.admin body old.seen).log
   pub admin : new.admin ≡ old.admin
-  pub only : IsOnly new
+  pub alone : IsTrue new.alone
 
 -- Frames with these bodies were read, and their sessions served and printed, of which the first has this number.
 pub record Advances (source source' sink sink' : LinkState) (old new : DeskView) (number : ℕ) (bodies : List (List ℕ)) : Type 0 where
@@ -31,7 +27,7 @@ pub record Advances (source source' sink sink' : LinkState) (old new : DeskView)
   pub written : Appends sink.written sink'.written (sessions old.admin number bodies old.seen).output
   pub seen : new.seen ≡ (sessions old.admin number bodies old.seen).log
   pub admin : new.admin ≡ old.admin
-  pub only : IsOnly new
+  pub alone : IsTrue new.alone
 
 -- the next session, whose frame takes so many bytes
 pub record AdvancesOne (source source' sink sink' : LinkState) (old new : DeskView) (number taken : ℕ) : Type 0 where

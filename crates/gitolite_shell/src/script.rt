@@ -1,11 +1,11 @@
 // A script: sessions one after the other on one desk, and what is printed of them.
-ghost use Rattle.std.specs.Prelude.{◌≡◌, [], IfOk, IfErr, IfSome, IfNone, OnOk};
+ghost use Rattle.std.specs.Prelude.{◌≡◌, [], IfOk, IfErr, IfSome, IfNone, IsTrue, OnOk, false};
 ghost use Rattle.std.specs.Io.KnownBytes.{Appends};
 ghost use Rattle.pktline_core.specs.Links.{IsLater};
 ghost use Rattle.interaction_tree.specs.Traces.{Ended};
 ghost use Rattle.gitolite_shell.specs.End.{halt_of};
 ghost use Rattle.gitolite_shell.specs.Script.{end_word, fault_text, reply_text};
-ghost use Rattle.gitolite_shell.specs.RunningScripts.{AdvancesOne, FindsEnd, IsOnly, RunsScript, Serves, StopsAdvancing, StopsScript, StopsWriting};
+ghost use Rattle.gitolite_shell.specs.RunningScripts.{AdvancesOne, FindsEnd, RunsScript, Serves, StopsAdvancing, StopsScript, StopsWriting};
 
 use crate::end::SessionEnd;
 use crate::frames::{FrameFault, read_frame};
@@ -111,7 +111,7 @@ fn serve<K: Desk>(
     body: Vec<u8>,
     desk: &mut K,
 ) -> Result<Vec<u8>, NoMemory>
-    requires { IsOnly (K.view desk.old) }
+    requires { IsTrue (K.view desk.old).alone }
     ensures { IfOk result (λ text. Serves (K.view desk.old) (K.view desk.new) number body.items text.items) }
 {
     let mut link = MemoryLink::new(body, MOST_MOVED, Vec::new(alloc), Vec::new(alloc));
@@ -132,7 +132,7 @@ fn advance<I: Source, O: Sink, K: Desk>(
     output: &mut O,
     desk: &mut K,
 ) -> Result<Option<u64>, ScriptFault>
-    requires { IsOnly (K.view desk.old) }
+    requires { IsTrue (K.view desk.old).alone }
     ensures some { IfOk result (λ found. IfSome found (AdvancesOne (I.state input.old) (I.state input.new) (O.state output.old) (O.state output.new) (K.view desk.old) (K.view desk.new) number)) }
     ensures none { IfOk result (λ found. IfNone found (FindsEnd (I.state input.old) (I.state input.new) (O.state output.old) (O.state output.new) (K.view desk.old) (K.view desk.new))) }
     ensures err { IfErr result (StopsAdvancing (I.state input.old) (I.state input.new) (O.state output.old) (O.state output.new) (K.view desk.old) (K.view desk.new) offset) }
@@ -164,7 +164,7 @@ pub fn run_script<I: Source, O: Sink, K: Desk>(
     output: &mut O,
     desk: &mut K,
 ) -> Result<(), ScriptFault>
-    requires { IsOnly (K.view desk.old) }
+    requires { IsTrue (K.view desk.old).alone }
     ensures ok { OnOk result (RunsScript (I.state input.old) (I.state input.new) (O.state output.old) (O.state output.new) (K.view desk.old) (K.view desk.new) false) }
     ensures err { IfErr result (StopsScript (I.state input.old) (I.state input.new) (O.state output.old) (O.state output.new) (K.view desk.old) (K.view desk.new)) }
 {

@@ -4,7 +4,7 @@ use Rattle.interaction_tree.specs.Turns.{Open}
 use Rattle.gitolite_shell.proofs.session.session.Goals as goal
 
 pub returns : goal.returns
-returns g c = record {
+returns g c = record { turn = record {
   part = [];
   bytes = [];
   own = [];
@@ -16,4 +16,4 @@ returns g c = record {
   entries = (_, refl);
   written = Appends-nil _;
   begins = (_, refl);
-}
+} }
