@@ -81,7 +81,7 @@ module _ (a b : LinkState) (line : List ℕ) (first : Takes a b (line ++ 10 ∷ 
       unfolding frame_text
       closed last =
           let whole : ((line ++ 10 ∷ []) ++ body) ++ 10 ∷ [] ≡ frame_text body =
-              append_assoc (line ++ 10 ∷ []) body (10 ∷ []) ∙ append_assoc line (10 ∷ []) (body ++ 10 ∷ []) ∙ ap (λ (l : List ℕ). l ++ 10 ∷ (body ++ 10 ∷ [])) (size.head ∙ ap head_text (sym second.sized)) in
+          append_assoc (line ++ 10 ∷ []) body (10 ∷ []) ∙ append_assoc line (10 ∷ []) (body ++ 10 ∷ []) ∙ ap (λ (l : List ℕ). l ++ 10 ∷ (body ++ 10 ∷ [])) (size.head ∙ ap head_text (sym second.sized)) in
           record {
             takes = subst (Takes a d) whole (takes_more a c d ((line ++ 10 ∷ []) ++ body) (10 ∷ []) both last);
             counted = omega (arith, second.sized, ap length whole, length-append ((line ++ 10 ∷ []) ++ body) (10 ∷ []), length-append (line ++ 10 ∷ []) body, length-append line (10 ∷ []));

@@ -59,9 +59,9 @@ if_ok P Q (Err e) more p = tt
 
 sessions_more : (admin : Name) (number next : ℕ) (bodies more : List (List ℕ)) (log : List Entry) → next ≡ number + length bodies
     → sessions admin number (bodies ++ more) log ≡ record {
-        output = (sessions admin number bodies log).output ++ (sessions admin next more (sessions admin number bodies log).log).output;
-        log = (sessions admin next more (sessions admin number bodies log).log).log;
-      }
+      output = (sessions admin number bodies log).output ++ (sessions admin next more (sessions admin number bodies log).log).output;
+      log = (sessions admin next more (sessions admin number bodies log).log).log;
+    }
 unfolding sessions
 sessions_more admin number next [] more log is = ap (λ n. sessions admin n more log) (omega arith)
 sessions_more admin number next (body ∷ bodies) more log is =
@@ -69,7 +69,7 @@ sessions_more admin number next (body ∷ bodies) more log is =
     let text : List ℕ = reply_text number (stop_word turn.stop) turn.bytes in
     ap (λ (p : Printed). record { output = text ++ p.output; log = p.log }) (sessions_more admin (number + 1) next bodies more turn.log (omega (arith, is)))
     ∙ ap (λ (o : List ℕ). record { output = o; log = (sessions admin next more (sessions admin (number + 1) bodies turn.log).log).log })
-        (sym (append_assoc text (sessions admin (number + 1) bodies turn.log).output (sessions admin next more (sessions admin (number + 1) bodies turn.log).log).output))
+    (sym (append_assoc text (sessions admin (number + 1) bodies turn.log).output (sessions admin next more (sessions admin (number + 1) bodies turn.log).log).output))
 
 bodies_more : (bodies more : List (List ℕ)) → AreBodies bodies → AreBodies more → AreBodies (bodies ++ more)
 bodies_more [] more p q = q
@@ -136,7 +136,7 @@ input_of (Some input) (Some rest) taken consumed = (rest, refl, consumed)
 
 runs_to : (s s' s'' k k' k'' : LinkState) (d d' d'' : DeskView) (bodies : List (List ℕ)) (part : List ℕ) (at : Option ℕ)
     → Advances s s' k k' d d' 1 bodies → Takes s' s'' part → ((more : List ℕ) → IsRest s''.left more → BeginsNoFrame (part ++ more) × (bad_offset bodies (part ++ more) ≡ at))
-    → Appends k'.written k''.written (last_line at) → d'' ≡ d' → RunsScript s s'' k k'' d d'' (is_some at)
+    → Appends k'.written k''.written (last_line at) → d'' ≡ d' → RunsScript s s'' k k'' d.admin d.seen d''.seen (is_some at)
 unfolding script
 runs_to s s' s'' k k' k'' d d' d'' bodies part at advances last follows wrote same =
     let takes = takes_more s s' s'' (flat_map frame_text bodies) part advances.takes last in
@@ -153,10 +153,10 @@ runs_to s s' s'' k k' k'' d d' d'' bodies part at advances last follows wrote sa
       begins = (whole.0, refl);
       takes = takes;
       written = rw here.1 (appends_more k.written k'.written k''.written _ _ advances.written wrote);
-      seen = ap (λ (e : DeskView). e.seen) same ∙ advances.seen;
+      log_is = ap (λ (e : DeskView). e.seen) same ∙ advances.seen;
     }
 
-pub runs_end : (s s' s'' k k' k'' : LinkState) (d d' d'' : DeskView) (bodies : List (List ℕ)) → Advances s s' k k' d d' 1 bodies → FindsEnd s' s'' k' k'' d' d'' → RunsScript s s'' k k'' d d'' false
+pub runs_end : (s s' s'' k k' k'' : LinkState) (d d' d'' : DeskView) (bodies : List (List ℕ)) → Advances s s' k k' d d' 1 bodies → FindsEnd s' s'' k' k'' d' d'' → RunsScript s s'' k k'' d.admin d.seen d''.seen false
 runs_end s s' s'' k k' k'' d d' d'' bodies advances end =
     runs_to s s' s'' k k' k'' d d' d'' bodies [] None advances end.takes
     (λ more is. let none : more ≡ [] = no_rest s''.left more end.ended is in rw none (begins_none, refl))
@@ -167,7 +167,7 @@ bad_some bodies [] more offset some is = absurd (omega (arith, some))
 bad_some bodies (b ∷ part) more offset some is = ap (λ n. Some n) (sym is)
 
 pub runs_bad : (s s' s'' k k' k'' : LinkState) (d d' d'' : DeskView) (bodies : List (List ℕ)) (offset : ℕ) → Advances s s' k k' d d' 1 bodies → offset ≡ length (flat_map frame_text bodies)
-    → FindsBad s' s'' k' k'' d' d'' offset → RunsScript s s'' k k'' d d'' true
+    → FindsBad s' s'' k' k'' d' d'' offset → RunsScript s s'' k k'' d.admin d.seen d''.seen true
 runs_bad s s' s'' k k' k'' d d' d'' bodies offset advances is bad =
     runs_to s s' s'' k k' k'' d d' d'' bodies bad.read.part (Some offset) advances bad.read.takes
     (λ more rest. (bad.read.bad more rest, bad_some bodies bad.read.part more offset bad.read.some is)) bad.written bad.desk_is
@@ -188,7 +188,7 @@ advances_next s s' s'' k k' k'' d d' d'' number offset taken bodies advances cou
 )
 
 pub stops : (s s' s'' k k' k'' : LinkState) (d d' d'' : DeskView) (bodies : List (List ℕ)) (offset : ℕ) (fault : ScriptFault) → Advances s s' k k' d d' 1 bodies → offset ≡ length (flat_map frame_text bodies)
-    → IsLater s s' → IsLater k k' → StopsAdvancing s' s'' k' k'' d' d'' offset fault → StopsScript s s'' k k'' d d'' fault
+    → IsLater s s' → IsLater k k' → StopsAdvancing s' s'' k' k'' d' d'' offset fault → StopsScript s s'' k k'' d.admin d.seen d''.seen fault
 stops s s' s'' k k' k'' d d' d'' bodies offset BadScript advances place input output stop = runs_bad s s' s'' k k' k'' d d' d'' bodies offset advances place stop
 stops s s' s'' k k' k'' d d' d'' bodies offset InputFault advances place input output stop = risen_later s.read_faults s'.read_faults s''.read_faults input.read_faults stop
 stops s s' s'' k k' k'' d d' d'' bodies offset OutputFault advances place input output stop = risen_later k.write_faults k'.write_faults k''.write_faults output.write_faults stop

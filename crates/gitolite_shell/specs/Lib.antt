@@ -7,3 +7,5 @@ pub mod Frames
 pub mod ReadingFrames
 pub mod Script
 pub mod RunningScripts
+pub mod Words
+pub mod Lone

@@ -4,6 +4,8 @@ use Rattle.std.specs.List.{flat_map}
 use Rattle.std.specs.Io.KnownBytes.{Appends, IsAtEnd}
 use Rattle.base_types.specs.Counts.{HasRisen}
 use Rattle.pktline_core.specs.LinkState.{LinkState}
+use Rattle.hub_core.specs.declared.entry.Entry.{Entry}
+use Rattle.hub_core.specs.Name.{Name}
 use Rattle.hub_core.specs.Desk.{DeskView}
 use Rattle.interaction_tree.specs.Traces.{Begins}
 use Rattle.interaction_tree.specs.Endings.{IsInput}
@@ -62,9 +64,9 @@ StopsWriting sink sink' InputFault = ⊥
 StopsWriting sink sink' OutputFault = HasRisen sink.write_faults sink'.write_faults
 StopsWriting sink sink' NoMemory = ⊤
 
--- A script was run to its end, or to a bad frame: its input is a script, and what was printed, and the log, are that script's.
--- Of what follows the frames a part was read, which shows that it is no frame.
-pub record RunsScript (source source' sink sink' : LinkState) (old new : DeskView) (bad : Bool) : Type 0 where
+-- A script was run to its end, or to a bad frame: the input is a script, and what was printed, and the log from one to another, are that script's.
+-- Of what follows the frames a part was read, which shows that no frame stands there.
+pub record RunsScript (source source' sink sink' : LinkState) (admin : Name) (log log' : List Entry) (bad : Bool) : Type 0 where
   pub input : List ℕ
   pub bodies : List (List ℕ)
   pub rest : List ℕ
@@ -74,12 +76,12 @@ pub record RunsScript (source source' sink sink' : LinkState) (old new : DeskVie
   pub bad_is : is_some (bad_offset bodies rest) ≡ bad
   pub begins : Begins part rest
   pub takes : Takes source source' (flat_map frame_text bodies ++ part)
-  pub written : Appends sink.written sink'.written (script old.admin bodies rest old.seen).output
-  pub seen : new.seen ≡ (script old.admin bodies rest old.seen).log
+  pub written : Appends sink.written sink'.written (script admin bodies rest log).output
+  pub log_is : log' ≡ (script admin bodies rest log).log
 
 -- why a script ended before its input did
-abbrev pub StopsScript : LinkState → LinkState → LinkState → LinkState → DeskView → DeskView → ScriptFault → Type 0
-StopsScript source source' sink sink' old new BadScript = RunsScript source source' sink sink' old new true
-StopsScript source source' sink sink' old new InputFault = HasRisen source.read_faults source'.read_faults
-StopsScript source source' sink sink' old new OutputFault = HasRisen sink.write_faults sink'.write_faults
-StopsScript source source' sink sink' old new NoMemory = ⊤
+abbrev pub StopsScript : LinkState → LinkState → LinkState → LinkState → Name → List Entry → List Entry → ScriptFault → Type 0
+StopsScript source source' sink sink' admin log log' BadScript = RunsScript source source' sink sink' admin log log' true
+StopsScript source source' sink sink' admin log log' InputFault = HasRisen source.read_faults source'.read_faults
+StopsScript source source' sink sink' admin log log' OutputFault = HasRisen sink.write_faults sink'.write_faults
+StopsScript source source' sink sink' admin log log' NoMemory = ⊤

@@ -11,8 +11,10 @@
 mod end;
 mod frames;
 mod gate;
+mod lone;
 mod script;
 mod session;
+mod words;
 
 use std::io;
 

@@ -58,12 +58,7 @@ fn word(end: SessionEnd) -> Option<&'static str>
 }
 
 #[tactic(auto, unfolding(crate::specs::Script::reply_text))]
-fn reply_text(
-    alloc: Global,
-    number: u64,
-    word: &str,
-    reply: &[u8],
-) -> Result<Vec<u8>, NoMemory>
+fn reply_text(alloc: Global, number: u64, word: &str, reply: &[u8]) -> Result<Vec<u8>, NoMemory>
     ensures { IfOk result (λ text. text.items ≡ reply_text number word.now reply.now) }
 {
     let mut digits = Buffer::new();
@@ -165,8 +160,8 @@ pub fn run_script<I: Source, O: Sink, K: Desk>(
     desk: &mut K,
 ) -> Result<(), ScriptFault>
     requires { IsTrue (K.view desk.old).alone }
-    ensures ok { OnOk result (RunsScript (I.state input.old) (I.state input.new) (O.state output.old) (O.state output.new) (K.view desk.old) (K.view desk.new) false) }
-    ensures err { IfErr result (StopsScript (I.state input.old) (I.state input.new) (O.state output.old) (O.state output.new) (K.view desk.old) (K.view desk.new)) }
+    ensures ok { OnOk result (RunsScript (I.state input.old) (I.state input.new) (O.state output.old) (O.state output.new) ((K.view desk.old).admin) ((K.view desk.old).seen) ((K.view desk.new).seen) false) }
+    ensures err { IfErr result (StopsScript (I.state input.old) (I.state input.new) (O.state output.old) (O.state output.new) ((K.view desk.old).admin) ((K.view desk.old).seen) ((K.view desk.new).seen)) }
 {
     let mut number = 1;
     let mut offset = 0;

@@ -11,5 +11,5 @@ returns g c =
     let written = ap (λ (m : MemoryState). Some m.written) c.new-link.ensures in
     if_ok _ _ c.reply_text.result
     (λ text is. serves _ _ _ _ c.args.number c.args.body.items _ c.in-Some.word.now text.items c.session-end.result left written refl c.requires ends c.in-Some.ensures.0
-        (is ∙ ap (reply_text c.args.number c.in-Some.word.now) c.written.ensures))
+    (is ∙ ap (reply_text c.args.number c.in-Some.word.now) c.written.ensures))
     c.reply_text.ensures
