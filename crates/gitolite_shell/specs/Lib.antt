@@ -3,3 +3,8 @@ pub mod Texts
 pub mod FirstPacket
 pub mod Create
 pub mod Session
+pub mod Door
+pub mod MemoryDoors
+pub mod MemoryDoorViews
+pub mod Standard
+pub mod StandardViews

@@ -1,0 +1,1 @@
+// One test each of the edges.
