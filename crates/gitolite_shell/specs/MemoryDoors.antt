@@ -1,7 +1,6 @@
 -- Doors over memory, call by call.
-use Rattle.std.specs.Prelude.{◌≡◌, ℕ, ◌==◌, ◌+◌, ◌-◌, Bool, true, false, not, List, [], ◌∷◌, ◌++◌, length}
-use Rattle.std.specs.declared.option.Option.{Option}
-use Rattle.std.specs.declared.option.Option.TheVariants.{None, Some}
+use Rattle.std.specs.Prelude.{ℕ, ◌==◌, ◌+◌, ◌-◌, Bool, true, false, not, if◌then◌else◌, List, [], ◌∷◌, ◌++◌}
+use Rattle.std.specs.declared.option.Option.TheVariants.{Some}
 use Rattle.base_types.specs.Counts.{one_more}
 use Rattle.pktline_core.specs.MemoryLinks.{is_listed}
 use Rattle.gitolite_shell.specs.Door.{DoorState}

@@ -1,6 +1,6 @@
 // A stand-in for the script of sessions, which copies input to output. It is not to be merged.
 use crate::post::Post;
-use pktline_core::{Put, Sink, Source, Taken};
+use pktline_core::{Sink, Source, Taken, WriteFault, write_all};
 use std::alloc::Global;
 
 /// How the program ends.
@@ -9,19 +9,16 @@ pub struct Ended {
     pub status: u8,
 }
 
-fn put_all<O: Sink>(output: &mut O, mut rest: &[u8]) -> u8 {
-    while !rest.is_empty() {
-        match output.put(rest) {
-            Put::Took(count) => rest = rest.split_at(count).1,
-            Put::Failed => return 3,
-            Put::NoMemory => return 4,
-        }
+fn put_all<O: Sink>(output: &mut O, bytes: &[u8]) -> u8 {
+    match write_all(output, bytes) {
+        Ok(()) => 0,
+        Err(WriteFault::Failed) => 3,
+        Err(WriteFault::NoMemory) => 4,
     }
-    0
 }
 
 pub fn shell_main<I: Source, O: Sink, D, G>(
-    alloc: Global,
+    _alloc: Global,
     words: &[String],
     input: &mut I,
     output: &mut O,
@@ -30,9 +27,7 @@ pub fn shell_main<I: Source, O: Sink, D, G>(
     if words.len() != 1 {
         return Ended { status: 1 };
     }
-    let Ok(mut room) = vec![in alloc; 0u8; 65_536] else {
-        return Ended { status: 4 };
-    };
+    let mut room = [0u8; 65_536];
     for _ in 0..u64::MAX {
         match input.take(&mut room) {
             Taken::Got(count) => {
