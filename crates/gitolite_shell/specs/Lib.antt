@@ -7,4 +7,3 @@ pub mod Door
 pub mod MemoryDoors
 pub mod MemoryDoorViews
 pub mod Standard
-pub mod StandardViews

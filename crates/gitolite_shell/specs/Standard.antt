@@ -1,11 +1,12 @@
--- What a reader and a writer of the system are to contracts: nothing of their bytes is told, and each may fail.
-use Rattle.std.specs.Prelude.{ℕ, true, false, None}
+-- What a reader and a writer of the system are to contracts: each may fail, and neither lacks memory.
+use Rattle.std.specs.Prelude.{ℕ, true, false, List, None}
+use Rattle.std.specs.declared.option.Option.{Option}
 use Rattle.pktline_core.specs.LinkState.{LinkState}
 
--- a reader that has given so many bytes and failed so often
-abbrev pub reader_state : ℕ → ℕ → LinkState
-reader_state given faults = record {
-  left = None;
+-- a reader with these bytes left, where it tells them, that has given so many bytes and failed so often
+abbrev pub reader_state : Option (List ℕ) → ℕ → ℕ → LinkState
+reader_state left given faults = record {
+  left = left;
   given = given;
   read_faults = faults;
   written = None;
@@ -14,13 +15,13 @@ reader_state given faults = record {
   may_fail = true;
 }
 
--- a writer that has failed so often
-abbrev pub writer_state : ℕ → LinkState
-writer_state faults = record {
+-- a writer with these bytes written, where it tells them, that has failed so often
+abbrev pub writer_state : Option (List ℕ) → ℕ → LinkState
+writer_state written faults = record {
   left = None;
   given = 0;
   read_faults = 0;
-  written = None;
+  written = written;
   write_faults = faults;
   may_lack = false;
   may_fail = true;

@@ -20,6 +20,7 @@ mod standin;
 #[cfg(test)]
 mod tests;
 
+use base_types::NoMemory;
 use gate::OpenGate;
 use memory_door::MemoryDoor;
 use pktline_core::MemoryLink;
@@ -30,27 +31,31 @@ use std::alloc::Global;
 use std::process::ExitCode;
 use std::{env, io};
 
-/// The words by which the program was called, without its name.
-fn words_of(rt: &HostRuntime) -> io::Result<Vec<String>> {
+/// The words by which the program was called, without its name. Where one is no text there are none, which is no
+/// command either.
+fn words_of(rt: &HostRuntime) -> Result<Vec<String>, NoMemory> {
     let mut words = Vec::new(rt.alloc());
-    for word in env::args(rt)?.skip(1) {
-        words.push(word)?;
+    match env::args(rt) {
+        Ok(all) => {
+            for word in all.skip(1) {
+                words.push(word)?;
+            }
+        }
+        Err(error) if error.kind() == io::ErrorKind::OutOfMemory => return Err(NoMemory),
+        Err(_) => {}
     }
     Ok(words)
 }
 
-/// Ends with the status that `shell_main` gives. Without memory for the words it is 4, and words that are no text
-/// are not a command, which is 1.
+/// Ends with the status of `shell_main`, or with 4 where the words find no memory.
 fn main(rt: HostRuntime) -> ExitCode {
-    let words = match words_of(&rt) {
-        Ok(words) => words,
-        Err(error) if error.kind() == io::ErrorKind::OutOfMemory => return ExitCode::from(4),
-        Err(_) => return ExitCode::from(1),
-    };
     let alloc: Global = rt.alloc();
-    let mut posts: Vec<Post<MemoryDoor<MemoryLink>, OpenGate>> = Vec::new(alloc);
+    let Ok(words) = words_of(&rt) else {
+        return ExitCode::from(4);
+    };
     let mut input = StdSource::new(rt.stdin());
     let mut output = StdSink::new(rt.stdout());
+    let mut posts: Vec<Post<MemoryDoor<MemoryLink>, OpenGate>> = Vec::new(alloc);
     let ended = shell_main(alloc, &words, &mut input, &mut output, &mut posts);
     ExitCode::from(ended.status)
 }

@@ -5,10 +5,13 @@ ghost use Rattle.gitolite_shell.specs.Standard.{reader_state, writer_state};
 use pktline_core::{Endpoint, Put, Sink, Source, Taken};
 use std::io::{Read, Stdin, Stdout, Write};
 
-/// The standard input, or another reader in its place. It tells nothing of the bytes.
+// A source gives fewer bytes than 2^63 in all.
+const MOST_GIVEN: u64 = (1 << 63) - 1;
+
+/// The standard input, or another reader in its place. It tells of the bytes what its reader tells, which of the
+/// standard input is nothing.
 ///
-/// A read of 0 bytes is the end, and each error is a fault. Once so many bytes came that one read more could reach
-/// 2^63, such a read is a fault too, and its bytes are lost.
+/// A read of 0 bytes is the end, and each error is a fault. So is each call after 2^63 - 1 bytes.
 #[derive(Drop)]
 pub struct StdSource<R = Stdin> {
     input: R,
@@ -17,11 +20,9 @@ pub struct StdSource<R = Stdin> {
     ghost given_below: { given < 2 ^ 63 },
 }
 
-impl<R> StdSource<R> {
-    ghost use Rattle.gitolite_shell.specs.StandardViews.{source_of};
-
+impl<R: Read> StdSource<R> {
     pub fn new(input: R) -> StdSource<R>
-        ensures { source_of result ≡ reader_state 0 0 }
+        ensures { ⟦<StdSource<R> as Endpoint>⟧.state result ≡ reader_state (R.remaining input) 0 0 }
     {
         StdSource {
             input,
@@ -31,21 +32,25 @@ impl<R> StdSource<R> {
     }
 }
 
-impl<R> Endpoint for StdSource<R> {
-    ghost use Rattle.gitolite_shell.specs.StandardViews.{source_of};
-
-    ghost state = { source_of };
+impl<R: Read> Endpoint for StdSource<R> {
+    ghost state = { λ s. reader_state (R.remaining s.input) s.given s.faults };
 }
 
 impl<R: Read> Source for StdSource<R> {
     fn take(&mut self, room: &mut [u8]) -> Taken {
-        match self.input.read(room) {
+        let most = (MOST_GIVEN - self.given) as usize;
+        if most == 0 {
+            self.faults = self.faults.saturating_add(1);
+            return Taken::Failed;
+        }
+        let within = most.min(room.len());
+        match self.input.read(room.split_at_mut(within).0) {
             Ok(0) => Taken::End,
-            Ok(count) if (count as u64) < (1 << 63) - self.given => {
+            Ok(count) => {
                 self.given += count as u64;
                 Taken::Got(count)
             }
-            _ => {
+            Err(_) => {
                 self.faults = self.faults.saturating_add(1);
                 Taken::Failed
             }
@@ -55,7 +60,8 @@ impl<R: Read> Source for StdSource<R> {
     ghost given_below = { λ s. s.given_below };
 }
 
-/// The standard output, or another writer in its place. It tells nothing of the bytes.
+/// The standard output, or another writer in its place. It tells of the bytes what its writer tells, which of the
+/// standard output is nothing.
 ///
 /// Each call of `put` is one write to the system, so that nothing has to be flushed. An error is a fault, and so is
 /// a write that takes 0 bytes.
@@ -65,21 +71,17 @@ pub struct StdSink<W = Stdout> {
     faults: u64,
 }
 
-impl<W> StdSink<W> {
-    ghost use Rattle.gitolite_shell.specs.StandardViews.{sink_of};
-
+impl<W: Write> StdSink<W> {
     /// A sink over a writer that keeps nothing back, since none is flushed.
     pub fn new(output: W) -> StdSink<W>
-        ensures { sink_of result ≡ writer_state 0 }
+        ensures { ⟦<StdSink<W> as Endpoint>⟧.state result ≡ writer_state (W.contents output) 0 }
     {
         StdSink { output, faults: 0 }
     }
 }
 
-impl<W> Endpoint for StdSink<W> {
-    ghost use Rattle.gitolite_shell.specs.StandardViews.{sink_of};
-
-    ghost state = { sink_of };
+impl<W: Write> Endpoint for StdSink<W> {
+    ghost state = { λ s. writer_state (W.contents s.output) s.faults };
 }
 
 impl<W: Write> Sink for StdSink<W> {
