@@ -1,6 +1,7 @@
 // The standard input and the standard output, as the two halves of a link.
-ghost use Rattle.std.specs.Prelude.{◌≡◌, ◌<◌, ◌^◌};
-ghost use Rattle.gitolite_shell.specs.Standard.{reader_state, writer_state};
+ghost use Rattle.std.specs.Prelude.{◌≡◌, ◌<◌, ◌^◌, length};
+ghost use Rattle.pktline_core.specs.Links.{Takes, Puts, IsLater, KeepsReading, KeepsWriting};
+ghost use Rattle.gitolite_shell.specs.Standard.{reader_state, writer_state, faults_after_take, faults_after_put};
 
 use pktline_core::{Endpoint, Put, Sink, Source, Taken};
 use std::io::{Read, Stdin, Stdout, Write};
@@ -37,7 +38,13 @@ impl<R: Read> Endpoint for StdSource<R> {
 }
 
 impl<R: Read> Source for StdSource<R> {
-    fn take(&mut self, room: &mut [u8]) -> Taken {
+    fn take(&mut self, room: &mut [u8]) -> Taken
+        requires { 0 < length room.old }
+        ensures taken { Takes (⟦<StdSource<R> as Endpoint>⟧.state self.old) (⟦<StdSource<R> as Endpoint>⟧.state self.new) room.new result }
+        ensures writing { KeepsWriting (⟦<StdSource<R> as Endpoint>⟧.state self.old) (⟦<StdSource<R> as Endpoint>⟧.state self.new) }
+        ensures later { IsLater (⟦<StdSource<R> as Endpoint>⟧.state self.old) (⟦<StdSource<R> as Endpoint>⟧.state self.new) }
+        ensures faults { (⟦<StdSource<R> as Endpoint>⟧.state self.new).read_faults ≡ faults_after_take (⟦<StdSource<R> as Endpoint>⟧.state self.old).read_faults result }
+    {
         let most = (MOST_GIVEN - self.given) as usize;
         if most == 0 {
             self.faults = self.faults.saturating_add(1);
@@ -85,7 +92,13 @@ impl<W: Write> Endpoint for StdSink<W> {
 }
 
 impl<W: Write> Sink for StdSink<W> {
-    fn put(&mut self, piece: &[u8]) -> Put {
+    fn put(&mut self, piece: &[u8]) -> Put
+        requires { 0 < length piece.now }
+        ensures put { Puts (⟦<StdSink<W> as Endpoint>⟧.state self.old) (⟦<StdSink<W> as Endpoint>⟧.state self.new) piece.now result }
+        ensures reading { KeepsReading (⟦<StdSink<W> as Endpoint>⟧.state self.old) (⟦<StdSink<W> as Endpoint>⟧.state self.new) }
+        ensures later { IsLater (⟦<StdSink<W> as Endpoint>⟧.state self.old) (⟦<StdSink<W> as Endpoint>⟧.state self.new) }
+        ensures faults { (⟦<StdSink<W> as Endpoint>⟧.state self.new).write_faults ≡ faults_after_put (⟦<StdSink<W> as Endpoint>⟧.state self.old).write_faults result }
+    {
         match self.output.write(piece) {
             Ok(count) if 0 < count => Put::Took(count),
             _ => {
