@@ -1,6 +1,8 @@
 // A stand-in for the script of sessions, which copies input to output. It is not to be merged.
+use crate::door::Door;
+use crate::gate::Gate;
 use crate::post::Post;
-use pktline_core::{Sink, Source, Taken, WriteFault, write_all};
+use pktline_core::{Link, Sink, Source, Taken, WriteFault, write_all};
 use std::alloc::Global;
 
 /// How the program ends.
@@ -17,7 +19,7 @@ fn put_all<O: Sink>(output: &mut O, bytes: &[u8]) -> u8 {
     }
 }
 
-pub fn shell_main<I: Source, O: Sink, D, G>(
+pub fn shell_main<I: Source, O: Sink, L: Link + Send, D: Door<L> + Send, G: Gate + Send>(
     _alloc: Global,
     words: &[String],
     input: &mut I,
