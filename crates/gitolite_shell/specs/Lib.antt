@@ -9,3 +9,7 @@ pub mod Script
 pub mod RunningScripts
 pub mod Words
 pub mod Lone
+pub mod Door
+pub mod MemoryDoors
+pub mod MemoryDoorViews
+pub mod Standard
