@@ -1,5 +1,5 @@
 -- One session more of a script, and its end.
-use Rattle.std.proofs.Common.{◌≡◌, ℕ, ◌+◌, ◌<◌, ◌≤◌, Bool, true, false, IsTrue, List, [], ◌∷◌, ◌++◌, length, Option, Some, None, Result, Ok, Err, refl, sym, ◌∙◌, ap, subst, arith, append_assoc, length-append}
+use Rattle.std.proofs.Common.{◌≡◌, ◌⊎◌, inl, inr, ℕ, ◌+◌, ◌<◌, ◌≤◌, Bool, true, false, IsTrue, List, [], ◌∷◌, ◌++◌, length, Option, Some, None, Result, Ok, Err, refl, sym, ◌∙◌, ap, subst, arith, append_assoc, length-append}
 use Rattle.std.specs.Prelude.{IfOk, is_some}
 use Rattle.std.specs.List.{flat_map}
 use Rattle.std.proofs.lemmas.List.{append-nil}
@@ -12,6 +12,7 @@ use Rattle.pktline_core.proofs.LinkLemmas.{appends_more, risen_later}
 use Rattle.hub_core.specs.declared.entry.Entry.{Entry}
 use Rattle.hub_core.specs.Name.{Name}
 use Rattle.hub_core.specs.Desk.{DeskView}
+use Rattle.interaction_tree.specs.Traces.{Begins}
 use Rattle.interaction_tree.specs.Turns as stop
 use Rattle.interaction_tree.specs.Alone.{TurnAlone}
 use Rattle.interaction_tree.specs.Endings.{IsInput, EndsAsDue}
@@ -22,7 +23,7 @@ use Rattle.gitolite_shell.specs.Session.{session}
 use Rattle.gitolite_shell.specs.Frames.{head_text, frame_text, AreBodies, BeginsNoFrame}
 use Rattle.gitolite_shell.specs.ReadingFrames.{Takes, IsRest, TakesFrame}
 use Rattle.gitolite_shell.specs.Script.{end_word, stop_word, reply_text, fault_text, served_alone, Printed, sessions, bad_offset, last_line, script}
-use Rattle.gitolite_shell.specs.RunningScripts.{Serves, Advances, AdvancesOne, FindsEnd, FindsBad, StopsAdvancing, RunsScript, StopsScript}
+use Rattle.gitolite_shell.specs.RunningScripts.{Serves, Advances, AdvancesOne, FindsEnd, FindsBad, WritesPart, FailsAtRead, ServesPart, TellsPart, StopsAdvancing, RunsScript, StopsAtRead, StopsAtWrite, StopsScript}
 use Rattle.gitolite_shell.specs.declared.script.ScriptFault.{ScriptFault}
 use Rattle.gitolite_shell.specs.declared.script.ScriptFault.TheVariants.{BadScript, InputFault, OutputFault, NoMemory}
 use Rattle.gitolite_shell.proofs.FrameLemmas.{begins_none}
@@ -70,6 +71,12 @@ sessions_more admin number next (body ∷ bodies) more log is =
     ap (λ (p : Printed). record { output = text ++ p.output; log = p.log }) (sessions_more admin (number + 1) next bodies more turn.log (omega (arith, is)))
     ∙ ap (λ (o : List ℕ). record { output = o; log = (sessions admin next more (sessions admin (number + 1) bodies turn.log).log).log })
     (sym (append_assoc text (sessions admin (number + 1) bodies turn.log).output (sessions admin next more (sessions admin (number + 1) bodies turn.log).log).output))
+
+-- one session alone
+one_session : (admin : Name) (number : ℕ) (body : List ℕ) (log : List Entry)
+    → sessions admin number (body ∷ []) log ≡ record { output = reply_text number (stop_word (served_alone admin body log).stop) (served_alone admin body log).bytes; log = (served_alone admin body log).log }
+unfolding sessions
+one_session admin number body log = ap (λ (o : List ℕ). record { output = o; log = (served_alone admin body log).log }) (append-nil _)
 
 bodies_more : (bodies more : List (List ℕ)) → AreBodies bodies → AreBodies more → AreBodies (bodies ++ more)
 bodies_more [] more p q = q
@@ -187,9 +194,74 @@ advances_next s s' s'' k k' k'' d d' d'' number offset taken bodies advances cou
   omega (arith, place, one.counted, ap length (flat_map-append frame_text bodies (one.body ∷ [])), length-append (flat_map frame_text bodies) (flat_map frame_text (one.body ∷ [])), length-append (frame_text one.body) []),
 )
 
-pub stops : (s s' s'' k k' k'' : LinkState) (d d' d'' : DeskView) (bodies : List (List ℕ)) (offset : ℕ) (fault : ScriptFault) → Advances s s' k k' d d' 1 bodies → offset ≡ length (flat_map frame_text bodies)
-    → IsLater s s' → IsLater k k' → StopsAdvancing s' s'' k' k'' d' d'' offset fault → StopsScript s s'' k k'' d.admin d.seen d''.seen fault
-stops s s' s'' k k' k'' d d' d'' bodies offset BadScript advances place input output stop = runs_bad s s' s'' k k' k'' d d' d'' bodies offset advances place stop
-stops s s' s'' k k' k'' d d' d'' bodies offset InputFault advances place input output stop = risen_later s.read_faults s'.read_faults s''.read_faults input.read_faults stop
-stops s s' s'' k k' k'' d d' d'' bodies offset OutputFault advances place input output stop = risen_later k.write_faults k'.write_faults k''.write_faults output.write_faults stop
-stops s s' s'' k k' k'' d d' d'' bodies offset NoMemory advances place input output stop = tt
+module _ (s s' s'' k k' k'' : LinkState) (d d' d'' : DeskView) (bodies : List (List ℕ)) (advances : Advances s s' k k' d d' 1 bodies) where
+  stops_read : IsLater s s' → FailsAtRead s' s'' k' k'' d' d'' → StopsAtRead s s'' k k'' d.admin d.seen d''.seen
+  stops_read later fails =
+      let whole = input_of s.left s'.left (flat_map frame_text bodies) advances.takes.consumed in
+      record {
+        bodies = bodies;
+        rest = whole.0;
+        told = whole.2;
+        small = advances.small;
+        written = rw fails.sink_is advances.written;
+        log_is = ap (λ (e : DeskView). e.seen) fails.desk_is ∙ advances.seen;
+        risen = risen_later s.read_faults s'.read_faults s''.read_faults later.read_faults fails.risen;
+      }
+
+  more_begins : (out bytes text : List ℕ) → Begins bytes text → Begins (out ++ bytes) (out ++ text)
+  more_begins out bytes text begins = (begins.0, ap (λ (l : List ℕ). out ++ l) begins.1 ∙ sym (append_assoc out bytes begins.0))
+
+  stops_told : (offset : ℕ) → offset ≡ length (flat_map frame_text bodies) → IsLater k k' → TellsPart s' s'' k' k'' d' d'' offset → StopsAtWrite s s'' k k'' d.admin d.seen d''.seen
+  unfolding script
+  stops_told offset place later tells =
+      let takes = takes_more s s' s'' (flat_map frame_text bodies) tells.read.part advances.takes tells.read.takes in
+      let whole = input_of s.left s''.left (flat_map frame_text bodies ++ tells.read.part) takes.consumed in
+      let out : List ℕ = (sessions d.admin 1 bodies d.seen).output in
+      let begins = more_begins out tells.part.bytes (fault_text offset) tells.part.begins in
+      record {
+        bodies = bodies;
+        rest = tells.read.part ++ whole.0;
+        bytes = out ++ tells.part.bytes;
+        told = subst (IsInput s.left) (append_assoc (flat_map frame_text bodies) tells.read.part whole.0) whole.2;
+        small = advances.small;
+        begins = inr (tells.read.bad whole.0 whole.1, rw (bad_some bodies tells.read.part whole.0 offset tells.read.some place) begins);
+        written = appends_more k.written k'.written k''.written out tells.part.bytes advances.written tells.part.written;
+        log_is = ap (λ (e : DeskView). e.seen) tells.desk_is ∙ advances.seen;
+        risen = risen_later k.write_faults k'.write_faults k''.write_faults later.write_faults tells.part.risen;
+      }
+
+  stops_served : (number : ℕ) → number ≡ 1 + length bodies → IsLater k k' → ServesPart s' s'' k' k'' d' d'' number → StopsAtWrite s s'' k k'' d.admin d.seen d''.seen
+  stops_served number count later part =
+      let all : List (List ℕ) = bodies ++ part.body ∷ [] in
+      let out : List ℕ = (sessions d.admin 1 bodies d.seen).output in
+      let one = one_session d.admin number part.body (sessions d.admin 1 bodies d.seen).log in
+      let printed = rw (advances.admin, advances.seen) at part.serves.printed in
+      let seen = rw (advances.admin, advances.seen) at part.serves.seen in
+      let more = sessions_more d.admin 1 number bodies (part.body ∷ []) d.seen count in
+      let takes = takes_more s s' s'' (flat_map frame_text bodies) (frame_text part.body) advances.takes part.read.takes in
+      let frames : flat_map frame_text bodies ++ frame_text part.body ≡ flat_map frame_text all =
+      ap (λ (l : List ℕ). flat_map frame_text bodies ++ l) (sym (append-nil (frame_text part.body))) ∙ sym (flat_map-append frame_text bodies (part.body ∷ [])) in
+      let whole = input_of s.left s''.left (flat_map frame_text bodies ++ frame_text part.body) takes.consumed in
+      record {
+        bodies = all;
+        rest = whole.0;
+        bytes = out ++ part.part.bytes;
+        told = subst (λ (l : List ℕ). IsInput s.left (l ++ whole.0)) frames whole.2;
+        small = bodies_more bodies (part.body ∷ []) advances.small (part.read.small, tt);
+        begins = inl (rw (more, one, ← printed) (more_begins out part.part.bytes part.text part.part.begins));
+        written = appends_more k.written k'.written k''.written out part.part.bytes advances.written part.part.written;
+        log_is = rw (more, one) seen;
+        risen = risen_later k.write_faults k'.write_faults k''.write_faults later.write_faults part.part.risen;
+      }
+
+  stops_write : (number offset : ℕ) → number ≡ 1 + length bodies → offset ≡ length (flat_map frame_text bodies) → IsLater k k'
+      → ServesPart s' s'' k' k'' d' d'' number ⊎ TellsPart s' s'' k' k'' d' d'' offset → StopsAtWrite s s'' k k'' d.admin d.seen d''.seen
+  stops_write number offset count place later (inl part) = stops_served number count later part
+  stops_write number offset count place later (inr tells) = stops_told offset place later tells
+
+pub stops : (s s' s'' k k' k'' : LinkState) (d d' d'' : DeskView) (bodies : List (List ℕ)) (number offset : ℕ) (fault : ScriptFault) → Advances s s' k k' d d' 1 bodies → number ≡ 1 + length bodies
+    → offset ≡ length (flat_map frame_text bodies) → IsLater s s' → IsLater k k' → StopsAdvancing s' s'' k' k'' d' d'' number offset fault → StopsScript s s'' k k'' d.admin d.seen d''.seen fault
+stops s s' s'' k k' k'' d d' d'' bodies number offset BadScript advances count place input output stop = runs_bad s s' s'' k k' k'' d d' d'' bodies offset advances place stop
+stops s s' s'' k k' k'' d d' d'' bodies number offset InputFault advances count place input output stop = stops_read s s' s'' k k' k'' d d' d'' bodies advances input stop
+stops s s' s'' k k' k'' d d' d'' bodies number offset OutputFault advances count place input output stop = stops_write s s' s'' k k' k'' d d' d'' bodies advances number offset count place output stop
+stops s s' s'' k k' k'' d d' d'' bodies number offset NoMemory advances count place input output stop = tt

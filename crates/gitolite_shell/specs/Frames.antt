@@ -28,3 +28,7 @@ pub record IsScript (input : List ℕ) (bodies : List (List ℕ)) (rest : List �
   pub frames : input ≡ flat_map frame_text bodies ++ rest
   pub small : AreBodies bodies
   pub stops : BeginsNoFrame rest
+
+-- An input is a script in one way.
+abbrev pub OneScript : Type 0
+OneScript = (input : List ℕ) (bodies others : List (List ℕ)) (rest more : List ℕ) → IsScript input bodies rest → IsScript input others more → (bodies ≡ others) × (rest ≡ more)

@@ -7,7 +7,7 @@ use Rattle.hub_core.specs.declared.entry.Entry.{Entry}
 use Rattle.hub_core.specs.Name.{Name}
 use Rattle.hub_core.specs.Desk.{DeskView}
 use Rattle.gitolite_shell.specs.Words.{script_admin, usage_line}
-use Rattle.gitolite_shell.specs.RunningScripts.{RunsScript}
+use Rattle.gitolite_shell.specs.RunningScripts.{RunsScript, StopsAtRead, StopsAtWrite, WritesPart}
 use Rattle.gitolite_shell.specs.declared.script.ScriptFault.{ScriptFault}
 use Rattle.gitolite_shell.specs.declared.script.ScriptFault.TheVariants as fault
 use Rattle.gitolite_shell.specs.declared.lone.Status.{Status}
@@ -38,19 +38,31 @@ pub record RefusesWords (words : List (List ℕ)) (sink sink' : LinkState) (log 
   pub printed : Appends sink.written sink'.written usage_line
   pub log_is : log ≡ []
 
--- a read failed while a script was run
-pub record FailsInput (words : List (List ℕ)) (source source' : LinkState) : Type 0 where
+-- The words ask for a script, which was left where a read failed.
+pub record FailsInput (words : List (List ℕ)) (source source' sink sink' : LinkState) (log : List Entry) : Type 0 where
   pub admin : Name
   pub asked : script_admin words ≡ Some admin
-  pub risen : HasRisen source.read_faults source'.read_faults
+  pub stops : StopsAtRead source source' sink sink' admin [] log
+
+-- The words ask for a script, which was left where a write failed.
+pub record FailsOutput (words : List (List ℕ)) (source source' sink sink' : LinkState) (log : List Entry) : Type 0 where
+  pub admin : Name
+  pub asked : script_admin words ≡ Some admin
+  pub stops : StopsAtWrite source source' sink sink' admin [] log
+
+-- the words were refused, and a part of the usage was printed
+pub record FailsUsage (words : List (List ℕ)) (sink sink' : LinkState) (log : List Entry) : Type 0 where
+  pub refused : script_admin words ≡ None
+  pub part : WritesPart sink sink' usage_line
+  pub log_is : log ≡ []
 
 -- what holds where a run ended with this status
 abbrev pub EndsWith : List (List ℕ) → LinkState → LinkState → LinkState → LinkState → List Entry → Status → Type 0
 EndsWith words source source' sink sink' log Done = RunsWords words source source' sink sink' log false
 EndsWith words source source' sink sink' log BadScript = RunsWords words source source' sink sink' log true
 EndsWith words source source' sink sink' log Usage = RefusesWords words sink sink' log
-EndsWith words source source' sink sink' log InputFault = FailsInput words source source'
-EndsWith words source source' sink sink' log OutputFault = HasRisen sink.write_faults sink'.write_faults
+EndsWith words source source' sink sink' log InputFault = FailsInput words source source' sink sink' log
+EndsWith words source source' sink sink' log OutputFault = FailsUsage words sink sink' log ⊎ FailsOutput words source source' sink sink' log
 EndsWith words source source' sink sink' log NoMemory = ⊤
 
 -- A run ended with this number and this log. Where memory lacked nothing is said of it.

@@ -1,5 +1,5 @@
 -- What running a script does.
-use Rattle.std.specs.Prelude.{◌≡◌, ⊤, ℕ, ◌+◌, List, [], ◌∷◌, ◌++◌, length, Bool, true, IsTrue, is_some, Option, Some, None}
+use Rattle.std.specs.Prelude.{◌≡◌, ◌⊎◌, ⊤, ℕ, ◌+◌, List, [], ◌∷◌, ◌++◌, length, Bool, true, IsTrue, is_some, Option, Some, None}
 use Rattle.std.specs.List.{flat_map}
 use Rattle.std.specs.Io.KnownBytes.{Appends, IsAtEnd}
 use Rattle.base_types.specs.Counts.{HasRisen}
@@ -9,8 +9,8 @@ use Rattle.hub_core.specs.Name.{Name}
 use Rattle.hub_core.specs.Desk.{DeskView}
 use Rattle.interaction_tree.specs.Traces.{Begins}
 use Rattle.interaction_tree.specs.Endings.{IsInput}
-use Rattle.gitolite_shell.specs.Frames.{frame_text, AreBodies, IsScript}
-use Rattle.gitolite_shell.specs.ReadingFrames.{Takes, TakesNoFrame}
+use Rattle.gitolite_shell.specs.Frames.{frame_text, AreBodies, BeginsNoFrame, IsScript}
+use Rattle.gitolite_shell.specs.ReadingFrames.{Takes, TakesFrame, TakesNoFrame}
 use Rattle.gitolite_shell.specs.Script.{stop_word, reply_text, fault_text, served_alone, sessions, bad_offset, script}
 use Rattle.gitolite_shell.specs.declared.script.ScriptFault.{ScriptFault}
 use Rattle.gitolite_shell.specs.declared.script.ScriptFault.TheVariants.{BadScript, InputFault, OutputFault, NoMemory}
@@ -50,19 +50,47 @@ pub record FindsBad (source source' sink sink' : LinkState) (old new : DeskView)
   pub written : Appends sink.written sink'.written (fault_text offset)
   pub desk_is : new ≡ old
 
--- why there is no next session: a bad frame, or a fault with its cause
-abbrev pub StopsAdvancing : LinkState → LinkState → LinkState → LinkState → DeskView → DeskView → ℕ → ScriptFault → Type 0
-StopsAdvancing source source' sink sink' old new offset BadScript = FindsBad source source' sink sink' old new offset
-StopsAdvancing source source' sink sink' old new offset InputFault = HasRisen source.read_faults source'.read_faults
-StopsAdvancing source source' sink sink' old new offset OutputFault = HasRisen sink.write_faults sink'.write_faults
-StopsAdvancing source source' sink sink' old new offset NoMemory = ⊤
+-- a beginning of a text was written, and then a write failed
+pub record WritesPart (sink sink' : LinkState) (text : List ℕ) : Type 0 where
+  pub bytes : List ℕ
+  pub begins : Begins bytes text
+  pub written : Appends sink.written sink'.written bytes
+  pub risen : HasRisen sink.write_faults sink'.write_faults
 
--- a text was not written
-abbrev pub StopsWriting : LinkState → LinkState → ScriptFault → Type 0
-StopsWriting sink sink' BadScript = ⊥
-StopsWriting sink sink' InputFault = ⊥
-StopsWriting sink sink' OutputFault = HasRisen sink.write_faults sink'.write_faults
-StopsWriting sink sink' NoMemory = ⊤
+-- why a text was not written
+abbrev pub StopsWriting : LinkState → LinkState → List ℕ → ScriptFault → Type 0
+StopsWriting sink sink' text BadScript = ⊥
+StopsWriting sink sink' text InputFault = ⊥
+StopsWriting sink sink' text OutputFault = WritesPart sink sink' text
+StopsWriting sink sink' text NoMemory = ⊤
+
+-- a read failed, and nothing else was done
+pub record FailsAtRead (source source' sink sink' : LinkState) (old new : DeskView) : Type 0 where
+  pub risen : HasRisen source.read_faults source'.read_faults
+  pub sink_is : sink' ≡ sink
+  pub desk_is : new ≡ old
+
+-- the next session was served, and a part of what is printed of it was written
+pub record ServesPart (source source' sink sink' : LinkState) (old new : DeskView) (number : ℕ) : Type 0 where
+  pub taken : ℕ
+  pub body : List ℕ
+  pub text : List ℕ
+  pub read : TakesFrame source source' taken body
+  pub serves : Serves old new number body text
+  pub part : WritesPart sink sink' text
+
+-- a frame is bad, of which a part was printed
+pub record TellsPart (source source' sink sink' : LinkState) (old new : DeskView) (offset : ℕ) : Type 0 where
+  pub read : TakesNoFrame source source'
+  pub part : WritesPart sink sink' (fault_text offset)
+  pub desk_is : new ≡ old
+
+-- why there is no next session: a bad frame, or a fault with its cause
+abbrev pub StopsAdvancing : LinkState → LinkState → LinkState → LinkState → DeskView → DeskView → ℕ → ℕ → ScriptFault → Type 0
+StopsAdvancing source source' sink sink' old new number offset BadScript = FindsBad source source' sink sink' old new offset
+StopsAdvancing source source' sink sink' old new number offset InputFault = FailsAtRead source source' sink sink' old new
+StopsAdvancing source source' sink sink' old new number offset OutputFault = ServesPart source source' sink sink' old new number ⊎ TellsPart source source' sink sink' old new offset
+StopsAdvancing source source' sink sink' old new number offset NoMemory = ⊤
 
 -- A script was run to its end, or to a bad frame: the input is a script, and what was printed, and the log from one to another, are that script's.
 -- Of what follows the frames a part was read, which shows that no frame stands there.
@@ -79,9 +107,31 @@ pub record RunsScript (source source' sink sink' : LinkState) (admin : Name) (lo
   pub written : Appends sink.written sink'.written (script admin bodies rest log).output
   pub log_is : log' ≡ (script admin bodies rest log).log
 
+-- A read failed: the sessions of the frames before were served and printed.
+pub record StopsAtRead (source source' sink sink' : LinkState) (admin : Name) (log log' : List Entry) : Type 0 where
+  pub bodies : List (List ℕ)
+  pub rest : List ℕ
+  pub told : IsInput source.left (flat_map frame_text bodies ++ rest)
+  pub small : AreBodies bodies
+  pub written : Appends sink.written sink'.written (sessions admin 1 bodies log).output
+  pub log_is : log' ≡ (sessions admin 1 bodies log).log
+  pub risen : HasRisen source.read_faults source'.read_faults
+
+-- A write failed: what was written begins what is printed of sessions that were served or, where no frame follows theirs, of the whole script.
+pub record StopsAtWrite (source source' sink sink' : LinkState) (admin : Name) (log log' : List Entry) : Type 0 where
+  pub bodies : List (List ℕ)
+  pub rest : List ℕ
+  pub bytes : List ℕ
+  pub told : IsInput source.left (flat_map frame_text bodies ++ rest)
+  pub small : AreBodies bodies
+  pub begins : Begins bytes (sessions admin 1 bodies log).output ⊎ (BeginsNoFrame rest × Begins bytes (script admin bodies rest log).output)
+  pub written : Appends sink.written sink'.written bytes
+  pub log_is : log' ≡ (sessions admin 1 bodies log).log
+  pub risen : HasRisen sink.write_faults sink'.write_faults
+
 -- why a script ended before its input did
 abbrev pub StopsScript : LinkState → LinkState → LinkState → LinkState → Name → List Entry → List Entry → ScriptFault → Type 0
 StopsScript source source' sink sink' admin log log' BadScript = RunsScript source source' sink sink' admin log log' true
-StopsScript source source' sink sink' admin log log' InputFault = HasRisen source.read_faults source'.read_faults
-StopsScript source source' sink sink' admin log log' OutputFault = HasRisen sink.write_faults sink'.write_faults
+StopsScript source source' sink sink' admin log log' InputFault = StopsAtRead source source' sink sink' admin log log'
+StopsScript source source' sink sink' admin log log' OutputFault = StopsAtWrite source source' sink sink' admin log log'
 StopsScript source source' sink sink' admin log log' NoMemory = ⊤

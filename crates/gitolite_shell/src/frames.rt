@@ -1,6 +1,7 @@
 // Frames of a script.
 ghost use Rattle.std.specs.Prelude.{◌≡◌, ◌≤◌, [], length, decimal, IfOk, IfErr, IfSome, IfNone};
 ghost use Rattle.pktline_core.specs.Links.{IsLater, KeepsWriting};
+ghost use Rattle.gitolite_shell.specs.Frames.{OneScript};
 ghost use Rattle.gitolite_shell.specs.ReadingFrames.{HasNoSize, IsNoNumber, IsSizeIn, StopsAtByte, StopsInBody, StopsInFrame, StopsInLine, Takes, TakesBody, TakesByte, TakesFrame, TakesLine};
 
 use itoa::Buffer;
@@ -167,3 +168,8 @@ pub fn read_frame<S: Source>(alloc: Global, source: &mut S) -> Result<Option<Fra
         None => Err(FrameFault::Bad),
     }
 }
+
+/// An input is a script in one way; a call does nothing.
+pub fn scripts_differ()
+    ensures { OneScript }
+{}

@@ -89,7 +89,7 @@ fn fault_text(alloc: Global, offset: u64) -> Result<Vec<u8>, NoMemory>
 /// Writes a text whole, or says why not.
 pub fn write_text<O: Sink>(output: &mut O, text: &[u8]) -> Result<(), ScriptFault>
     ensures ok { OnOk result (Appends ((O.state output.old).written) ((O.state output.new).written) text.now) }
-    ensures err { IfErr result (StopsWriting (O.state output.old) (O.state output.new)) }
+    ensures err { IfErr result (StopsWriting (O.state output.old) (O.state output.new) text.now) }
     ensures later { IsLater (O.state output.old) (O.state output.new) }
 {
     match write_all(output, text) {
@@ -130,7 +130,7 @@ fn advance<I: Source, O: Sink, K: Desk>(
     requires { IsTrue (K.view desk.old).alone }
     ensures some { IfOk result (λ found. IfSome found (AdvancesOne (I.state input.old) (I.state input.new) (O.state output.old) (O.state output.new) (K.view desk.old) (K.view desk.new) number)) }
     ensures none { IfOk result (λ found. IfNone found (FindsEnd (I.state input.old) (I.state input.new) (O.state output.old) (O.state output.new) (K.view desk.old) (K.view desk.new))) }
-    ensures err { IfErr result (StopsAdvancing (I.state input.old) (I.state input.new) (O.state output.old) (O.state output.new) (K.view desk.old) (K.view desk.new) offset) }
+    ensures err { IfErr result (StopsAdvancing (I.state input.old) (I.state input.new) (O.state output.old) (O.state output.new) (K.view desk.old) (K.view desk.new) number offset) }
     ensures input { IsLater (I.state input.old) (I.state input.new) }
     ensures output { IsLater (O.state output.old) (O.state output.new) }
 {

@@ -10,7 +10,7 @@ pub returns-in_err-taken-clause-err : goal.returns-in_err-taken-clause-err
 returns-in_err-taken-clause-err g c =
     let answer : c.from_residual.result ≡ Err c.in_err-taken.field-0.0 = search rules in
     let so_far = c.loop-taken.invariant.so_far in
-    rw answer (stops _ _ _ _ _ _ _ _ _ so_far.0 c.loop-taken.offset c.in_err-taken.field-0.0 so_far.1 so_far.3 c.loop-taken.invariant.input c.loop-taken.invariant.output c.in_err-taken.ensures.err)
+    rw answer (stops _ _ _ _ _ _ _ _ _ so_far.0 c.loop-taken.number c.loop-taken.offset c.in_err-taken.field-0.0 so_far.1 so_far.2 so_far.3 c.loop-taken.invariant.input c.loop-taken.invariant.output c.in_err-taken.ensures.err)
 
 pub overflow_add-number : goal.overflow_add-number
 overflow_add-number g c =
