@@ -91,3 +91,18 @@ fn a_frame_is_read_up_to_its_last_line_feed(rt: HostRuntime) -> Result<(), Fail>
     assert!(rt; matches!(read_frame(alloc, &mut source), Ok(None)));
     Ok(())
 }
+
+// The first frame's session is over an empty input, which is not built; each reply has a number.
+#[test]
+fn frames_are_served_in_order_up_to_the_bad_one(rt: HostRuntime) -> Result<(), Fail> {
+    let alloc = rt.alloc();
+    let one = b"session 1 not-built 17\n0011ERR not built\n";
+    let two =
+        b"session 1 not-built 17\n0011ERR not built\nsession 2 not-built 17\n0011ERR not built\n";
+    let bad = b"session 1 not-built 17\n0011ERR not built\nbad script at 11\n";
+    assert!(rt; ends(alloc, &SCRIPT, b"session 0\n\n", 0, one)?);
+    assert!(rt; ends(alloc, &SCRIPT, b"session 0\n\nsession 3\nabc\n", 0, two)?);
+    assert!(rt; ends(alloc, &SCRIPT, b"session 0\n\nsession 3\nabc", 7, bad)?);
+    assert!(rt; ends(alloc, &SCRIPT, b"session 0\n\nx", 7, bad)?);
+    Ok(())
+}
