@@ -3,3 +3,13 @@ pub mod Texts
 pub mod FirstPacket
 pub mod Create
 pub mod Session
+pub mod Frames
+pub mod ReadingFrames
+pub mod Script
+pub mod RunningScripts
+pub mod Words
+pub mod Lone
+pub mod Door
+pub mod MemoryDoors
+pub mod MemoryDoorViews
+pub mod Standard

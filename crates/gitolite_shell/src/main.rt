@@ -5,13 +5,67 @@
 //! - `text`: what a session writes;
 //! - `first_packet`, `create`: what a session reads;
 //! - `receiving`, `session`: a session;
-//! - `script`: sessions one after the other, and what is printed of them.
+//! - `door`, `memory_door`, `post`: where a worker's links come from, and where it stands;
+//! - `frames`: the frames of a script;
+//! - `script`: sessions one after the other, and what is printed of them;
+//! - `words`: the words by which the program is called;
+//! - `lone`, `program`: the program run by one caller, and the program;
+//! - `standard`: the standard input and output.
 #![tactic(auto)]
 
+mod door;
 mod end;
+mod frames;
+mod gate;
+mod lone;
+#[cfg(test)]
+mod lone_tests;
+mod memory_door;
+mod post;
+mod program;
+mod script;
+mod session;
+mod standard;
+#[cfg(test)]
+mod tests;
+mod words;
 
-use std::io;
+use base_types::NoMemory;
+use gate::OpenGate;
+use memory_door::MemoryDoor;
+use pktline_core::MemoryLink;
+use post::Post;
+use program::shell_main;
+use standard::{StdSink, StdSource};
+use std::alloc::Global;
+use std::process::ExitCode;
+use std::{env, io};
 
-fn main(rt: HostRuntime) -> io::Result<()> {
-    println!(rt; "")
+/// The words by which the program was called, without its name. Where one is no text there are none, which is no
+/// command either.
+fn words_of(rt: &HostRuntime) -> Result<Vec<String>, NoMemory> {
+    let mut words = Vec::new(rt.alloc());
+    match env::args(rt) {
+        Ok(all) => {
+            for word in all.skip(1) {
+                words.push(word)?;
+            }
+        }
+        Err(error) if error.kind() == io::ErrorKind::OutOfMemory => return Err(NoMemory),
+        Err(_) => {}
+    }
+    Ok(words)
+}
+
+/// Ends with the status of `shell_main`, or with 4 where the words find no memory.
+fn main(rt: HostRuntime) -> ExitCode {
+    let alloc: Global = rt.alloc();
+    let Ok(words) = words_of(&rt) else {
+        return ExitCode::from(4);
+    };
+    let mut input = StdSource::new(rt.stdin());
+    let mut output = StdSink::new(rt.stdout());
+    let mut posts: Vec<Post<MemoryDoor<MemoryLink>, OpenGate>> = Vec::new(alloc);
+    let ended = shell_main(alloc, &words, &mut input, &mut output, &mut posts);
+    ExitCode::from(ended.status)
 }

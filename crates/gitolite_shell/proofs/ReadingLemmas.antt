@@ -1,0 +1,102 @@
+-- Steps of reading a frame, one after the other.
+use Rattle.std.proofs.Common.{◌≡◌, ◌⊎◌, ℕ, suc, ◌+◌, ◌<◌, ◌≤◌, List, [], ◌∷◌, ◌++◌, length, Option, Some, None, refl, sym, ◌∙◌, ap, subst, inl, inr, arith, append_assoc, length-append}
+use Rattle.std.proofs.lemmas.List.{append-nil}
+use Rattle.std.specs.Io.KnownBytes.{IsAtEnd}
+use Rattle.pktline_core.specs.LinkState.{LinkState}
+use Rattle.pktline_core.specs.Links.{IsLater}
+use Rattle.pktline_core.proofs.LinkLemmas.{consumes_more, risen_later}
+use Rattle.gitolite_shell.specs.Frames.{head_text, frame_text, largest_body, BeginsNoFrame}
+use Rattle.gitolite_shell.specs.ReadingFrames.{Takes, FailsToRead, HasNoFeed, IsRest, TakesByte, StopsAtByte, TakesNoLine, StopsInLine, IsSizeIn, HasNoSize, TakesBody, TakesPart, StopsInBody, TakesFrame, TakesNoFrame, StopsInFrame}
+use Rattle.gitolite_shell.specs.declared.frames.FrameFault.{FrameFault}
+use Rattle.gitolite_shell.specs.declared.frames.FrameFault.TheVariants.{Bad, ReadFault, NoMemory}
+use Rattle.gitolite_shell.proofs.FrameLemmas.{begins_line, begins_long, begins_cut, begins_short, begins_open}
+
+pub takes_more : (a b c : LinkState) (xs ys : List ℕ) → Takes a b xs → Takes b c ys → Takes a c (xs ++ ys)
+takes_more a b c xs ys p q = record {
+  consumed = consumes_more a.left b.left c.left xs ys p.consumed q.consumed;
+  counted = omega (arith, p.counted, q.counted, length-append xs ys);
+}
+
+pub fails_later : (a b c : LinkState) → IsLater a b → FailsToRead b c → FailsToRead a c
+fails_later a b c later f = record { risen = risen_later a.read_faults b.read_faults c.read_faults later.read_faults f.risen; may_fail = rw later.may_fail at f.may_fail }
+
+pub no_rest : (left : Option (List ℕ)) (rest : List ℕ) → IsAtEnd left → IsRest left rest → rest ≡ []
+no_rest None rest ended is = is
+no_rest (Some xs) rest ended is = is ∙ ended
+
+-- the bytes alone, where nothing follows
+at_end : (left : Option (List ℕ)) (part rest : List ℕ) → IsAtEnd left → IsRest left rest → BeginsNoFrame part → BeginsNoFrame (part ++ rest)
+at_end left part rest ended is bad = subst BeginsNoFrame (sym (ap (λ (l : List ℕ). part ++ l) (no_rest left rest ended is) ∙ append-nil part)) bad
+
+some_part : (part : List ℕ) (left : Option (List ℕ)) → (17 < length part) ⊎ ((0 < length part) × IsAtEnd left) → 0 < length part
+some_part part left (inl long) = omega arith
+some_part part left (inr cut) = cut.0
+
+bad_part : (part rest : List ℕ) (left : Option (List ℕ)) → HasNoFeed part → (17 < length part) ⊎ ((0 < length part) × IsAtEnd left) → IsRest left rest → BeginsNoFrame (part ++ rest)
+bad_part part rest left none (inl long) is = begins_long part rest none long
+bad_part part rest left none (inr cut) is = at_end left part rest cut.1 is (begins_cut part none)
+
+no_line : (a b : LinkState) → TakesNoLine a b → TakesNoFrame a b
+no_line a b t = record { part = t.part; takes = t.takes; some = some_part t.part b.left t.ended; bad = λ rest is. bad_part t.part rest b.left t.no_feed t.ended is }
+
+pub line_stops : (a b : LinkState) (fault : FrameFault) → StopsInLine a b fault → StopsInFrame a b fault
+line_stops a b Bad t = no_line a b t
+line_stops a b ReadFault t = t
+line_stops a b NoMemory t = tt
+
+module _ (a b : LinkState) (line : List ℕ) (first : Takes a b (line ++ 10 ∷ [])) where
+  some_line : (more : List ℕ) → 0 < length ((line ++ 10 ∷ []) ++ more)
+  some_line more = omega (arith, length-append (line ++ 10 ∷ []) more, length-append line (10 ∷ []))
+
+  pub no_size : HasNoFeed line → HasNoSize line → TakesNoFrame a b
+  no_size none other = record {
+    part = line ++ 10 ∷ [];
+    takes = first;
+    some = omega (arith, length-append line (10 ∷ []));
+    bad = λ rest is. subst BeginsNoFrame (sym (append_assoc line (10 ∷ []) rest)) (begins_line line rest none other);
+  }
+
+  module _ (n : ℕ) (size : IsSizeIn line n) where
+    short : (part : List ℕ) → length part ≤ n → BeginsNoFrame ((line ++ 10 ∷ []) ++ part)
+    short part less = subst (λ (l : List ℕ). BeginsNoFrame ((l ++ 10 ∷ []) ++ part)) (sym size.head) (begins_short n size.small part less)
+
+    ended : (c : LinkState) (part : List ℕ) → Takes b c part → length part ≤ n → IsAtEnd c.left → TakesNoFrame a c
+    ended c part more less end = record {
+      part = (line ++ 10 ∷ []) ++ part;
+      takes = takes_more a b c (line ++ 10 ∷ []) part first more;
+      some = some_line part;
+      bad = λ rest is. at_end c.left ((line ++ 10 ∷ []) ++ part) rest end is (short part less);
+    }
+
+    pub body_stops : (c : LinkState) (fault : FrameFault) → IsLater a b → StopsInBody b c n fault → StopsInFrame a c fault
+    body_stops c Bad later t = ended c t.part t.takes (omega (arith, t.short)) t.ended
+    body_stops c ReadFault later t = fails_later a b c later t
+    body_stops c NoMemory later t = tt
+
+    module _ (c d : LinkState) (body : List ℕ) (second : TakesBody b c n body) where
+      both : Takes a c ((line ++ 10 ∷ []) ++ body)
+      both = takes_more a b c (line ++ 10 ∷ []) body first second.takes
+
+      pub closed : Takes c d (10 ∷ []) → TakesFrame a d (length line + 1 + n + 1) body
+      unfolding frame_text
+      closed last =
+          let whole : ((line ++ 10 ∷ []) ++ body) ++ 10 ∷ [] ≡ frame_text body =
+          append_assoc (line ++ 10 ∷ []) body (10 ∷ []) ∙ append_assoc line (10 ∷ []) (body ++ 10 ∷ []) ∙ ap (λ (l : List ℕ). l ++ 10 ∷ (body ++ 10 ∷ [])) (size.head ∙ ap head_text (sym second.sized)) in
+          record {
+            takes = subst (Takes a d) whole (takes_more a c d ((line ++ 10 ∷ []) ++ body) (10 ∷ []) both last);
+            counted = omega (arith, second.sized, ap length whole, length-append ((line ++ 10 ∷ []) ++ body) (10 ∷ []), length-append (line ++ 10 ∷ []) body, length-append line (10 ∷ []));
+            small = omega (arith, second.sized, size.small);
+          }
+
+      pub open_ended : (byte : ℕ) → (byte ≡ 10 → ⊥) → Takes c d (byte ∷ []) → TakesNoFrame a d
+      open_ended byte other last = record {
+        part = ((line ++ 10 ∷ []) ++ body) ++ byte ∷ [];
+        takes = takes_more a c d ((line ++ 10 ∷ []) ++ body) (byte ∷ []) both last;
+        some = omega (arith, length-append ((line ++ 10 ∷ []) ++ body) (byte ∷ []));
+        bad = λ rest is. subst BeginsNoFrame
+            (sym (append_assoc ((line ++ 10 ∷ []) ++ body) (byte ∷ []) rest ∙ append_assoc (line ++ 10 ∷ []) body (byte ∷ rest)))
+            (subst (λ (l : List ℕ). BeginsNoFrame ((l ++ 10 ∷ []) ++ (body ++ byte ∷ rest))) (sym size.head) (begins_open n size.small body rest byte second.sized other));
+      }
+
+      pub cut_off : Takes c d [] → IsAtEnd d.left → TakesNoFrame a d
+      cut_off none end = ended d body (subst (Takes b d) (append-nil body) (takes_more b c d body [] second.takes none)) (omega (arith, second.sized)) end

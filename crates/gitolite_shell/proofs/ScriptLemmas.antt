@@ -1,0 +1,267 @@
+-- One session more of a script, and its end.
+use Rattle.std.proofs.Common.{◌≡◌, ◌⊎◌, inl, inr, ℕ, ◌+◌, ◌<◌, ◌≤◌, Bool, true, false, IsTrue, List, [], ◌∷◌, ◌++◌, length, Option, Some, None, Result, Ok, Err, refl, sym, ◌∙◌, ap, subst, arith, append_assoc, length-append}
+use Rattle.std.specs.Prelude.{IfOk, is_some}
+use Rattle.std.specs.List.{flat_map}
+use Rattle.std.proofs.lemmas.List.{append-nil}
+use Rattle.std.proofs.lemmas.List.Concat.{flat_map-append}
+use Rattle.std.proofs.KnownBytes.{Appends-nil, Consumes-nil}
+use Rattle.std.specs.Io.KnownBytes.{Appends, Consumes, IsAtEnd}
+use Rattle.pktline_core.specs.LinkState.{LinkState}
+use Rattle.pktline_core.specs.Links.{IsLater}
+use Rattle.pktline_core.proofs.LinkLemmas.{appends_more, risen_later}
+use Rattle.hub_core.specs.declared.entry.Entry.{Entry}
+use Rattle.hub_core.specs.Name.{Name}
+use Rattle.hub_core.specs.Desk.{DeskView}
+use Rattle.interaction_tree.specs.Traces.{Begins}
+use Rattle.interaction_tree.specs.Turns as stop
+use Rattle.interaction_tree.specs.Alone.{TurnAlone}
+use Rattle.interaction_tree.specs.Endings.{IsInput, EndsAsDue}
+use Rattle.interaction_tree.proofs.DeskLemmas.{makes_grows, makes_alone}
+use Rattle.interaction_tree.proofs.AloneLemmas.{alone_is}
+use Rattle.gitolite_shell.specs.declared.end.SessionEnd.{SessionEnd}
+use Rattle.gitolite_shell.specs.Session.{session}
+use Rattle.gitolite_shell.specs.Frames.{head_text, frame_text, AreBodies, BeginsNoFrame}
+use Rattle.gitolite_shell.specs.ReadingFrames.{Takes, IsRest, TakesFrame}
+use Rattle.gitolite_shell.specs.Script.{end_word, stop_word, reply_text, fault_text, served_alone, Printed, sessions, bad_offset, last_line, script}
+use Rattle.gitolite_shell.specs.RunningScripts.{Serves, Advances, AdvancesOne, FindsEnd, FindsBad, WritesPart, FailsAtRead, ServesPart, TellsPart, StopsAdvancing, RunsScript, StopsAtRead, StopsAtWrite, StopsScript}
+use Rattle.gitolite_shell.specs.declared.script.ScriptFault.{ScriptFault}
+use Rattle.gitolite_shell.specs.declared.script.ScriptFault.TheVariants.{BadScript, InputFault, OutputFault, NoMemory}
+use Rattle.gitolite_shell.proofs.FrameLemmas.{begins_none}
+use Rattle.gitolite_shell.proofs.ReadingLemmas.{takes_more, no_rest}
+
+-- I. One session
+
+-- over a link that tells its bytes, alone at its hub
+alone_turn : (a b : LinkState) (old new : DeskView) (body out : List ℕ) (end : SessionEnd) → a.left ≡ Some body → a.written ≡ Some [] → b.written ≡ Some out → IsTrue old.alone
+    → EndsAsDue a b old new (session old.admin) end → served_alone old.admin body old.seen ≡ record { bytes = out; stop = stop.Ended end; log = new.seen }
+unfolding served_alone
+alone_turn a b old new body out end left empty written alone ends =
+    let input : body ≡ ends.input = rw left at ends.told in
+    let bytes = rw (empty, written) at ends.written in
+    rw (input, bytes) (alone_is old.admin end (session old.admin) ends.input ends.own old.seen new.seen (makes_alone old new ends.own alone ends.made) ends.entries ends.end_is)
+
+pub serves : (a b : LinkState) (old new : DeskView) (number : ℕ) (body out word text : List ℕ) (end : SessionEnd) → a.left ≡ Some body → a.written ≡ Some [] → b.written ≡ Some out → IsTrue old.alone
+    → EndsAsDue a b old new (session old.admin) end → word ≡ end_word end → text ≡ reply_text number word out → Serves old new number body text
+serves a b old new number body out word text end left empty written alone ends word_is text_is =
+    let turn = alone_turn a b old new body out end left empty written alone ends in
+    let grows = makes_grows old new ends.own ends.made in
+    record {
+      printed = rw turn (text_is ∙ ap (λ (w : List ℕ). reply_text number w out) word_is);
+      seen = rw turn refl;
+      admin = grows.admin;
+      alone = subst IsTrue (sym grows.alone) alone;
+    }
+
+pub if_ok : {V E : Type 0} (P Q : V → Type 0) (result : Result V E) → ((v : V) → P v → Q v) → IfOk result P → IfOk result Q
+if_ok P Q (Ok v) more p = more v p
+if_ok P Q (Err e) more p = tt
+
+-- II. Sessions one after the other
+
+sessions_more : (admin : Name) (number next : ℕ) (bodies more : List (List ℕ)) (log : List Entry) → next ≡ number + length bodies
+    → sessions admin number (bodies ++ more) log ≡ record {
+      output = (sessions admin number bodies log).output ++ (sessions admin next more (sessions admin number bodies log).log).output;
+      log = (sessions admin next more (sessions admin number bodies log).log).log;
+    }
+unfolding sessions
+sessions_more admin number next [] more log is = ap (λ n. sessions admin n more log) (omega arith)
+sessions_more admin number next (body ∷ bodies) more log is =
+    let turn : TurnAlone SessionEnd (Unit {0}) = served_alone admin body log in
+    let text : List ℕ = reply_text number (stop_word turn.stop) turn.bytes in
+    ap (λ (p : Printed). record { output = text ++ p.output; log = p.log }) (sessions_more admin (number + 1) next bodies more turn.log (omega (arith, is)))
+    ∙ ap (λ (o : List ℕ). record { output = o; log = (sessions admin next more (sessions admin (number + 1) bodies turn.log).log).log })
+    (sym (append_assoc text (sessions admin (number + 1) bodies turn.log).output (sessions admin next more (sessions admin (number + 1) bodies turn.log).log).output))
+
+-- one session alone
+one_session : (admin : Name) (number : ℕ) (body : List ℕ) (log : List Entry)
+    → sessions admin number (body ∷ []) log ≡ record { output = reply_text number (stop_word (served_alone admin body log).stop) (served_alone admin body log).bytes; log = (served_alone admin body log).log }
+unfolding sessions
+one_session admin number body log = ap (λ (o : List ℕ). record { output = o; log = (served_alone admin body log).log }) (append-nil _)
+
+bodies_more : (bodies more : List (List ℕ)) → AreBodies bodies → AreBodies more → AreBodies (bodies ++ more)
+bodies_more [] more p q = q
+bodies_more (body ∷ bodies) more p q = (p.0, bodies_more bodies more p.1 q)
+
+pub advances_one : (source source' sink sink' : LinkState) (old new : DeskView) (number taken : ℕ) (body text : List ℕ)
+    → TakesFrame source source' taken body → Serves old new number body text → Appends sink.written sink'.written text → AdvancesOne source source' sink sink' old new number taken
+unfolding sessions
+advances_one source source' sink sink' old new number taken body text frame served wrote = record {
+  body = body;
+  advances = record {
+    small = (frame.small, tt);
+    takes = subst (Takes source source') (sym (append-nil (frame_text body))) frame.takes;
+    written = subst (Appends sink.written sink'.written) (served.printed ∙ sym (append-nil _)) wrote;
+    seen = served.seen;
+    admin = served.admin;
+    alone = served.alone;
+  };
+  counted = frame.counted;
+}
+
+pub advances_none : (source sink : LinkState) (desk : DeskView) → IsTrue desk.alone → Advances source source sink sink desk desk 1 []
+unfolding sessions
+advances_none source sink desk alone = record {
+  small = tt;
+  takes = record { consumed = Consumes-nil source.left; counted = omega arith };
+  written = Appends-nil sink.written;
+  seen = refl;
+  admin = refl;
+  alone = alone;
+}
+
+pub advances_more : (s s' s'' k k' k'' : LinkState) (d d' d'' : DeskView) (number next : ℕ) (bodies more : List (List ℕ)) → next ≡ number + length bodies
+    → Advances s s' k k' d d' number bodies → Advances s' s'' k' k'' d' d'' next more → Advances s s'' k k'' d d'' number (bodies ++ more)
+advances_more s s' s'' k k' k'' d d' d'' number next bodies more is p q =
+    let seen = rw (p.admin, p.seen) at q.seen in
+    let written = rw (p.admin, p.seen) at q.written in
+    record {
+      small = bodies_more bodies more p.small q.small;
+      takes = subst (Takes s s'') (sym (flat_map-append frame_text bodies more)) (takes_more s s' s'' (flat_map frame_text bodies) (flat_map frame_text more) p.takes q.takes);
+      written = rw (sessions_more d.admin number next bodies more d.seen is) (appends_more k.written k'.written k''.written _ _ p.written written);
+      seen = rw (sessions_more d.admin number next bodies more d.seen is) seen;
+      admin = q.admin ∙ p.admin;
+      alone = q.alone;
+    }
+
+-- a frame takes a byte at least
+pub some_frame : (body : List ℕ) → 0 < length (frame_text body)
+unfolding frame_text
+some_frame body = omega (arith, length-append (head_text (length body)) (10 ∷ (body ++ 10 ∷ [])))
+
+pub count_frames : (bodies : List (List ℕ)) → length bodies ≤ length (flat_map frame_text bodies)
+count_frames [] = omega arith
+count_frames (body ∷ bodies) = omega (arith, count_frames bodies, some_frame body, length-append (frame_text body) (flat_map frame_text bodies))
+
+-- III. The end of a script
+
+-- the whole input, of which this was taken
+input_of : (left left' : Option (List ℕ)) (taken : List ℕ) → Consumes left left' taken → (more : List ℕ) × IsRest left' more × IsInput left (taken ++ more)
+input_of None None taken consumed = ([], refl, tt)
+input_of None (Some rest) taken consumed = (rest, refl, tt)
+input_of (Some input) None taken consumed = absurd consumed
+input_of (Some input) (Some rest) taken consumed = (rest, refl, consumed)
+
+runs_to : (s s' s'' k k' k'' : LinkState) (d d' d'' : DeskView) (bodies : List (List ℕ)) (part : List ℕ) (at : Option ℕ)
+    → Advances s s' k k' d d' 1 bodies → Takes s' s'' part → ((more : List ℕ) → IsRest s''.left more → BeginsNoFrame (part ++ more) × (bad_offset bodies (part ++ more) ≡ at))
+    → Appends k'.written k''.written (last_line at) → d'' ≡ d' → RunsScript s s'' k k'' d.admin d.seen d''.seen (is_some at)
+unfolding script
+runs_to s s' s'' k k' k'' d d' d'' bodies part at advances last follows wrote same =
+    let takes = takes_more s s' s'' (flat_map frame_text bodies) part advances.takes last in
+    let whole = input_of s.left s''.left (flat_map frame_text bodies ++ part) takes.consumed in
+    let here = follows whole.0 whole.1 in
+    record {
+      input = (flat_map frame_text bodies ++ part) ++ whole.0;
+      bodies = bodies;
+      rest = part ++ whole.0;
+      part = part;
+      told = whole.2;
+      is_script = record { frames = append_assoc (flat_map frame_text bodies) part whole.0; small = advances.small; stops = here.0 };
+      bad_is = ap is_some here.1;
+      begins = (whole.0, refl);
+      takes = takes;
+      written = rw here.1 (appends_more k.written k'.written k''.written _ _ advances.written wrote);
+      log_is = ap (λ (e : DeskView). e.seen) same ∙ advances.seen;
+    }
+
+pub runs_end : (s s' s'' k k' k'' : LinkState) (d d' d'' : DeskView) (bodies : List (List ℕ)) → Advances s s' k k' d d' 1 bodies → FindsEnd s' s'' k' k'' d' d'' → RunsScript s s'' k k'' d.admin d.seen d''.seen false
+runs_end s s' s'' k k' k'' d d' d'' bodies advances end =
+    runs_to s s' s'' k k' k'' d d' d'' bodies [] None advances end.takes
+    (λ more is. let none : more ≡ [] = no_rest s''.left more end.ended is in rw none (begins_none, refl))
+    (rw end.sink_is (Appends-nil k'.written)) end.desk_is
+
+bad_some : (bodies : List (List ℕ)) (part more : List ℕ) (offset : ℕ) → 0 < length part → offset ≡ length (flat_map frame_text bodies) → bad_offset bodies (part ++ more) ≡ Some offset
+bad_some bodies [] more offset some is = absurd (omega (arith, some))
+bad_some bodies (b ∷ part) more offset some is = ap (λ n. Some n) (sym is)
+
+pub runs_bad : (s s' s'' k k' k'' : LinkState) (d d' d'' : DeskView) (bodies : List (List ℕ)) (offset : ℕ) → Advances s s' k k' d d' 1 bodies → offset ≡ length (flat_map frame_text bodies)
+    → FindsBad s' s'' k' k'' d' d'' offset → RunsScript s s'' k k'' d.admin d.seen d''.seen true
+runs_bad s s' s'' k k' k'' d d' d'' bodies offset advances is bad =
+    runs_to s s' s'' k k' k'' d d' d'' bodies bad.read.part (Some offset) advances bad.read.takes
+    (λ more rest. (bad.read.bad more rest, bad_some bodies bad.read.part more offset bad.read.some is)) bad.written bad.desk_is
+
+-- IV. The loop
+
+pub given_more : (s s' k k' : LinkState) (d d' : DeskView) (number taken : ℕ) → AdvancesOne s s' k k' d d' number taken → s.given < s'.given
+given_more s s' k k' d d' number taken one = omega (arith, one.advances.takes.counted, some_frame one.body, length-append (frame_text one.body) [])
+
+pub advances_next : (s s' s'' k k' k'' : LinkState) (d d' d'' : DeskView) (number offset taken : ℕ) (bodies : List (List ℕ)) → Advances s s' k k' d d' 1 bodies → number ≡ 1 + length bodies
+    → offset ≡ length (flat_map frame_text bodies) → AdvancesOne s' s'' k' k'' d' d'' number taken
+    → (all : List (List ℕ)) × Advances s s'' k k'' d d'' 1 all × (number + 1 ≡ 1 + length all) × (offset + taken ≡ length (flat_map frame_text all))
+advances_next s s' s'' k k' k'' d d' d'' number offset taken bodies advances count place one = (
+  bodies ++ one.body ∷ [],
+  advances_more s s' s'' k k' k'' d d' d'' 1 number bodies (one.body ∷ []) count advances one.advances,
+  omega (arith, count, length-append bodies (one.body ∷ [])),
+  omega (arith, place, one.counted, ap length (flat_map-append frame_text bodies (one.body ∷ [])), length-append (flat_map frame_text bodies) (flat_map frame_text (one.body ∷ [])), length-append (frame_text one.body) []),
+)
+
+module _ (s s' s'' k k' k'' : LinkState) (d d' d'' : DeskView) (bodies : List (List ℕ)) (advances : Advances s s' k k' d d' 1 bodies) where
+  stops_read : IsLater s s' → FailsAtRead s' s'' k' k'' d' d'' → StopsAtRead s s'' k k'' d.admin d.seen d''.seen
+  stops_read later fails =
+      let whole = input_of s.left s'.left (flat_map frame_text bodies) advances.takes.consumed in
+      record {
+        bodies = bodies;
+        rest = whole.0;
+        told = whole.2;
+        small = advances.small;
+        written = rw fails.sink_is advances.written;
+        log_is = ap (λ (e : DeskView). e.seen) fails.desk_is ∙ advances.seen;
+        risen = risen_later s.read_faults s'.read_faults s''.read_faults later.read_faults fails.risen;
+      }
+
+  more_begins : (out bytes text : List ℕ) → Begins bytes text → Begins (out ++ bytes) (out ++ text)
+  more_begins out bytes text begins = (begins.0, ap (λ (l : List ℕ). out ++ l) begins.1 ∙ sym (append_assoc out bytes begins.0))
+
+  stops_told : (offset : ℕ) → offset ≡ length (flat_map frame_text bodies) → IsLater k k' → TellsPart s' s'' k' k'' d' d'' offset → StopsAtWrite s s'' k k'' d.admin d.seen d''.seen
+  unfolding script
+  stops_told offset place later tells =
+      let takes = takes_more s s' s'' (flat_map frame_text bodies) tells.read.part advances.takes tells.read.takes in
+      let whole = input_of s.left s''.left (flat_map frame_text bodies ++ tells.read.part) takes.consumed in
+      let out : List ℕ = (sessions d.admin 1 bodies d.seen).output in
+      let begins = more_begins out tells.part.bytes (fault_text offset) tells.part.begins in
+      record {
+        bodies = bodies;
+        rest = tells.read.part ++ whole.0;
+        bytes = out ++ tells.part.bytes;
+        told = subst (IsInput s.left) (append_assoc (flat_map frame_text bodies) tells.read.part whole.0) whole.2;
+        small = advances.small;
+        begins = inr (tells.read.bad whole.0 whole.1, rw (bad_some bodies tells.read.part whole.0 offset tells.read.some place) begins);
+        written = appends_more k.written k'.written k''.written out tells.part.bytes advances.written tells.part.written;
+        log_is = ap (λ (e : DeskView). e.seen) tells.desk_is ∙ advances.seen;
+        risen = risen_later k.write_faults k'.write_faults k''.write_faults later.write_faults tells.part.risen;
+      }
+
+  stops_served : (number : ℕ) → number ≡ 1 + length bodies → IsLater k k' → ServesPart s' s'' k' k'' d' d'' number → StopsAtWrite s s'' k k'' d.admin d.seen d''.seen
+  stops_served number count later part =
+      let all : List (List ℕ) = bodies ++ part.body ∷ [] in
+      let out : List ℕ = (sessions d.admin 1 bodies d.seen).output in
+      let one = one_session d.admin number part.body (sessions d.admin 1 bodies d.seen).log in
+      let printed = rw (advances.admin, advances.seen) at part.serves.printed in
+      let seen = rw (advances.admin, advances.seen) at part.serves.seen in
+      let more = sessions_more d.admin 1 number bodies (part.body ∷ []) d.seen count in
+      let takes = takes_more s s' s'' (flat_map frame_text bodies) (frame_text part.body) advances.takes part.read.takes in
+      let frames : flat_map frame_text bodies ++ frame_text part.body ≡ flat_map frame_text all =
+      ap (λ (l : List ℕ). flat_map frame_text bodies ++ l) (sym (append-nil (frame_text part.body))) ∙ sym (flat_map-append frame_text bodies (part.body ∷ [])) in
+      let whole = input_of s.left s''.left (flat_map frame_text bodies ++ frame_text part.body) takes.consumed in
+      record {
+        bodies = all;
+        rest = whole.0;
+        bytes = out ++ part.part.bytes;
+        told = subst (λ (l : List ℕ). IsInput s.left (l ++ whole.0)) frames whole.2;
+        small = bodies_more bodies (part.body ∷ []) advances.small (part.read.small, tt);
+        begins = inl (rw (more, one, ← printed) (more_begins out part.part.bytes part.text part.part.begins));
+        written = appends_more k.written k'.written k''.written out part.part.bytes advances.written part.part.written;
+        log_is = rw (more, one) seen;
+        risen = risen_later k.write_faults k'.write_faults k''.write_faults later.write_faults part.part.risen;
+      }
+
+  stops_write : (number offset : ℕ) → number ≡ 1 + length bodies → offset ≡ length (flat_map frame_text bodies) → IsLater k k'
+      → ServesPart s' s'' k' k'' d' d'' number ⊎ TellsPart s' s'' k' k'' d' d'' offset → StopsAtWrite s s'' k k'' d.admin d.seen d''.seen
+  stops_write number offset count place later (inl part) = stops_served number count later part
+  stops_write number offset count place later (inr tells) = stops_told offset place later tells
+
+pub stops : (s s' s'' k k' k'' : LinkState) (d d' d'' : DeskView) (bodies : List (List ℕ)) (number offset : ℕ) (fault : ScriptFault) → Advances s s' k k' d d' 1 bodies → number ≡ 1 + length bodies
+    → offset ≡ length (flat_map frame_text bodies) → IsLater s s' → IsLater k k' → StopsAdvancing s' s'' k' k'' d' d'' number offset fault → StopsScript s s'' k k'' d.admin d.seen d''.seen fault
+stops s s' s'' k k' k'' d d' d'' bodies number offset BadScript advances count place input output stop = runs_bad s s' s'' k k' k'' d d' d'' bodies offset advances place stop
+stops s s' s'' k k' k'' d d' d'' bodies number offset InputFault advances count place input output stop = stops_read s s' s'' k k' k'' d d' d'' bodies advances input stop
+stops s s' s'' k k' k'' d d' d'' bodies number offset OutputFault advances count place input output stop = stops_write s s' s'' k k' k'' d d' d'' bodies advances number offset count place output stop
+stops s s' s'' k k' k'' d d' d'' bodies number offset NoMemory advances count place input output stop = tt

@@ -1,0 +1,42 @@
+-- Rows of a script, worked out.
+use Rattle.std.proofs.Common.{◌≡◌, List, ℕ, [], ◌∷◌, ◌++◌, Some, None, refl, arith, codes}
+use Rattle.std.proofs.lemmas.Fmt.{decimal_digit}
+use Rattle.gitolite_shell.specs.declared.end.SessionEnd.TheVariants.{Served}
+use Rattle.gitolite_shell.specs.Frames.{head_text, frame_text}
+use Rattle.gitolite_shell.specs.Words.{script_admin}
+use Rattle.gitolite_shell.specs.Script.{end_word, reply_text, fault_text, bad_offset, last_line}
+
+a_frame : frame_text (codes "abcde") ≡ codes "session 5\nabcde\n"
+unfolding head_text frame_text
+a_frame = rw (decimal_digit 5 (omega arith)) refl
+
+an_empty_frame : frame_text [] ≡ codes "session 0\n\n"
+unfolding head_text frame_text
+an_empty_frame = rw (decimal_digit 0 (omega arith)) refl
+
+a_reply : reply_text 1 (end_word Served) (codes "0000") ≡ codes "session 1 served 4\n0000\n"
+unfolding reply_text
+a_reply = rw (decimal_digit 1 (omega arith), decimal_digit 4 (omega arith)) refl
+
+a_fault : fault_text 0 ≡ codes "bad script at 0\n"
+unfolding fault_text
+a_fault = rw (decimal_digit 0 (omega arith)) refl
+
+nothing_follows : last_line (bad_offset (codes "abcde" ∷ []) []) ≡ []
+nothing_follows = refl
+
+good_words : script_admin (codes "script" ∷ codes "--admin" ∷ codes "alice" ∷ []) ≡ Some (codes "alice")
+unfolding script_admin
+good_words = refl
+
+no_flag : script_admin (codes "script" ∷ codes "alice" ∷ []) ≡ None
+unfolding script_admin
+no_flag = refl
+
+a_capital : script_admin (codes "script" ∷ codes "--admin" ∷ codes "Alice" ∷ []) ≡ None
+unfolding script_admin
+a_capital = refl
+
+a_word_more : script_admin (codes "script" ∷ codes "--admin" ∷ codes "alice" ∷ codes "bob" ∷ []) ≡ None
+unfolding script_admin
+a_word_more = refl

@@ -1,0 +1,16 @@
+use Rattle.std.proofs.Common.{◌≡◌, ◌++◌, ◌∷◌, [], ◌≤◌, arith, rules, length}
+use Rattle.pktline_core.proofs.LinkLemmas.{later_more}
+use Rattle.gitolite_shell.proofs.FrameLemmas.{no_feed_more}
+use Rattle.gitolite_shell.proofs.ReadingLemmas.{takes_more}
+use Rattle.gitolite_shell.proofs.frames.read_line.Goals as goal
+
+pub loop-source-preserved : goal.loop-source-preserved
+loop-source-preserved g c =
+    let taken = rw c.in-Some.is at c.in_ok-byte.ensures.ok in
+    let more : c.push.new.self.items ≡ c.loop-source.line.items ++ c.in-Some.byte ∷ [] = search rules in
+    record {
+      takes = rw more (takes_more _ _ _ _ _ c.loop-source.invariant.takes taken);
+      no_feed = rw more (no_feed_more c.loop-source.line.items c.in-Some.byte c.loop-source.invariant.no_feed c.if-byte-eq10.false);
+      within = search rules;
+      later = later_more _ _ _ c.loop-source.invariant.later c.take_byte.ensures.later;
+    }

@@ -1,0 +1,104 @@
+-- What reading a frame takes.
+use Rattle.std.specs.Prelude.{◌≡◌, ◌⊎◌, ⊤, ℕ, ◌+◌, ◌≤◌, ◌<◌, ◌^◌, List, [], ◌∷◌, ◌++◌, length, IsTrue, decimal, Option, Some, None}
+use Rattle.std.specs.Io.KnownBytes.{Consumes, IsAtEnd}
+use Rattle.base_types.specs.Counts.{HasRisen}
+use Rattle.pktline_core.specs.LinkState.{LinkState}
+use Rattle.gitolite_shell.specs.Frames.{head_text, frame_text, largest_body, BeginsNoFrame}
+use Rattle.gitolite_shell.specs.declared.frames.FrameFault.{FrameFault}
+use Rattle.gitolite_shell.specs.declared.frames.FrameFault.TheVariants.{Bad, ReadFault, NoMemory}
+
+-- these bytes were taken
+pub record Takes (old new : LinkState) (taken : List ℕ) : Type 0 where
+  pub consumed : Consumes old.left new.left taken
+  pub counted : new.given ≡ old.given + length taken
+
+-- a read failed
+pub record FailsToRead (old new : LinkState) : Type 0 where
+  pub risen : HasRisen old.read_faults new.read_faults
+  pub may_fail : IsTrue old.may_fail
+
+-- no byte is a line feed
+abbrev pub HasNoFeed : List ℕ → Type 0
+HasNoFeed [] = ⊤
+HasNoFeed (b ∷ bytes) = (b ≡ 10 → ⊥) × HasNoFeed bytes
+
+-- what follows in an input that a source tells to be left; where it doesn't tell, the input is taken to end here
+abbrev pub IsRest : Option (List ℕ) → List ℕ → Type 0
+IsRest None rest = rest ≡ []
+IsRest (Some left) rest = rest ≡ left
+
+-- one byte, or the end
+abbrev pub TakesByte : LinkState → LinkState → Option ℕ → Type 0
+TakesByte old new (Some byte) = Takes old new (byte ∷ [])
+TakesByte old new None = Takes old new [] × IsAtEnd new.left
+
+-- a byte fails to come by a fault of the source alone
+abbrev pub StopsAtByte : LinkState → LinkState → FrameFault → Type 0
+StopsAtByte old new Bad = ⊥
+StopsAtByte old new ReadFault = FailsToRead old new
+StopsAtByte old new NoMemory = ⊥
+
+-- A line, and its line feed; or the input was at its end.
+abbrev pub TakesLine : LinkState → LinkState → Option (List ℕ) → Type 0
+TakesLine old new (Some line) = Takes old new (line ++ 10 ∷ []) × HasNoFeed line
+TakesLine old new None = Takes old new [] × IsAtEnd new.left
+
+-- Bytes without a line feed: more of them than the first line of a frame has, or all that are left.
+pub record TakesNoLine (old new : LinkState) : Type 0 where
+  pub part : List ℕ
+  pub takes : Takes old new part
+  pub no_feed : HasNoFeed part
+  pub ended : (17 < length part) ⊎ ((0 < length part) × IsAtEnd new.left)
+
+abbrev pub StopsInLine : LinkState → LinkState → FrameFault → Type 0
+StopsInLine old new Bad = TakesNoLine old new
+StopsInLine old new ReadFault = FailsToRead old new
+StopsInLine old new NoMemory = ⊤
+
+-- digits of no number below 2 ^ 32
+abbrev pub IsNoNumber : List ℕ → Type 0
+IsNoNumber digits = (n : ℕ) → n < 2 ^ 32 → digits ≡ decimal n → ⊥
+
+-- the size that a first line gives
+pub record IsSizeIn (line : List ℕ) (size : ℕ) : Type 0 where
+  pub head : line ≡ head_text size
+  pub small : size ≤ largest_body
+
+-- a line that begins no frame
+abbrev pub HasNoSize : List ℕ → Type 0
+HasNoSize line = (size : ℕ) → IsSizeIn line size → ⊥
+
+-- a body of so many bytes
+pub record TakesBody (old new : LinkState) (size : ℕ) (body : List ℕ) : Type 0 where
+  pub takes : Takes old new body
+  pub sized : length body ≡ size
+
+-- the input ended inside it
+pub record TakesPart (old new : LinkState) (size : ℕ) : Type 0 where
+  pub part : List ℕ
+  pub takes : Takes old new part
+  pub short : length part < size
+  pub ended : IsAtEnd new.left
+
+abbrev pub StopsInBody : LinkState → LinkState → ℕ → FrameFault → Type 0
+StopsInBody old new size Bad = TakesPart old new size
+StopsInBody old new size ReadFault = FailsToRead old new
+StopsInBody old new size NoMemory = ⊤
+
+-- The next frame, and no byte behind it; or the input was at its end.
+pub record TakesFrame (old new : LinkState) (taken : ℕ) (body : List ℕ) : Type 0 where
+  pub takes : Takes old new (frame_text body)
+  pub counted : taken ≡ length (frame_text body)
+  pub small : length body ≤ largest_body
+
+-- What was taken shows that no frame stands here, or the input ended before.
+pub record TakesNoFrame (old new : LinkState) : Type 0 where
+  pub part : List ℕ
+  pub takes : Takes old new part
+  pub some : 0 < length part
+  pub bad : (rest : List ℕ) → IsRest new.left rest → BeginsNoFrame (part ++ rest)
+
+abbrev pub StopsInFrame : LinkState → LinkState → FrameFault → Type 0
+StopsInFrame old new Bad = TakesNoFrame old new
+StopsInFrame old new ReadFault = FailsToRead old new
+StopsInFrame old new NoMemory = ⊤

@@ -1,0 +1,137 @@
+-- What running a script does.
+use Rattle.std.specs.Prelude.{◌≡◌, ◌⊎◌, ⊤, ℕ, ◌+◌, List, [], ◌∷◌, ◌++◌, length, Bool, true, IsTrue, is_some, Option, Some, None}
+use Rattle.std.specs.List.{flat_map}
+use Rattle.std.specs.Io.KnownBytes.{Appends, IsAtEnd}
+use Rattle.base_types.specs.Counts.{HasRisen}
+use Rattle.pktline_core.specs.LinkState.{LinkState}
+use Rattle.hub_core.specs.declared.entry.Entry.{Entry}
+use Rattle.hub_core.specs.Name.{Name}
+use Rattle.hub_core.specs.Desk.{DeskView}
+use Rattle.interaction_tree.specs.Traces.{Begins}
+use Rattle.interaction_tree.specs.Endings.{IsInput}
+use Rattle.gitolite_shell.specs.Frames.{frame_text, AreBodies, BeginsNoFrame, IsScript}
+use Rattle.gitolite_shell.specs.ReadingFrames.{Takes, TakesFrame, TakesNoFrame}
+use Rattle.gitolite_shell.specs.Script.{stop_word, reply_text, fault_text, served_alone, sessions, bad_offset, script}
+use Rattle.gitolite_shell.specs.declared.script.ScriptFault.{ScriptFault}
+use Rattle.gitolite_shell.specs.declared.script.ScriptFault.TheVariants.{BadScript, InputFault, OutputFault, NoMemory}
+
+-- one session was served, and this is printed of it
+pub record Serves (old new : DeskView) (number : ℕ) (body text : List ℕ) : Type 0 where
+  pub printed : text ≡ reply_text number (stop_word (served_alone old.admin body old.seen).stop) (served_alone old.admin body old.seen).bytes
+  pub seen : new.seen ≡ (served_alone old.admin body old.seen).log
+  pub admin : new.admin ≡ old.admin
+  pub alone : IsTrue new.alone
+
+-- Frames with these bodies were read, and their sessions served and printed, of which the first has this number.
+pub record Advances (source source' sink sink' : LinkState) (old new : DeskView) (number : ℕ) (bodies : List (List ℕ)) : Type 0 where
+  pub small : AreBodies bodies
+  pub takes : Takes source source' (flat_map frame_text bodies)
+  pub written : Appends sink.written sink'.written (sessions old.admin number bodies old.seen).output
+  pub seen : new.seen ≡ (sessions old.admin number bodies old.seen).log
+  pub admin : new.admin ≡ old.admin
+  pub alone : IsTrue new.alone
+
+-- the next session, whose frame takes so many bytes
+pub record AdvancesOne (source source' sink sink' : LinkState) (old new : DeskView) (number taken : ℕ) : Type 0 where
+  pub body : List ℕ
+  pub advances : Advances source source' sink sink' old new number (body ∷ [])
+  pub counted : taken ≡ length (frame_text body)
+
+-- the input was at its end, and nothing was done
+pub record FindsEnd (source source' sink sink' : LinkState) (old new : DeskView) : Type 0 where
+  pub takes : Takes source source' []
+  pub ended : IsAtEnd source'.left
+  pub sink_is : sink' ≡ sink
+  pub desk_is : new ≡ old
+
+-- a frame is bad, which was printed
+pub record FindsBad (source source' sink sink' : LinkState) (old new : DeskView) (offset : ℕ) : Type 0 where
+  pub read : TakesNoFrame source source'
+  pub written : Appends sink.written sink'.written (fault_text offset)
+  pub desk_is : new ≡ old
+
+-- a beginning of a text was written, and then a write failed
+pub record WritesPart (sink sink' : LinkState) (text : List ℕ) : Type 0 where
+  pub bytes : List ℕ
+  pub begins : Begins bytes text
+  pub written : Appends sink.written sink'.written bytes
+  pub risen : HasRisen sink.write_faults sink'.write_faults
+
+-- why a text was not written
+abbrev pub StopsWriting : LinkState → LinkState → List ℕ → ScriptFault → Type 0
+StopsWriting sink sink' text BadScript = ⊥
+StopsWriting sink sink' text InputFault = ⊥
+StopsWriting sink sink' text OutputFault = WritesPart sink sink' text
+StopsWriting sink sink' text NoMemory = ⊤
+
+-- a read failed, and nothing else was done
+pub record FailsAtRead (source source' sink sink' : LinkState) (old new : DeskView) : Type 0 where
+  pub risen : HasRisen source.read_faults source'.read_faults
+  pub sink_is : sink' ≡ sink
+  pub desk_is : new ≡ old
+
+-- the next session was served, and a part of what is printed of it was written
+pub record ServesPart (source source' sink sink' : LinkState) (old new : DeskView) (number : ℕ) : Type 0 where
+  pub taken : ℕ
+  pub body : List ℕ
+  pub text : List ℕ
+  pub read : TakesFrame source source' taken body
+  pub serves : Serves old new number body text
+  pub part : WritesPart sink sink' text
+
+-- a frame is bad, of which a part was printed
+pub record TellsPart (source source' sink sink' : LinkState) (old new : DeskView) (offset : ℕ) : Type 0 where
+  pub read : TakesNoFrame source source'
+  pub part : WritesPart sink sink' (fault_text offset)
+  pub desk_is : new ≡ old
+
+-- why there is no next session: a bad frame, or a fault with its cause
+abbrev pub StopsAdvancing : LinkState → LinkState → LinkState → LinkState → DeskView → DeskView → ℕ → ℕ → ScriptFault → Type 0
+StopsAdvancing source source' sink sink' old new number offset BadScript = FindsBad source source' sink sink' old new offset
+StopsAdvancing source source' sink sink' old new number offset InputFault = FailsAtRead source source' sink sink' old new
+StopsAdvancing source source' sink sink' old new number offset OutputFault = ServesPart source source' sink sink' old new number ⊎ TellsPart source source' sink sink' old new offset
+StopsAdvancing source source' sink sink' old new number offset NoMemory = ⊤
+
+-- A script was run to its end, or to a bad frame: the input is a script, and what was printed, and the log from one to another, are that script's.
+-- Of what follows the frames a part was read, which shows that no frame stands there.
+pub record RunsScript (source source' sink sink' : LinkState) (admin : Name) (log log' : List Entry) (bad : Bool) : Type 0 where
+  pub input : List ℕ
+  pub bodies : List (List ℕ)
+  pub rest : List ℕ
+  pub part : List ℕ
+  pub told : IsInput source.left input
+  pub is_script : IsScript input bodies rest
+  pub bad_is : is_some (bad_offset bodies rest) ≡ bad
+  pub begins : Begins part rest
+  pub takes : Takes source source' (flat_map frame_text bodies ++ part)
+  pub written : Appends sink.written sink'.written (script admin bodies rest log).output
+  pub log_is : log' ≡ (script admin bodies rest log).log
+
+-- A read failed: the sessions of the frames before were served and printed.
+pub record StopsAtRead (source source' sink sink' : LinkState) (admin : Name) (log log' : List Entry) : Type 0 where
+  pub bodies : List (List ℕ)
+  pub rest : List ℕ
+  pub told : IsInput source.left (flat_map frame_text bodies ++ rest)
+  pub small : AreBodies bodies
+  pub written : Appends sink.written sink'.written (sessions admin 1 bodies log).output
+  pub log_is : log' ≡ (sessions admin 1 bodies log).log
+  pub risen : HasRisen source.read_faults source'.read_faults
+
+-- A write failed: what was written begins what is printed of sessions that were served or, where no frame follows theirs, of the whole script.
+pub record StopsAtWrite (source source' sink sink' : LinkState) (admin : Name) (log log' : List Entry) : Type 0 where
+  pub bodies : List (List ℕ)
+  pub rest : List ℕ
+  pub bytes : List ℕ
+  pub told : IsInput source.left (flat_map frame_text bodies ++ rest)
+  pub small : AreBodies bodies
+  pub begins : Begins bytes (sessions admin 1 bodies log).output ⊎ (BeginsNoFrame rest × Begins bytes (script admin bodies rest log).output)
+  pub written : Appends sink.written sink'.written bytes
+  pub log_is : log' ≡ (sessions admin 1 bodies log).log
+  pub risen : HasRisen sink.write_faults sink'.write_faults
+
+-- why a script ended before its input did
+abbrev pub StopsScript : LinkState → LinkState → LinkState → LinkState → Name → List Entry → List Entry → ScriptFault → Type 0
+StopsScript source source' sink sink' admin log log' BadScript = RunsScript source source' sink sink' admin log log' true
+StopsScript source source' sink sink' admin log log' InputFault = StopsAtRead source source' sink sink' admin log log'
+StopsScript source source' sink sink' admin log log' OutputFault = StopsAtWrite source source' sink sink' admin log log'
+StopsScript source source' sink sink' admin log log' NoMemory = ⊤

@@ -1,0 +1,22 @@
+-- The words by which the program is called.
+use Rattle.std.specs.Prelude.{ℕ, Bool, ◌&&◌, nat_le, List, [], ◌∷◌, length, Option, Some, None, codes, if◌then◌else◌}
+use Rattle.std.specs.List.{list_all}
+use Rattle.std.specs.Str.{bytes_eq}
+use Rattle.hub_core.specs.Name.{Name}
+use Rattle.gitolite_shell.specs.FirstPacket.{is_letter}
+
+-- 1 to 64 lower-case letters
+abbrev pub is_user_name : List ℕ → Bool
+is_user_name name = nat_le 1 (length name) && (nat_le (length name) 64 && list_all is_letter name)
+
+-- `script`, `--admin` and a user's name: the admin of a script; all else is refused
+abbrev pub script_admin : List (List ℕ) → Option Name
+script_admin [] = None
+script_admin (verb ∷ []) = None
+script_admin (verb ∷ flag ∷ []) = None
+script_admin (verb ∷ flag ∷ name ∷ []) = if bytes_eq verb (codes "script") && (bytes_eq flag (codes "--admin") && is_user_name name) then Some name else None
+script_admin (verb ∷ flag ∷ name ∷ more ∷ words) = None
+
+-- what is printed where the words are refused
+abbrev pub usage_line : List ℕ
+usage_line = codes "usage: gitolite_shell script --admin NAME | serve --admin NAME --workers K --sessions N | check | load N START\n"

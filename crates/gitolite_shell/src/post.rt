@@ -1,0 +1,19 @@
+// Where a worker stands.
+ghost use Rattle.std.specs.Prelude.{◌≡◌};
+
+/// One worker's door and gate.
+#[derive(Drop)]
+pub struct Post<D, G> {
+    pub door: D,
+    pub gate: G,
+}
+
+impl<D, G> Post<D, G> {
+    /// A post with this door and this gate. It takes no memory.
+    pub fn new(door: D, gate: G) -> Post<D, G>
+        ensures door { result.door ≡ door }
+        ensures gate { result.gate ≡ gate }
+    {
+        Post { door, gate }
+    }
+}

@@ -1,0 +1,24 @@
+// The program.
+ghost use Rattle.std.specs.Prelude.{map, string_bytes};
+ghost use Rattle.gitolite_shell.specs.Lone.{EndsRun, IsSure};
+
+use crate::door::Door;
+use crate::gate::Gate;
+use crate::lone::{Ended, lone_main};
+use crate::post::Post;
+use pktline_core::{Link, Sink, Source};
+use std::alloc::Global;
+
+/// Runs the program as the words ask. No command that is built so far takes its sessions through a post.
+pub fn shell_main<I: Source, O: Sink, L: Link + Send, D: Door<L> + Send, G: Gate + Send>(
+    alloc: Global,
+    words: &[String],
+    input: &mut I,
+    output: &mut O,
+    _posts: &mut Vec<Post<D, G>>,
+) -> Ended
+    ensures ends { EndsRun (map string_bytes words.now) (I.state input.old) (I.state input.new) (O.state output.old) (O.state output.new) result.status result.log }
+    ensures sure { IsSure (map string_bytes words.now) (I.state input.old) (I.state input.new) (O.state output.old) (O.state output.new) result.status }
+{
+    lone_main(alloc, words, input, output)
+}
