@@ -1,6 +1,6 @@
 -- The command and the pack of a push, in the form that is built so far: one create of a branch in `testing`, at a commit of the empty tree without
 -- parents, with a pack of that commit and the empty tree.
-use Rattle.std.specs.Prelude.{ℕ, Bool, true, false, not, ◌&&◌, ◌||◌, ◌==◌, List, [], ◌∷◌, ◌++◌, Option, Some, None, codes, if◌then◌else◌}
+use Rattle.std.specs.Prelude.{ℕ, ◌≤◌, length, Bool, true, false, ◌&&◌, ◌||◌, ◌==◌, List, [], ◌∷◌, ◌++◌, Option, Some, None, codes, if◌then◌else◌}
 use Rattle.git_object.specs.Reader.{◌>>=◌, literal}
 use Rattle.git_object.specs.ObjectId.{hex_of, hex_id}
 use Rattle.git_object.specs.Content.{Content}
@@ -48,3 +48,7 @@ is_first_commit new o = (kind_number o.kind == 1) && (same_id (object_name o) ne
 unfoldable pub is_first_pack : ObjectId → List Content → Bool
 is_first_pack new (a ∷ b ∷ []) = (is_first_commit new a && same_object b empty_tree) || (same_object a empty_tree && is_first_commit new b)
 is_first_pack new objects = false
+
+-- its ref's name is
+abbrev pub HasShortName : Command → Type 0
+HasShortName command = length command.name ≤ 1024

@@ -1,4 +1,5 @@
 -- The ends of a session, as its interaction sees them.
+use Rattle.std.specs.Prelude.{Result, Ok, Err}
 use Rattle.interaction_tree.specs.Traces.{Reading, Writing, Memory, Halt, Ended, Failed}
 use Rattle.gitolite_shell.specs.declared.end.SessionEnd.{SessionEnd}
 use Rattle.gitolite_shell.specs.declared.end.SessionEnd.TheVariants.{Served, Denied, NoRepo, ReadFault, WriteFault, NoMemory, NotBuilt}
@@ -12,3 +13,8 @@ halt_of NotBuilt = Ended NotBuilt
 halt_of ReadFault = Failed Reading
 halt_of WriteFault = Failed Writing
 halt_of NoMemory = Failed Memory
+
+-- what a function of a session answers, as its interaction sees it
+abbrev pub outcome_of : {A : Type 0} → Result A SessionEnd → Result A (Halt SessionEnd)
+outcome_of (Ok value) = Ok value
+outcome_of (Err end) = Err (halt_of end)

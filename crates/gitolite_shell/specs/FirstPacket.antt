@@ -1,14 +1,10 @@
 -- A session's first packet, in the form that is built so far: a user's name, a space, `git-receive-pack`, a space, and a repository's name in
 -- single quotes. A user's name has lower-case letters, 1 to 64; a repository's name has lower-case letters and dashes, 1 to 64, a letter first.
-use Rattle.std.specs.Prelude.{ℕ, ◌-◌, Bool, not, ◌&&◌, ◌||◌, ◌==◌, nat_le, List, [], ◌∷◌, length, take, drop, position, Option, Some, None, codes, if◌then◌else◌}
+use Rattle.std.specs.Prelude.{ℕ, ◌≤◌, ◌-◌, Bool, not, ◌&&◌, ◌||◌, ◌==◌, nat_le, List, [], ◌∷◌, length, take, drop, position, Option, Some, None, codes, if◌then◌else◌}
 use Rattle.std.specs.Option.{unwrap_or}
 use Rattle.std.specs.Str.{bytes_eq}
 use Rattle.git_object.specs.Reader.{◌>>=◌, literal}
-use Rattle.hub_core.specs.Name.{Name}
-
-pub record Asked : Type 0 where
-  pub user : Name
-  pub repo : Name
+use Rattle.gitolite_shell.specs.declared.first_packet.Asked.{Asked}
 
 -- `a` to `z`
 abbrev pub is_letter : ℕ → Bool
@@ -46,3 +42,7 @@ asked line = do
   letter ← word is_letter (take 1 quoted)
   rest ← literal (codes "'") repo.1
   at_end (record { user = user.0; repo = repo.0 }) rest
+
+-- both names are
+abbrev pub AreShort : Asked → Type 0
+AreShort a = (length a.user ≤ 64) × (length a.repo ≤ 64)

@@ -3,3 +3,4 @@ pub mod Texts
 pub mod FirstPacket
 pub mod Create
 pub mod Session
+pub mod Readers

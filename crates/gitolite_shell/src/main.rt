@@ -2,13 +2,24 @@
 //!
 //! - `end`: how a session ends;
 //! - `gate`: what stands between an opening and what follows;
-//! - `text`: what a session writes;
+//! - `text`: the texts that a session writes;
+//! - `said`: packets that are written, and refusals;
 //! - `first_packet`, `create`: what a session reads;
-//! - `receiving`, `session`: a session;
-//! - `script`: sessions one after the other, and what is printed of them.
+//! - `receiving`: what follows an opening;
+//! - `session`: a session.
 #![tactic(auto)]
 
+mod create;
 mod end;
+mod first_packet;
+mod gate;
+mod receiving;
+mod said;
+mod session;
+mod text;
+
+#[cfg(test)]
+mod tests;
 
 use std::io;
 
