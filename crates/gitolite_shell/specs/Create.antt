@@ -25,8 +25,8 @@ create_in line = do
   branch ← literal (codes " refs/heads/") new.1
   letters ← word is_letter branch
   rest ← literal (0 ∷ codes "report-status") letters.1
-  name ← at_end (codes "refs/heads/" ++ letters.0) rest
-  create new.0 name
+  ended ← at_end rest
+  create new.0 (codes "refs/heads/" ++ letters.0)
 
 -- the command of a line at a repository
 unfoldable pub command_at : Name → List ℕ → Option Command

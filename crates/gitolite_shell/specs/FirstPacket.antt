@@ -17,21 +17,22 @@ is_letter_or_dash c = is_letter c || (c == 45)
 abbrev pub run_length : (ℕ → Bool) → List ℕ → ℕ
 run_length test bytes = unwrap_or (position (λ c. not (test c)) bytes) (length bytes)
 
+-- so many bytes of the front, where that is 1 to 64, and what follows them
+abbrev pub front : ℕ → List ℕ → Option (List ℕ × List ℕ)
+front size bytes = if nat_le 1 size && nat_le size 64 then Some (take size bytes, drop size bytes) else None
+
 -- all bytes of this kind at the front, of which there are 1 to 64, and what follows them
 unfoldable pub word : (ℕ → Bool) → List ℕ → Option (List ℕ × List ℕ)
-word test bytes =
-    if nat_le 1 (run_length test bytes) && nat_le (run_length test bytes) 64
-    then Some (take (run_length test bytes) bytes, drop (run_length test bytes) bytes)
-    else None
+word test bytes = front (run_length test bytes) bytes
 
 -- a packet's payload without one line feed at its end
 unfoldable pub without_feed : List ℕ → List ℕ
 without_feed payload = if bytes_eq (drop (length payload - 1) payload) (10 ∷ []) then take (length payload - 1) payload else payload
 
 -- nothing follows
-abbrev pub at_end : {A : Type 0} → A → List ℕ → Option A
-at_end value [] = Some value
-at_end value (b ∷ rest) = None
+abbrev pub at_end : List ℕ → Option (Unit {0})
+at_end [] = Some tt
+at_end (b ∷ rest) = None
 
 -- what a first line asks for
 unfoldable pub asked : List ℕ → Option Asked
@@ -41,7 +42,8 @@ asked line = do
   repo ← word is_letter_or_dash quoted
   letter ← word is_letter (take 1 quoted)
   rest ← literal (codes "'") repo.1
-  at_end (record { user = user.0; repo = repo.0 }) rest
+  ended ← at_end rest
+  Some (record { user = user.0; repo = repo.0 })
 
 -- both names are
 abbrev pub AreShort : Asked → Type 0

@@ -1,13 +1,14 @@
 // The command and the pack of a push.
-ghost use Rattle.std.specs.Prelude.{◌≡◌, ◌≤◌, ◌++◌, length, codes, IfOk, IfSome};
-ghost use Rattle.std.specs.Option.{option_map};
+ghost use Rattle.std.specs.Prelude.{◌≡◌, ◌≤◌, ◌++◌, ◌∷◌, [], length, codes, IfOk, IfSome};
+ghost use Rattle.std.specs.Option.{option_copied, option_map};
 ghost use Rattle.git_object.specs.Object.{links_of, object_name};
-ghost use Rattle.git_object.specs.ObjectId.{hex_id};
+ghost use Rattle.git_object.specs.ObjectId.{hex_id, hex_of};
+ghost use Rattle.git_object.specs.Reader.{literal};
 ghost use Rattle.hub_core.specs.Name.{zero_id};
 ghost use Rattle.hub_core.specs.Store.{same_object};
 ghost use Rattle.gitolite_shell.specs.Create.{command_at, create_in, empty_tree, HasShortName, is_first_commit, is_first_pack, links_to_empty_tree};
 
-use crate::first_packet::{letters, literal};
+use crate::first_packet::{at_end, letters, literal};
 use git_object::{Kind, Object, ObjectId, ObjectList};
 use hub_core::{Command, NoMemory, RepoName, Text};
 use std::alloc::Global;
@@ -38,14 +39,23 @@ pub fn command_at(alloc: Global, repo: &RepoName, line: &[u8]) -> Result<Option<
 fn create_in(line: &[u8]) -> Option<(ObjectId, &[u8])>
     ensures { option_map (λ r. record { old = zero_id; new = r.0; name = codes "refs/heads/" ++ r.1.now }) result ≡ create_in line.now }
 {
-    let behind = literal(line, b"0000000000000000000000000000000000000000 ")?;
-    let (new, branch) = hex_id(behind)?;
-    let (letters, end) = letters(literal(branch, b" refs/heads/")?)?;
+    let behind = behind_zero(line)?;
+    let (new, text) = hex_id(behind)?;
+    let branch = literal(text, b" refs/heads/")?;
+    let (letters, end) = letters(branch)?;
     let rest = literal(end, b"\0report-status")?;
-    if !rest.is_empty() || new == ObjectId::zero() {
+    at_end(rest)?;
+    if new == ObjectId::zero() {
         return None;
     }
     Some((new, letters))
+}
+
+// What follows the zero id and a space at the front.
+fn behind_zero(line: &[u8]) -> Option<&[u8]>
+    ensures { option_copied result ≡ literal (hex_of zero_id ++ 32 ∷ []) line.now }
+{
+    literal(line, b"0000000000000000000000000000000000000000 ")
 }
 
 // The id of forty digits at the front, and what follows them.

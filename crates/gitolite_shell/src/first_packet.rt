@@ -1,8 +1,8 @@
 // The first packet.
-ghost use Rattle.std.specs.Prelude.{◌≡◌, ◌≤◌, ◌&&◌, nat_le, length, take, drop, is_some, IfOk, IfSome, if◌then◌else◌};
+ghost use Rattle.std.specs.Prelude.{◌≡◌, ◌≤◌, ◌<◌, not, length, position, take, IfOk, IfSome};
 ghost use Rattle.std.specs.Option.{option_copied, option_map};
 ghost use Rattle.git_object.specs.Reader.{literal};
-ghost use Rattle.gitolite_shell.specs.FirstPacket.{AreShort, asked, is_letter, is_letter_or_dash, run_length, without_feed, word};
+ghost use Rattle.gitolite_shell.specs.FirstPacket.{AreShort, asked, at_end, front, is_letter, is_letter_or_dash, run_length, without_feed, word};
 
 use hub_core::{NoMemory, RepoName, Text, UserName};
 use std::alloc::Global;
@@ -36,13 +36,9 @@ fn names(line: &[u8]) -> Option<(&[u8], &[u8])>
     let (user, behind) = letters(line)?;
     let quoted = literal(behind, b" git-receive-pack '")?;
     let (repo, end) = letters_or_dashes(quoted)?;
-    if !begins_with_letter(quoted) {
-        return None;
-    }
+    letters(first(quoted))?;
     let rest = literal(end, b"'")?;
-    if !rest.is_empty() {
-        return None;
-    }
+    at_end(rest)?;
     Some((user, repo))
 }
 
@@ -72,7 +68,7 @@ fn letters_or_dashes(bytes: &[u8]) -> Option<(&[u8], &[u8])>
 // So many bytes of the front, where that is 1 to 64, and what follows them.
 fn front(bytes: &[u8], size: usize) -> Option<(&[u8], &[u8])>
     requires { size ≤ length bytes.now }
-    ensures { option_map (λ r. (r.0.now, r.1.now)) result ≡ (if nat_le 1 size && nat_le size 64 then Some (take size bytes.now, drop size bytes.now) else None) }
+    ensures { option_map (λ r. (r.0.now, r.1.now)) result ≡ front size bytes.now }
 {
     if size < 1 || size > 64 {
         return None;
@@ -84,20 +80,34 @@ fn letter_run(bytes: &[u8]) -> usize
     ensures run { result ≡ run_length is_letter bytes.now }
     ensures within { result ≤ length bytes.now }
 {
-    match bytes.iter().position(|c| !is_letter(*c)) {
+    match first_no_letter(bytes) {
         Some(at) => at,
         None => bytes.len(),
     }
+}
+
+fn first_no_letter(bytes: &[u8]) -> Option<usize>
+    ensures value { result ≡ position (λ c. not (is_letter c)) bytes.now }
+    ensures within { IfSome result (λ at. at < length bytes.now) }
+{
+    bytes.iter().position(|c| !is_letter(*c))
 }
 
 fn letter_or_dash_run(bytes: &[u8]) -> usize
     ensures run { result ≡ run_length is_letter_or_dash bytes.now }
     ensures within { result ≤ length bytes.now }
 {
-    match bytes.iter().position(|c| !is_letter_or_dash(*c)) {
+    match first_no_letter_or_dash(bytes) {
         Some(at) => at,
         None => bytes.len(),
     }
+}
+
+fn first_no_letter_or_dash(bytes: &[u8]) -> Option<usize>
+    ensures value { result ≡ position (λ c. not (is_letter_or_dash c)) bytes.now }
+    ensures within { IfSome result (λ at. at < length bytes.now) }
+{
+    bytes.iter().position(|c| !is_letter_or_dash(*c))
 }
 
 fn is_letter(c: u8) -> bool
@@ -112,13 +122,23 @@ fn is_letter_or_dash(c: u8) -> bool
     is_letter(c) || c == b'-'
 }
 
-#[tactic(auto, unfolding(crate::specs::FirstPacket::word))]
-fn begins_with_letter(bytes: &[u8]) -> bool
-    ensures { result ≡ is_some (word is_letter (take 1 bytes.now)) }
+// The first byte, if there is one.
+fn first(bytes: &[u8]) -> &[u8]
+    ensures { result.now ≡ take 1 bytes.now }
 {
-    match bytes.first() {
-        Some(c) => is_letter(*c),
-        None => false,
+    match bytes.split_at_checked(1) {
+        Some((byte, _)) => byte,
+        None => bytes,
+    }
+}
+
+/// Whether nothing follows.
+pub fn at_end(rest: &[u8]) -> Option<()>
+    ensures { result ≡ at_end rest.now }
+{
+    match rest {
+        [] => Some(()),
+        [_, ..] => None,
     }
 }
 
