@@ -4,8 +4,9 @@ ghost use Rattle.std.specs.Option.{option_copied};
 ghost use Rattle.std.specs.FinMap as map;
 
 use crate::{NoMemory, Text};
-use std::alloc::Global;
+use std::alloc::{AllocError, Global};
 use std::collections::BTreeMap;
+use std::collections::btree_map::Iter;
 use std::marker::Model;
 
 /// A finite map from names to values, in the byte order of the names.
@@ -54,6 +55,21 @@ impl<T: Drop> NameMap<T> {
         Ok(())
     }
 
+    /// Takes a name and its value out.
+    pub fn remove(&mut self, name: &Text) -> Option<T>
+        ensures value { result ≡ map.get self.old name.now }
+        ensures map { self.new ≡ map.remove self.old name.now }
+    {
+        self.entries.remove(name)
+    }
+
+    /// The names with their values, in the byte order of the names.
+    pub fn iter(&self) -> Iter<'_, Text, T>
+        ensures { result ≡ map.entries self.now }
+    {
+        self.entries.iter()
+    }
+
     pub fn len(&self) -> usize
         ensures { result ≡ map.len self.now }
     {
@@ -64,5 +80,19 @@ impl<T: Drop> NameMap<T> {
         ensures { result ≡ (map.len self.now == 0) }
     {
         self.len() == 0
+    }
+}
+
+/// A copy has the same names, and clones of their values. It costs their number.
+impl<T: Clone> Clone for NameMap<T> {
+    ghost use Rattle.std.specs.List.{AllZip};
+
+    ghost is_clone = { λ m n. AllZip (λ e f. (f.0 ≡ e.0) × T.is_clone e.1 f.1) (map.entries m) (map.entries n) };
+
+    fn clone(&self) -> Result<NameMap<T>, AllocError> {
+        let entries = self.entries.clone()?;
+        // A length tells that the names of its map ascend.
+        let _ascend = (self.entries.len(), entries.len());
+        Ok(NameMap { entries })
     }
 }

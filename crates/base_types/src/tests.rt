@@ -34,6 +34,26 @@ fn a_map_keeps_the_last_value_of_each_name(rt: HostRuntime) -> Result<(), Fail> 
 }
 
 #[test]
+fn a_map_gives_its_names_in_byte_order(rt: HostRuntime) -> Result<(), Fail> {
+    let alloc = rt.alloc();
+    let mut map = NameMap::new(alloc);
+    for (name, value) in [("c", 1u8), ("a", 2), ("b", 3)] {
+        map.insert(Text::of(alloc, name.as_bytes())?, value)?;
+    }
+    let copy = map.clone()?;
+    let removed = map.remove(&Text::of(alloc, b"b")?);
+    assert_eq!(rt; removed, Some(3));
+    assert!(rt; map.remove(&Text::of(alloc, b"b")?).is_none());
+    let mut values = Vec::new(alloc);
+    for (_, value) in map.iter() {
+        values.push(*value)?;
+    }
+    assert!(rt; values.as_slice() == [2, 1].as_slice());
+    assert_eq!(rt; copy.len(), 3);
+    Ok(())
+}
+
+#[test]
 fn texts_compare_as_bytes(rt: HostRuntime) -> Result<(), Fail> {
     let alloc = rt.alloc();
     // The last row: a byte above 127 stands behind every letter, and a beginning before the whole.

@@ -1,5 +1,5 @@
 -- Callers of a hub.
-use Rattle.std.proofs.Common.{◌≡◌, ℕ, List, [], ◌∷◌, ◌++◌, refl, sym, ◌∙◌, ap, ◌≤◌, length, drop, nat_eq, append-nil, append_assoc, subst}
+use Rattle.std.proofs.Common.{◌≡◌, ℕ, List, [], ◌∷◌, ◌++◌, refl, sym, ◌∙◌, ap, ◌≤◌, length, drop, nat_eq, append-nil, append_assoc, subst, true}
 use Rattle.std.specs.Prelude.{Option, Some, None}
 use Rattle.std.specs.List.{filter}
 use Rattle.std.proofs.Math.Seq.{drop-length}
@@ -27,6 +27,8 @@ called_alone start old new (Some e) within is legal =
           ap (λ (h : HubView). entries_of 0 start h.log) is
           ∙ ap (filter (λ (x : Entry). nat_eq x.caller 0)) (drop-append-le start old.log (entry ∷ []) within)
           ∙ filter-append (λ (x : Entry). nat_eq x.caller 0) (drop start old.log) (entry ∷ []);
+      alone = refl;
+      no_others = λ known. (refl, refl);
       legal = legal;
     }
 
@@ -40,5 +42,5 @@ calls_keep old new before (Some e) calls pin stands =
     subst (λ (h : HubView). Stands pin h) (sym grown) (stands_kept old.admin old.seen (calls.others ++ calls.entry ∷ []) pin.place pin.pinned stands)
 
 -- a desk that begins has no entries of its own
-pub known_alone-new : (hub : HubView) → known_alone (length hub.log) hub ≡ record { admin = hub.admin; seen = hub.log; mine = [] }
-known_alone-new hub = ap (λ l. record { admin = hub.admin; seen = hub.log; mine = filter (λ (e : Entry). nat_eq e.caller 0) l }) (drop-length hub.log)
+pub known_alone-new : (hub : HubView) → known_alone (length hub.log) hub ≡ record { admin = hub.admin; seen = hub.log; mine = []; alone = true }
+known_alone-new hub = ap (λ l. record { admin = hub.admin; seen = hub.log; mine = filter (λ (e : Entry). nat_eq e.caller 0) l; alone = true }) (drop-length hub.log)

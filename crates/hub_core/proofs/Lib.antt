@@ -3,6 +3,7 @@ pub mod NameLemmas
 pub mod HistoryLemmas
 pub mod ObjectLemmas
 pub mod OpeningLemmas
+pub mod ShortNames
 pub mod PinLemmas
 pub mod PushLemmas
 pub mod DeskLemmas

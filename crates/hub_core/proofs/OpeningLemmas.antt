@@ -48,7 +48,7 @@ pins_granted after user repo want (Denied verdict) p is = cc
 pins_granted after user repo want NoRepo p is = cc
 
 -- what a legal log pinned at a place is what its state had with the opening there
-pinned_at : (admin : Name) (log : List Entry) (place : ℕ) (p : Pinned) → IsLegal admin log → opening_at (history admin log) place ≡ Some p → IsOpeningAt admin log place p
+pub pinned_at : (admin : Name) (log : List Entry) (place : ℕ) (p : Pinned) → IsLegal admin log → opening_at (history admin log) place ≡ Some p → IsOpeningAt admin log place p
 pinned_at admin log place p legal is =
     let found = slot_entry (new_history admin) log place p (ap (λ os. joined (slice_get os place)) (sym (openings-slots (new_history admin) log)) ∙ is) in
     by_event found.0.caller found.0.event found.1 (due_at (new_history admin) log place found.0 legal found.1) found.2
@@ -78,4 +78,4 @@ push_named admin log index caller place pack commands atomic outcomes legal here
 
     by_opening : (o : Option Pinned) → opening_at (history admin (take index log)) place ≡ o → IsDuePush (replay admin (take index log)) o pack commands atomic outcomes → NamesOpening admin (take index log) place pack commands atomic outcomes
     by_opening None is due = absurd due
-    by_opening (Some p) is due = record { pinned = p; for_writing = due.0; opening = pinned_at admin (take index log) place p before_legal is; some_commands = due.1; told = due.2 }
+    by_opening (Some p) is due = record { pinned = p; for_writing = due.0; opening = pinned_at admin (take index log) place p before_legal is; within = due.1; told = due.2 }

@@ -27,12 +27,12 @@ call_keeps old new (Enters caller user repo want result logs answers) legal = by
     by_answer : (answer : Option EnterKept) → Logs old new caller (opened user repo want answer) → IfSome answer (λ a. a ≡ answer_to (replay old.admin old.log) user repo want) → HasLegalLog new
     by_answer None same due = subst HasLegalLog (sym same) legal
     by_answer (Some answer) is due = legal_logged old new caller (Entered user repo want answer) is due legal
-call_keeps old new (Settles caller pin pack commands atomic result stands write some logs answers) legal = by_result result logs answers
+call_keeps old new (Settles caller pin pack commands atomic result stands write within logs answers) legal = by_result result logs answers
   where
     by_result : (r : Told) → Logs old new caller (settled pin pack commands atomic r) → AnswersPush old pin pack commands atomic r → HasLegalLog new
     by_result (told.Settled outcomes) is due =
         legal_logged old new caller (Pushed pin.place pack commands atomic outcomes) is
-        (subst (λ (o : Option Pinned). IsDuePush (replay old.admin old.log) o pack commands atomic outcomes) (sym stands) (write, some, due)) legal
+        (subst (λ (o : Option Pinned). IsDuePush (replay old.admin old.log) o pack commands atomic outcomes) (sym stands) (write, within, due)) legal
     by_result (told.NoMemory back) same due = subst HasLegalLog (sym same) legal
 
 pub run_keeps : (hub : HubView) (later : List HubView) → IsRun hub later → HasLegalLog hub → HasLegalLog (at_end hub later)

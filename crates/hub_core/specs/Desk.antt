@@ -1,5 +1,5 @@
 -- What a caller knows of a hub, and what its calls do.
-use Rattle.std.specs.Prelude.{◌≡◌, ℕ, List, [], ◌∷◌, ◌++◌, Option, None, Some, Bool, nat_eq, drop}
+use Rattle.std.specs.Prelude.{◌≡◌, ℕ, List, [], ◌∷◌, ◌++◌, Option, None, Some, Bool, true, IsTrue, nat_eq, drop}
 use Rattle.std.specs.List.{filter}
 use Rattle.git_object.specs.Content.{Content}
 use Rattle.hub_core.specs.declared.command.Command.{Command}
@@ -17,10 +17,12 @@ use Rattle.hub_core.specs.Answer.{kept, opened, AnswersOpening, settled, Answers
 -- admin: the name from whose setup the log is legal
 -- seen: the beginning of the log that the caller knows
 -- mine: the caller's own entries in it
+-- alone: whether the hub is known to have no other caller; the entries of its only caller bear the number 0
 pub record DeskView : Type 0 where
   pub admin : Name
   pub seen : List Entry
   pub mine : List Entry
+  pub alone : Bool
 
 -- the hub, as far as the caller knows it
 abbrev pub known : DeskView → HubView
@@ -36,6 +38,8 @@ pub record MakesEntry (old new : DeskView) (before : List Entry) (event : Event)
   pub admin : new.admin ≡ old.admin
   pub seen : new.seen ≡ before ++ entry ∷ []
   pub mine : new.mine ≡ old.mine ++ entry ∷ []
+  pub alone : new.alone ≡ old.alone
+  pub no_others : IsTrue old.alone → (others ≡ []) × (entry.caller ≡ 0)
   pub legal : IsLegal new.admin new.seen
 
 abbrev pub Calls : DeskView → DeskView → List Entry → Option Event → Type 0
@@ -62,4 +66,4 @@ entries_of caller start log = filter (λ (e : Entry). nat_eq e.caller caller) (d
 
 -- what the only caller of a hub knows, whose own entries begin at a place
 abbrev pub known_alone : ℕ → HubView → DeskView
-known_alone start hub = record { admin = hub.admin; seen = hub.log; mine = entries_of 0 start hub.log }
+known_alone start hub = record { admin = hub.admin; seen = hub.log; mine = entries_of 0 start hub.log; alone = true }

@@ -1,5 +1,5 @@
 -- Logs: the state that a log leads to, and which logs are legal.
-use Rattle.std.specs.Prelude.{◌≡◌, ℕ, ◌<◌, Bool, List, [], ◌∷◌, ◌++◌, length, Option, None, Some}
+use Rattle.std.specs.Prelude.{◌≡◌, ℕ, Bool, List, [], ◌∷◌, ◌++◌, Option, None, Some}
 use Rattle.std.specs.List.{slice_get}
 use Rattle.git_object.specs.Content.{Content}
 use Rattle.hub_core.specs.declared.command.Command.{Command}
@@ -11,7 +11,7 @@ use Rattle.hub_core.specs.declared.entry.Event.TheVariants.{Entered, Pushed}
 use Rattle.hub_core.specs.Name.{Name}
 use Rattle.hub_core.specs.State.{State, start, Change, changed, repository_at, put_in_place}
 use Rattle.hub_core.specs.Pin.{Pinned, answer_to, made_by, pins}
-use Rattle.hub_core.specs.Push.{judgement, outcomes_in, landed}
+use Rattle.hub_core.specs.Push.{AreWithinLimits, judgement, outcomes_in, landed}
 
 -- what a log has led to: the state, and at each place of the log what the opening there pinned, if one stands there that pins
 pub record History : Type 0 where
@@ -51,10 +51,10 @@ pinned_by before after (Pushed place pack commands atomic _) = None
 abbrev pub after : History → Event → History
 after h event = record { state = step h event; openings = h.openings ++ pinned_by h.state (step h event) event ∷ [] }
 
--- the answer that a push records is the one that its step gives, and it names an opening for writing, which was granted
+-- the answer that a push records is the one that its step gives, and it names an opening for writing, which was granted, and is within the limits
 abbrev pub IsDuePush : State → Option Pinned → List Content → List Command → Bool → List Outcome → Type 0
 IsDuePush state None pack commands atomic outcomes = ⊥
-IsDuePush state (Some pinned) pack commands atomic outcomes = (pinned.want ≡ Write) × (0 < length commands) × (outcomes ≡ outcomes_at state pinned pack commands atomic)
+IsDuePush state (Some pinned) pack commands atomic outcomes = (pinned.want ≡ Write) × AreWithinLimits commands × (outcomes ≡ outcomes_at state pinned pack commands atomic)
 
 -- the answer that an event records is the one that its step gives
 abbrev pub IsDue : History → Event → Type 0

@@ -1,5 +1,5 @@
 -- Laws of the definitions.
-use Rattle.std.specs.Prelude.{◌≡◌, ◌↔◌, ◌⊎◌, ℕ, ◌+◌, ◌<◌, ◌≤◌, Bool, List, [], ◌∷◌, ◌++◌, length, take, Some}
+use Rattle.std.specs.Prelude.{◌≡◌, ◌↔◌, ◌⊎◌, ℕ, ◌+◌, ◌≤◌, Bool, List, [], ◌∷◌, ◌++◌, length, take, Some}
 use Rattle.std.specs.List.{slice_get}
 use Rattle.std.specs.FinMap.{get}
 use Rattle.git_object.specs.Content.{Content}
@@ -11,9 +11,10 @@ use Rattle.hub_core.specs.declared.entry.EnterKept.{EnterKept}
 use Rattle.hub_core.specs.declared.entry.EnterKept.TheVariants.{Granted, Created}
 use Rattle.hub_core.specs.declared.entry.Event.TheVariants.{Entered, Pushed}
 use Rattle.hub_core.specs.Name.{Name}
-use Rattle.hub_core.specs.Store.{HasNamesOnce}
+use Rattle.hub_core.specs.Store.{HasNamesOnce, HasShortNames}
 use Rattle.hub_core.specs.State.{Repository}
 use Rattle.hub_core.specs.Pin.{Opening, Pinned, pinned_in}
+use Rattle.hub_core.specs.Push.{AreWithinLimits}
 use Rattle.hub_core.specs.History.{history, replay, opening_at, pinned_by, outcomes_at, IsDue, IsLegal}
 use Rattle.hub_core.specs.Hub.{HubView, Stands}
 use Rattle.hub_core.specs.Run.{IsRun, at_end, new_hub}
@@ -54,7 +55,7 @@ pub record NamesOpening (admin : Name) (before : List Entry) (place : ℕ) (pack
   pub pinned : Pinned
   pub opening : IsOpeningAt admin before place pinned
   pub for_writing : pinned.want ≡ Write
-  pub some_commands : 0 < length commands
+  pub within : AreWithinLimits commands
   pub told : outcomes ≡ outcomes_at (replay admin before) pinned pack commands atomic
 
 -- each push of a legal log does
@@ -73,3 +74,10 @@ abbrev pub NamesStayOnce : Type 0
 NamesStayOnce =
     (admin : Name) (log : List Entry) → IsLegal admin log
     → (name : Name) (repository : Repository) → get (replay admin log).repositories name ≡ Some repository → HasNamesOnce repository.objects
+
+-- in the state that a legal log leads to, and in what its openings pinned, no ref's name has more than 1,024 bytes
+abbrev pub NamesStayShort : Type 0
+NamesStayShort =
+    (admin : Name) (log : List Entry) → IsLegal admin log
+    → ((name : Name) (repository : Repository) → get (replay admin log).repositories name ≡ Some repository → HasShortNames repository.refs)
+    × ((opening : Opening) → Stands opening (record { admin = admin; log = log }) → HasShortNames opening.pinned.repository.refs)

@@ -1,6 +1,6 @@
 -- A push: the outcome of each of its commands, and the repository that it leaves.
-use Rattle.std.specs.Prelude.{ℕ, Bool, true, false, not, nat_lt, List, [], ◌∷◌, map, length, Option, None, Some, if◌then◌else◌}
-use Rattle.std.specs.List.{list_any, position}
+use Rattle.std.specs.Prelude.{ℕ, ◌<◌, ◌≤◌, Bool, true, false, not, nat_lt, List, [], ◌∷◌, map, length, Option, None, Some, if◌then◌else◌}
+use Rattle.std.specs.List.{list_any, position, AllByRecursion}
 use Rattle.git_object.specs.Content.{Content}
 use Rattle.git_object.specs.declared.object_id.ObjectId.{ObjectId}
 use Rattle.hub_core.specs.declared.command.Command.{Command}
@@ -10,6 +10,12 @@ use Rattle.hub_core.specs.Name.{same_id}
 use Rattle.hub_core.specs.Store.{Refs, value, moved, collision, with_pack}
 use Rattle.hub_core.specs.State.{Repository}
 use Rattle.hub_core.specs.Pin.{Pinned}
+
+-- a push has 1 to 10,000 commands, each with a text of at most 1,024 bytes for its ref
+pub record AreWithinLimits (commands : List Command) : Type 0 where
+  pub some : 0 < length commands
+  pub few : length commands ≤ 10000
+  pub short : AllByRecursion (λ (c : Command). length c.name ≤ 1024) commands
 
 -- I. By the opening, the pack and the commands alone
 

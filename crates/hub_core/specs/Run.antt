@@ -1,5 +1,5 @@
 -- Calls of a hub, one after the other, of any callers.
-use Rattle.std.specs.Prelude.{◌≡◌, ℕ, ◌<◌, Bool, List, [], ◌∷◌, length}
+use Rattle.std.specs.Prelude.{◌≡◌, ℕ, Bool, List, [], ◌∷◌}
 use Rattle.git_object.specs.Content.{Content}
 use Rattle.hub_core.specs.declared.command.Command.{Command}
 use Rattle.hub_core.specs.declared.verdict.Want.{Want}
@@ -8,6 +8,7 @@ use Rattle.hub_core.specs.declared.hub.Entered.{Entered}
 use Rattle.hub_core.specs.declared.hub.Pushed.{Pushed}
 use Rattle.hub_core.specs.Name.{Name}
 use Rattle.hub_core.specs.Pin.{Opening}
+use Rattle.hub_core.specs.Push.{AreWithinLimits}
 use Rattle.hub_core.specs.Hub.{HubView, Logs, Stands}
 use Rattle.hub_core.specs.Answer.{kept, opened, AnswersOpening, settled, AnswersPush}
 
@@ -20,7 +21,7 @@ pub data Call (old new : HubView) : Type 0 where
   Settles : (caller : ℕ) (pin : Opening) (pack : List Content) (commands : List Command) (atomic : Bool) (result : Pushed)
       → Stands pin old
       → pin.pinned.want ≡ Write
-      → 0 < length commands
+      → AreWithinLimits commands
       → Logs old new caller (settled pin pack commands atomic result)
       → AnswersPush old pin pack commands atomic result
       → Call old new

@@ -1,8 +1,8 @@
 -- What a repository stores: objects, of which each has its name once, and refs.
-use Rattle.std.specs.Prelude.{◌≡◌, ℕ, Bool, false, ◌&&◌, not, nat_eq, List, [], ◌∷◌, ◌++◌, Option, None, Some, if◌then◌else◌}
-use Rattle.std.specs.List.{list_any}
+use Rattle.std.specs.Prelude.{◌≡◌, ℕ, ◌≤◌, length, Bool, false, ◌&&◌, not, nat_eq, List, [], ◌∷◌, ◌++◌, Option, None, Some, if◌then◌else◌}
+use Rattle.std.specs.List.{list_any, All}
 use Rattle.std.specs.Option.{unwrap_or}
-use Rattle.std.specs.FinMap.{get, insert, remove}
+use Rattle.std.specs.FinMap.{get, entries, insert, remove}
 use Rattle.base_types.specs.Names.{ByName}
 use Rattle.git_object.specs.Content.{Content}
 use Rattle.git_object.specs.Object.{object_name}
@@ -13,6 +13,10 @@ use Rattle.hub_core.specs.Name.{Name, same_name, same_id, zero_id}
 
 abbrev pub Refs : Type 0
 Refs = ByName ObjectId
+
+-- no ref's name has more than 1,024 bytes
+abbrev pub HasShortNames : Refs → Type 0
+HasShortNames refs = All (λ (ref : Name × ObjectId). length ref.0 ≤ 1024) (entries refs)
 
 pub record Store : Type 0 where
   pub objects : List Content

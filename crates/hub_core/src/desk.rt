@@ -1,7 +1,7 @@
 // A hub as one caller has it.
-ghost use Rattle.std.specs.Prelude.{◌≡◌, ◌<◌, ◌≤◌, ◌^◌, length};
+ghost use Rattle.std.specs.Prelude.{◌≡◌, ◌≤◌, length};
 ghost use Rattle.hub_core.specs.Hub.{Stands};
-ghost use Rattle.hub_core.specs.Push.{judgement};
+ghost use Rattle.hub_core.specs.Push.{AreWithinLimits, judgement};
 ghost use Rattle.hub_core.specs.Desk.{DeskView, Enters, KeepsPins, known, Pushes};
 
 use crate::command::CommandList;
@@ -15,7 +15,7 @@ use std::alloc::Global;
 
 /// One caller of a hub, of which there may be others.
 pub trait Desk {
-    /// The admin from whose setup the log is legal, the log as far as the caller has seen it, and its own entries in it.
+    /// The admin from whose setup the log is legal, the log as far as the caller has seen it, its own entries in it, and whether it is the only one.
     ghost view: { Self → DeskView };
 
     /// Opens a repository for a user.
@@ -35,8 +35,7 @@ pub trait Desk {
     ) -> Pushed
         requires stands { Stands pin (known (view self.old)) }
         requires write { pin.pinned.want ≡ Want.Write }
-        requires some { 0 < length commands }
-        requires few { length commands < 2 ^ 32 }
+        requires within { AreWithinLimits commands }
         requires judged { judged ≡ judgement pin.pinned pack commands }
         ensures answers { Pushes (view self.old) (view self.new) pin pack commands atomic result }
         ensures keeps { KeepsPins (view self.old) (view self.new) };
@@ -51,13 +50,13 @@ pub struct LoneDesk {
 }
 
 impl LoneDesk {
-    ghost use Rattle.std.specs.Prelude.{◌≡◌, []};
+    ghost use Rattle.std.specs.Prelude.{◌≡◌, [], true};
     ghost use Rattle.hub_core.specs.Desk.{known};
     ghost use Rattle.hub_core.specs.LoneDesk.{desk_of};
 
     /// The desk's own entries are those that it will make.
     pub fn new(hub: Hub) -> LoneDesk
-        ensures { desk_of result ≡ record { admin = hub.admin; seen = hub.log; mine = [] } }
+        ensures { desk_of result ≡ record { admin = hub.admin; seen = hub.log; mine = []; alone = true } }
     {
         let start = hub.log().len();
         LoneDesk { hub, start }

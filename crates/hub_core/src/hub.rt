@@ -1,11 +1,11 @@
 // The hub.
-ghost use Rattle.std.specs.Prelude.{◌≡◌, ◌<◌, ◌^◌, [], IfOk, IfSome, length, None, OnErr, OnOk, Some};
+ghost use Rattle.std.specs.Prelude.{◌≡◌, ◌≤◌, [], IfOk, IfSome, length, None, OnErr, OnOk, Some};
 ghost use Rattle.std.specs.FinMap as map;
 ghost use Rattle.std.specs.Option.{option_copied, option_map, unwrap_or};
 ghost use Rattle.hub_core.specs.Name.{map_of};
 ghost use Rattle.hub_core.specs.State.{changed, empty_repository, put_in_place, repository_at, store_of};
 ghost use Rattle.hub_core.specs.Pin.{answer_to, by_creation, by_verdict};
-ghost use Rattle.hub_core.specs.Push.{judgement, landed};
+ghost use Rattle.hub_core.specs.Push.{AreWithinLimits, judgement, landed};
 ghost use Rattle.hub_core.specs.History.{history, IsDue, IsLegal, outcomes_at, replay, step};
 ghost use Rattle.hub_core.specs.Hub.{logged, Logs, Stands};
 ghost use Rattle.hub_core.specs.Answer.{AnswersOpening, AnswersPush, IsPinOf, kept, opened, pin_of, settled};
@@ -213,8 +213,7 @@ impl Hub {
     ) -> Pushed
         requires stands { Stands pin self.old }
         requires write { pin.pinned.want ≡ Want.Write }
-        requires some { 0 < length commands }
-        requires few { length commands < 2 ^ 32 }
+        requires within { AreWithinLimits commands }
         requires judged { judged ≡ judgement pin.pinned pack commands }
         ensures logs { Logs self.old self.new caller (settled pin pack commands atomic result) }
         ensures answers { AnswersPush self.old pin pack commands atomic result }
@@ -241,8 +240,7 @@ impl Hub {
     ) -> Result<OutcomeList, NoMemory>
         requires stands { Stands pin.now self.old }
         requires write { pin.now.pinned.want ≡ Want.Write }
-        requires some { 0 < length commands }
-        requires few { length commands < 2 ^ 32 }
+        requires within { AreWithinLimits commands }
         requires judged { judged ≡ judgement pin.now.pinned pack commands }
         ensures due { IfOk result (λ os. os ≡ outcomes_at (replay self.old.admin self.old.log) pin.now.pinned pack commands atomic) }
         ensures logs { IfOk result (λ os. self.new ≡ logged self.old caller (Event.Pushed pin.now.place pack commands atomic os)) }
@@ -275,7 +273,7 @@ impl Hub {
         atomic: bool,
         judged: &Judged,
     ) -> Result<Decided, NoMemory>
-        requires few { length commands.now < 2 ^ 32 }
+        requires few { length commands.now ≤ 10000 }
         requires judged { judged.now ≡ judgement pin.now.pinned pack.now commands.now }
         ensures outcomes { IfOk result (λ d. d.outcomes ≡ outcomes_at (replay self.now.admin self.now.log) pin.now.pinned pack.now commands.now atomic) }
         ensures next { IfOk result (λ d. d.next ≡ landed (repository_at (replay self.now.admin self.now.log) pin.now.pinned.repo) pack.now commands.now d.outcomes) }

@@ -1,5 +1,5 @@
 // Laws of the definitions.
-ghost use Rattle.hub_core.specs.Laws.{BeginningIsLegal, LegalByPlaces, NamesStayOnce, OpeningStays, PinsOfItsPlace, PushesNameOpenings, RunsAreLegal, StateStays};
+ghost use Rattle.hub_core.specs.Laws.{BeginningIsLegal, LegalByPlaces, NamesStayOnce, NamesStayShort, OpeningStays, PinsOfItsPlace, PushesNameOpenings, RunsAreLegal, StateStays};
 
 /// The laws hold, of every log.
 pub fn hold_laws()
@@ -10,5 +10,6 @@ pub fn hold_laws()
     ensures pins { PinsOfItsPlace }
     ensures pushes { PushesNameOpenings }
     ensures names { NamesStayOnce }
+    ensures short { NamesStayShort }
     ensures runs { RunsAreLegal }
 {}

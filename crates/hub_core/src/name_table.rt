@@ -1,4 +1,4 @@
-// Values by their names. It removes, copies and takes several at once, which the map of `base_types` doesn't yet.
+// Values by their names. It takes room first and then several at once, which the map of `base_types` can't.
 ghost use Rattle.std.specs.Prelude.{◌≡◌, ◌+◌, ◌<◌, ◌≤◌, [], IfOk, OnErr, OnOk};
 ghost use Rattle.std.specs.FinMap as map;
 ghost use Rattle.std.specs.Option.{option_copied};
@@ -67,29 +67,8 @@ impl<T: Drop> NameTable<T> {
         put_each(&mut self.items, changes);
     }
 
-    pub fn remove(&mut self, name: &Text)
-        ensures { map_of self.new.items.items ≡ map.remove (map_of self.old.items.items) name.now }
-    {
-        forget(&mut self.items, name);
-    }
-
     pub fn len(&self) -> usize {
         self.items.len()
-    }
-}
-
-impl<T: Copy> NameTable<T> {
-    pub fn copy(&self, alloc: Global) -> Result<NameTable<T>, NoMemory>
-        ensures { IfOk result (λ t. t.items.items ≡ self.now.items.items) }
-    {
-        let mut items = Vec::with_capacity(alloc, self.items.len())?;
-        for item in &self.items {
-            items.push(Named {
-                name: item.name.clone()?,
-                value: item.value,
-            })?;
-        }
-        Ok(NameTable { items })
     }
 }
 

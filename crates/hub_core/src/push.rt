@@ -1,5 +1,5 @@
 // What a push does to a repository.
-ghost use Rattle.std.specs.Prelude.{◌≡◌, ◌<◌, ◌^◌, if◌then◌else◌, IfOk, IfSome, length, map, None, not, OnOk, Some};
+ghost use Rattle.std.specs.Prelude.{◌≡◌, ◌<◌, ◌≤◌, ◌^◌, if◌then◌else◌, IfOk, IfSome, length, map, None, not, OnOk, Some};
 ghost use Rattle.std.specs.List.{list_any, position};
 ghost use Rattle.hub_core.specs.Push.{beside, by_refs, in_order, is_done, landed, outcomes_in, refs_left, together};
 
@@ -31,7 +31,7 @@ pub fn decide(
     atomic: bool,
 ) -> Result<Decided, NoMemory>
     requires alike { length judged.now ≡ length commands.now }
-    requires few { length commands.now < 2 ^ 32 }
+    requires few { length commands.now ≤ 10000 }
     ensures outcomes { IfOk result (λ d. d.outcomes ≡ outcomes_in now.now pack.now commands.now atomic judged.now) }
     ensures next { IfOk result (λ d. d.next ≡ landed now.now pack.now commands.now d.outcomes) }
 {
@@ -50,7 +50,7 @@ pub fn decide(
             next: None,
         });
     }
-    let mut repo = now.repo().with_objects(alloc, objects)?;
+    let mut repo = now.repo().with_objects(objects)?;
     let ran = run(alloc, &mut repo, judged, commands.as_slice())?;
     let outcomes = together(alloc, atomic, ran)?;
     let next = land(alloc, now, repo, &outcomes)?;

@@ -4,8 +4,7 @@ ghost use Rattle.std.specs.FinMap.{empty};
 ghost use Rattle.std.specs.List.{list_any};
 ghost use Rattle.hub_core.specs.Store.{collides, collision, has_object, moved, same_object, value, with_pack};
 
-use crate::name_table::NameTable;
-use base_types::{NoMemory, Text};
+use base_types::{NameMap, NoMemory, Text};
 use git_object::{Object, ObjectId, ObjectList, share};
 use std::alloc::Global;
 use std::marker::Model;
@@ -14,11 +13,10 @@ use std::marker::Model;
 #[derive(Drop)]
 pub struct Repo {
     objects: ObjectList,
-    refs: NameTable<ObjectId>,
+    refs: NameMap<ObjectId>,
 }
 
 impl Model for Repo {
-    ghost use Rattle.hub_core.specs.Name.{map_of};
     ghost use Rattle.hub_core.specs.Store.{Store};
     ghost use Rattle.hub_core.specs.Codes.{coded_store};
 
@@ -26,7 +24,7 @@ impl Model for Repo {
 
     ghost coded = { coded_store };
 
-    ghost view = { λ r. record { objects = r.objects; refs = map_of r.refs.items.items } };
+    ghost view = { λ r. record { objects = r.objects; refs = r.refs } };
 }
 
 impl Repo {
@@ -36,7 +34,7 @@ impl Repo {
     {
         Repo {
             objects: ObjectList::new(alloc),
-            refs: NameTable::new(alloc),
+            refs: NameMap::new(alloc),
         }
     }
 
@@ -44,6 +42,13 @@ impl Repo {
         ensures { result.now ≡ self.now.objects }
     {
         &self.objects
+    }
+
+    /// The refs with their values.
+    pub fn refs(&self) -> &NameMap<ObjectId>
+        ensures { result.now ≡ self.now.refs }
+    {
+        &self.refs
     }
 
     /// A ref's value, zero where it is absent.
@@ -57,10 +62,10 @@ impl Repo {
     }
 
     /// The same refs, over other objects.
-    pub(crate) fn with_objects(&self, alloc: Global, objects: ObjectList) -> Result<Repo, NoMemory>
+    pub(crate) fn with_objects(&self, objects: ObjectList) -> Result<Repo, NoMemory>
         ensures { IfOk result (λ r. r ≡ record self.now { objects = objects }) }
     {
-        let refs = self.refs.copy(alloc)?;
+        let refs = self.refs.clone()?;
         Ok(Repo { objects, refs })
     }
 

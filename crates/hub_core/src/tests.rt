@@ -1,6 +1,7 @@
 // Sessions over the only desk of a new hub, with the answers that docs/HISTORY.md gives.
-ghost use Rattle.std.specs.Prelude.{◌≡◌, ◌<◌, ◌^◌, IfOk, IfSome, length};
+ghost use Rattle.std.specs.Prelude.{◌≡◌, ◌<◌, ◌≤◌, IfOk, IfSome, length};
 ghost use Rattle.hub_core.specs.Hub.{Stands};
+ghost use Rattle.hub_core.specs.Push.{AreWithinLimits};
 ghost use Rattle.hub_core.specs.Desk.{KeepsPins, known};
 
 use super::*;
@@ -48,8 +49,7 @@ fn push<D: Desk>(
 ) -> Result<OutcomeList, NoMemory>
     requires write { pin.pinned.want ≡ Want.Write }
     requires stands { Stands pin (known (D.view desk.old)) }
-    requires some { 0 < length commands }
-    requires few { length commands < 2 ^ 32 }
+    requires within { AreWithinLimits commands }
     ensures keeps { KeepsPins (D.view desk.old) (D.view desk.new) }
 {
     let judged = judge(alloc, &pin, &pack, &commands)?;
@@ -61,7 +61,9 @@ fn push<D: Desk>(
 
 // A create for each letter, of the branch of that name.
 fn creates(alloc: Global, letters: &[u8], new: ObjectId) -> Result<CommandList, NoMemory>
-    ensures { IfOk result (λ l. length l ≡ length letters.now) }
+    requires some { 0 < length letters.now }
+    requires few { length letters.now ≤ 10000 }
+    ensures { IfOk result AreWithinLimits }
 {
     let mut list = CommandList::new(alloc);
     for letter in letters {
@@ -160,7 +162,7 @@ fn create<D: Desk>(
     requires write { pin.pinned.want ≡ Want.Write }
     requires stands { Stands pin (known (D.view desk.old)) }
     requires some { 0 < length letters.now }
-    requires few { length letters.now < 2 ^ 32 }
+    requires few { length letters.now ≤ 10000 }
     ensures keeps { KeepsPins (D.view desk.old) (D.view desk.new) }
 {
     let pack = pack(alloc, body)?;

@@ -1,5 +1,6 @@
 -- What own entries leave of a desk.
 use Rattle.std.proofs.Common.{◌≡◌, Bool, List, [], ◌∷◌, ◌++◌, map, Option, None, Some, refl, sym, ◌∙◌, ap, subst, append_assoc}
+use Rattle.std.specs.Prelude.{IsTrue}
 use Rattle.std.proofs.lemmas.List.{append-nil}
 use Rattle.git_object.specs.Content.{Content}
 use Rattle.hub_core.specs.declared.command.Command.{Command}
@@ -15,6 +16,7 @@ use Rattle.hub_core.specs.Desk.{DeskView}
 use Rattle.interaction_tree.specs.Requests.{request_of, due_outcomes, answered, OwnEntry, entry_of, asked}
 use Rattle.interaction_tree.specs.Runs.{MakesOwn, MakesAll}
 use Rattle.interaction_tree.specs.Growth.{GrowsBy}
+use Rattle.interaction_tree.specs.Alone.{IsAlone}
 
 -- the last entry of a legal log is due
 last_due : (h : History) (log : List Entry) (e : Entry) → IsLegalFrom h (log ++ e ∷ []) → IsDue (history_from h log) e.event
@@ -40,7 +42,7 @@ module _ (a b : DeskView) (one : OwnEntry) (makes : MakesOwn a b one) where
       due_answered (history_from (new_history a.admin) one.before) one.entry.event (last_due (new_history a.admin) one.before one.entry legal)
 
 pub makes_grows : (a b : DeskView) (own : List OwnEntry) → MakesAll a b own → GrowsBy a b own
-makes_grows a b [] same = rw same (record { admin = refl; seen = ([], sym (append-nil a.seen)); mine = sym (append-nil a.mine); legal = λ legal. legal; answered = tt })
+makes_grows a b [] same = rw same (record { admin = refl; seen = ([], sym (append-nil a.seen)); mine = sym (append-nil a.mine); legal = λ legal. legal; answered = tt; alone = refl })
 makes_grows a b (one ∷ own) p =
     let mid = p.0 in
     let makes = p.1 in
@@ -55,4 +57,24 @@ makes_grows a b (one ∷ own) p =
       mine = ih.mine ∙ ap (λ (l : List Entry). l ++ map entry_of own) (makes.made.mine ∙ ap (λ (e : Entry). a.mine ++ e ∷ []) makes.entry) ∙ append_assoc a.mine (one.entry ∷ []) (map entry_of own);
       legal = λ legal. ih.legal makes.made.legal;
       answered = (one_answered a mid one makes, rw makes.made.admin at ih.answered);
+      alone = ih.alone ∙ makes.made.alone;
     }
+
+-- at the desk of a hub's only caller each entry stands right behind the one before
+pub makes_alone : (a b : DeskView) (own : List OwnEntry) → IsTrue a.alone → MakesAll a b own → IsAlone a.admin a.seen own b.seen
+makes_alone a b [] alone same = ap (λ (d : DeskView). d.seen) same
+makes_alone a b (one ∷ own) alone p =
+    let mid = p.0 in
+    let makes = p.1 in
+    let no_others = makes.made.no_others alone in
+    let before : one.before ≡ a.seen = makes.made.before_is ∙ ap (λ (l : List Entry). a.seen ++ l) no_others.0 ∙ append-nil a.seen in
+    let caller : one.entry.caller ≡ 0 = ap (λ (e : Entry). e.caller) (sym makes.entry) ∙ no_others.1 in
+    let event : one.entry.event ≡ answered (history_from (new_history a.admin) a.seen) (asked one) =
+    one_answered a mid one makes ∙ ap (λ (l : List Entry). answered (history_from (new_history a.admin) l) (asked one)) before in
+    let ih = makes_alone mid b own (subst (λ (x : Bool). IsTrue x) (sym makes.made.alone) alone) p.2 in
+    let seen : mid.seen ≡ a.seen ++ one.entry ∷ [] = seen_one a mid one makes ∙ ap (λ (l : List Entry). l ++ one.entry ∷ []) before in
+    (
+      before,
+      (λ i. record { caller = caller i; event = event i }),
+      subst (λ (p : Name × List Entry). IsAlone p.0 p.1 own b.seen) (λ i. (makes.made.admin i, seen i)) ih,
+    )

@@ -100,7 +100,7 @@ module _ {E : Type 0} (a b : LinkState) (d : DeskView) (keeps : KeepsWriting a b
 
 makes_own : (a b : DeskView) (before : List Entry) (event : Event) → (m : MakesEntry a b before event) → MakesOwn a b (record { before = before; entry = m.entry })
 makes_own a b before event m = record {
-  made = record { others = m.others; entry = m.entry; before_is = m.before_is; event_is = refl; admin = m.admin; seen = m.seen; mine = m.mine; legal = m.legal };
+  made = record { others = m.others; entry = m.entry; before_is = m.before_is; event_is = refl; admin = m.admin; seen = m.seen; mine = m.mine; alone = m.alone; no_others = m.no_others; legal = m.legal };
   entry = refl;
 }
 

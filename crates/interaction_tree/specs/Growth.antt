@@ -13,3 +13,4 @@ pub record GrowsBy (old new : DeskView) (own : List OwnEntry) : Type 0 where
   pub mine : new.mine ≡ old.mine ++ map entry_of own
   pub legal : IsLegal old.admin old.seen → IsLegal new.admin new.seen
   pub answered : AreAnswered old.admin own
+  pub alone : new.alone ≡ old.alone

@@ -1,5 +1,5 @@
 -- Laws of interactions, which hold of every protocol.
-use Rattle.std.specs.Prelude.{◌≡◌, ◌⊎◌, ⊤, ℕ, ◌+◌, Bool, List, [], length, drop, map, Result, Ok, Err}
+use Rattle.std.specs.Prelude.{◌≡◌, ◌⊎◌, ⊤, ℕ, ◌+◌, Bool, IsTrue, List, [], length, drop, map, Result, Ok, Err}
 use Rattle.std.specs.Io.KnownBytes.{IsAtEnd}
 use Rattle.base_types.specs.Counts.{HasRisen}
 use Rattle.base_types.specs.Fronts.{Partial}
@@ -51,6 +51,10 @@ EntriesGrow = (old new : DeskView) (own : List OwnEntry) → MakesAll old new ow
 -- an event that is due is the one that its request brings about
 abbrev pub DueIsAnswered : Type 0
 DueIsAnswered = (h : History) (event : Event) → IsDue h event → event ≡ answered h (request_of event)
+
+-- At the desk of a hub's only caller each entry stands right behind the one before.
+abbrev pub OnlyCallersAreAlone : Type 0
+OnlyCallersAreAlone = (old new : DeskView) (own : List OwnEntry) → IsTrue old.alone → MakesAll old new own → IsAlone old.admin old.seen own new.seen
 
 -- Where a session is its hub's only caller, its turn is the one that the log gives, and the log afterwards is that one's.
 abbrev pub AloneAsLogged : Type 0 → Type 0 → Type 0

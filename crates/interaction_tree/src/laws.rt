@@ -1,5 +1,5 @@
 // Laws of interactions, which hold of every protocol.
-ghost use Rattle.interaction_tree.specs.Laws.{AloneAsLogged, CutOffsRun, DueIsAnswered, EndsOrLacks, EntriesGrow, EntriesRun, HaltsCompose, NothingRuns, OrdersCompose, PacketsRun, PacksRun, ReadingsRun, RefusedPacksRun, RunsCompose, RunsTakeTurns, TurnsCompose, WritesRun};
+ghost use Rattle.interaction_tree.specs.Laws.{AloneAsLogged, CutOffsRun, DueIsAnswered, EndsOrLacks, EntriesGrow, EntriesRun, HaltsCompose, NothingRuns, OnlyCallersAreAlone, OrdersCompose, PacketsRun, PacksRun, ReadingsRun, RefusedPacksRun, RunsCompose, RunsTakeTurns, TurnsCompose, WritesRun};
 
 /// What follows of code that ran an interaction; a call does nothing.
 pub fn turns_hold<E, A>()
@@ -7,6 +7,7 @@ pub fn turns_hold<E, A>()
     ensures sure { EndsOrLacks E A }
     ensures grow { EntriesGrow }
     ensures answered { DueIsAnswered }
+    ensures only { OnlyCallersAreAlone }
     ensures alone { AloneAsLogged E A }
 {}
 

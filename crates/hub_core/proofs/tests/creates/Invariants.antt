@@ -1,5 +1,10 @@
-use Rattle.std.proofs.Common.{◌≡◌, length}
+use Rattle.std.proofs.Common.{◌≡◌, ◌≤◌, length}
+use Rattle.std.specs.List.{AllByRecursion}
+use Rattle.hub_core.specs.declared.command.Command.{Command}
 use Rattle.hub_core.proofs.tests.creates.Given as goal
 
 abbrev pub invariant-loop-letter : goal.invariant-loop-letter
-invariant-loop-letter l = length l.list ≡ l.letter-index
+invariant-loop-letter l = record {
+  len : length l.list ≡ l.letter-index;
+  short : AllByRecursion (λ (c : Command). length c.name ≤ 1024) l.list;
+}

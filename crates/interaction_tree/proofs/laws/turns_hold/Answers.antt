@@ -1,5 +1,5 @@
 use Rattle.interaction_tree.proofs.EndingLemmas.{runs_turn, ends_or_lacks}
-use Rattle.interaction_tree.proofs.DeskLemmas.{makes_grows, due_answered}
+use Rattle.interaction_tree.proofs.DeskLemmas.{makes_grows, makes_alone, due_answered}
 use Rattle.interaction_tree.proofs.AloneLemmas.{alone_is}
 use Rattle.interaction_tree.proofs.laws.turns_hold.Goals as goal
 
@@ -11,6 +11,9 @@ returns-clause-grow g c = λ old new own made. makes_grows old new own made
 
 pub returns-clause-answered : goal.returns-clause-answered
 returns-clause-answered g c = λ h event due. due_answered h event due
+
+pub returns-clause-only : goal.returns-clause-only
+returns-clause-only g c = λ old new own alone made. makes_alone old new own alone made
 
 pub returns-clause-alone : goal.returns-clause-alone
 returns-clause-alone g c = λ admin end t input own log log' alone requests stops. alone_is admin end t input own log log' alone requests stops
