@@ -1,6 +1,6 @@
 -- What a session writes.
-use Rattle.std.specs.Prelude.{ℕ, ◌≤◌, length, List, [], ◌∷◌, ◌++◌, map, codes, decimal}
-use Rattle.std.specs.List.{All, flat_map, slice_get}
+use Rattle.std.specs.Prelude.{ℕ, List, [], ◌∷◌, ◌++◌, map, codes, decimal}
+use Rattle.std.specs.List.{flat_map, slice_get}
 use Rattle.std.specs.Option.{option_map_or}
 use Rattle.std.specs.FinMap.{entries}
 use Rattle.git_object.specs.declared.object_id.ObjectId.{ObjectId}
@@ -87,9 +87,3 @@ status_lines all (c ∷ cs) (o ∷ os) = status_text all c.name o ∷ status_lin
 -- that the pack was taken, a line for each command, and a flush
 unfoldable pub report : List Command → List Outcome → List ℕ
 report commands outcomes = flat_map packet (codes "unpack ok\n" ∷ status_lines commands commands outcomes) ++ spelling Flush
-
--- IV. What fits a packet
-
--- each name has at most 1,024 bytes
-abbrev pub HasShortNames : Refs → Type 0
-HasShortNames refs = All (λ (ref : Name × ObjectId). length ref.0 ≤ 1024) (entries refs)

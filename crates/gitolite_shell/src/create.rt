@@ -37,7 +37,8 @@ pub fn command_at(alloc: Global, repo: &RepoName, line: &[u8]) -> Result<Option<
 // The new value and the letters of a create.
 #[tactic(auto, unfolding(crate::specs::Create::create_in))]
 fn create_in(line: &[u8]) -> Option<(ObjectId, &[u8])>
-    ensures { option_map (λ r. record { old = zero_id; new = r.0; name = codes "refs/heads/" ++ r.1.now }) result ≡ create_in line.now }
+    ensures create { option_map (λ r. record { old = zero_id; new = r.0; name = codes "refs/heads/" ++ r.1.now }) result ≡ create_in line.now }
+    ensures short { IfSome result (λ r. length r.1.now ≤ 64) }
 {
     let behind = behind_zero(line)?;
     let (new, text) = hex_id(behind)?;

@@ -31,7 +31,8 @@ pub fn read_asked(alloc: Global, line: &[u8]) -> Result<Option<Asked>, NoMemory>
 // The names of a user and of a repository.
 #[tactic(auto, unfolding(crate::specs::FirstPacket::asked))]
 fn names(line: &[u8]) -> Option<(&[u8], &[u8])>
-    ensures { option_map (λ r. record { user = r.0.now; repo = r.1.now }) result ≡ asked line.now }
+    ensures names { option_map (λ r. record { user = r.0.now; repo = r.1.now }) result ≡ asked line.now }
+    ensures short { IfSome result (λ r. (length r.0.now ≤ 64) × (length r.1.now ≤ 64)) }
 {
     let (user, behind) = letters(line)?;
     let quoted = literal(behind, b" git-receive-pack '")?;
@@ -53,14 +54,16 @@ pub fn literal<'a>(bytes: &'a [u8], word: &[u8]) -> Option<&'a [u8]>
 /// All lower-case letters at the front, of which there are 1 to 64, and what follows them.
 #[tactic(auto, unfolding(crate::specs::FirstPacket::word))]
 pub fn letters(bytes: &[u8]) -> Option<(&[u8], &[u8])>
-    ensures { option_map (λ r. (r.0.now, r.1.now)) result ≡ word is_letter bytes.now }
+    ensures split { option_map (λ r. (r.0.now, r.1.now)) result ≡ word is_letter bytes.now }
+    ensures short { IfSome result (λ r. length r.0.now ≤ 64) }
 {
     front(bytes, letter_run(bytes))
 }
 
 #[tactic(auto, unfolding(crate::specs::FirstPacket::word))]
 fn letters_or_dashes(bytes: &[u8]) -> Option<(&[u8], &[u8])>
-    ensures { option_map (λ r. (r.0.now, r.1.now)) result ≡ word is_letter_or_dash bytes.now }
+    ensures split { option_map (λ r. (r.0.now, r.1.now)) result ≡ word is_letter_or_dash bytes.now }
+    ensures short { IfSome result (λ r. length r.0.now ≤ 64) }
 {
     front(bytes, letter_or_dash_run(bytes))
 }
@@ -68,7 +71,8 @@ fn letters_or_dashes(bytes: &[u8]) -> Option<(&[u8], &[u8])>
 // So many bytes of the front, where that is 1 to 64, and what follows them.
 fn front(bytes: &[u8], size: usize) -> Option<(&[u8], &[u8])>
     requires { size ≤ length bytes.now }
-    ensures { option_map (λ r. (r.0.now, r.1.now)) result ≡ front size bytes.now }
+    ensures split { option_map (λ r. (r.0.now, r.1.now)) result ≡ front size bytes.now }
+    ensures short { IfSome result (λ r. length r.0.now ≤ 64) }
 {
     if size < 1 || size > 64 {
         return None;

@@ -1,13 +1,16 @@
 // What follows an opening.
-ghost use Rattle.std.specs.Prelude.{◌≡◌, ◌≤◌, ◌∷◌, [], IfSome, IfOk};
+ghost use Rattle.std.specs.Prelude.{◌≡◌, ◌≤◌, ◌++◌, ◌∷◌, [], length, codes, IfSome, IfOk, if◌then◌else◌};
 ghost use Rattle.std.specs.List.{flat_map};
 ghost use Rattle.pktline_core.specs.Links.{KeepsReading};
+ghost use Rattle.pktline_core.specs.Packets.{spelling, Flush};
+ghost use Rattle.hub_core.specs.Name.{zero_id};
+ghost use Rattle.hub_core.specs.Store.{HasShortNames};
 ghost use Rattle.hub_core.specs.Hub.{Stands};
 ghost use Rattle.hub_core.specs.Desk.{DeskView, known};
 ghost use Rattle.interaction_tree.specs.Interaction.{write};
 ghost use Rattle.interaction_tree.specs.Runs.{Runs};
 ghost use Rattle.gitolite_shell.specs.End.{outcome_of};
-ghost use Rattle.gitolite_shell.specs.Texts.{HasShortNames, advertisement, packet, report, status_lines};
+ghost use Rattle.gitolite_shell.specs.Texts.{advertisement, first_line, more_line, packet, report, status_lines};
 ghost use Rattle.gitolite_shell.specs.Create.{HasShortName};
 ghost use Rattle.gitolite_shell.specs.Readers.{IsReady};
 ghost use Rattle.gitolite_shell.specs.Session.{commanding, creating, pushing, receiving, taking_flush, taking_objects, taking_pack};
@@ -211,15 +214,46 @@ pub fn receive<L: Link, K: Desk>(
     receive_command(alloc, link, desk, reader, pin)
 }
 
-// The refs of a repository.
+// The refs of a repository, in the byte order of their names.
 fn advertise<L: Link>(alloc: Global, link: &mut L, repo: &Repo) -> Result<(), SessionEnd>
     requires names { HasShortNames repo.now.refs }
     ensures runs { (desk : DeskView) → Runs (L.state link.old) (L.state link.new) desk desk (write (advertisement repo.now.refs)) (outcome_of result) }
     ensures reading { KeepsReading (L.state link.old) (L.state link.new) }
 {
-    let Ok(line) = ref_line(alloc, b"capabilities^{}", ObjectId::zero(), true) else {
+    let mut first = true;
+    for (name, id) in repo.refs().iter() {
+        advertise_ref(alloc, link, name.bytes(), *id, first)?;
+        first = false;
+    }
+    end_advertisement(alloc, link, first)
+}
+
+// The line of a ref.
+fn advertise_ref<L: Link>(
+    alloc: Global,
+    link: &mut L,
+    name: &[u8],
+    id: ObjectId,
+    first: bool,
+) -> Result<(), SessionEnd>
+    requires short { length name.now ≤ 1024 }
+    ensures runs { (desk : DeskView) → Runs (L.state link.old) (L.state link.new) desk desk (write (packet (if first then first_line (name.now, id) else more_line (name.now, id)))) (outcome_of result) }
+    ensures reading { KeepsReading (L.state link.old) (L.state link.new) }
+{
+    let Ok(line) = ref_line(alloc, name, id, first) else {
         return Err(SessionEnd::NoMemory);
     };
-    say(link, &line)?;
+    say(link, &line)
+}
+
+// The line that bears the capabilities where there is no ref, and the flush.
+fn end_advertisement<L: Link>(alloc: Global, link: &mut L, none: bool) -> Result<(), SessionEnd>
+    ensures runs { (desk : DeskView) → Runs (L.state link.old) (L.state link.new) desk desk (write ((if none then packet (first_line (codes "capabilities^{}", zero_id)) else []) ++ spelling Flush)) (outcome_of result) }
+    ensures reading { KeepsReading (L.state link.old) (L.state link.new) }
+{
+    if none {
+        advertise_ref(alloc, link, b"capabilities^{}", ObjectId::zero(), true)?;
+        return say_flush(link);
+    }
     say_flush(link)
 }
