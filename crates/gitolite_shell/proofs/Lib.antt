@@ -1,3 +1,5 @@
 mod StepLemmas
 mod OpeningLemmas
 mod OrderLemmas
+mod PackLemmas
+mod PushLemmas

@@ -20,7 +20,8 @@ create new name = if same_id new zero_id then None else Some (record { old = zer
 -- the zero id, a space, an id, a space, a branch of 1 to 64 lower-case letters, a zero byte, `report-status`
 unfoldable pub create_in : List ℕ → Option Command
 create_in line = do
-  behind ← literal (hex_of zero_id ++ 32 ∷ []) line
+  space ← literal (hex_of zero_id) line
+  behind ← literal (codes " ") space
   new ← hex_id behind
   branch ← literal (codes " refs/heads/") new.1
   letters ← word is_letter branch

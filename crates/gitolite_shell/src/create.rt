@@ -1,9 +1,8 @@
 // The command and the pack of a push.
-ghost use Rattle.std.specs.Prelude.{◌≡◌, ◌≤◌, ◌++◌, ◌∷◌, [], length, codes, IfOk, IfSome};
-ghost use Rattle.std.specs.Option.{option_copied, option_map};
+ghost use Rattle.std.specs.Prelude.{◌≡◌, ◌≤◌, ◌++◌, length, codes, IfOk, IfSome};
+ghost use Rattle.std.specs.Option.{option_map};
 ghost use Rattle.git_object.specs.Object.{links_of, object_name};
-ghost use Rattle.git_object.specs.ObjectId.{hex_id, hex_of};
-ghost use Rattle.git_object.specs.Reader.{literal};
+ghost use Rattle.git_object.specs.ObjectId.{hex_id};
 ghost use Rattle.hub_core.specs.Name.{zero_id};
 ghost use Rattle.hub_core.specs.Store.{same_object};
 ghost use Rattle.gitolite_shell.specs.Create.{command_at, create_in, empty_tree, HasShortName, is_first_commit, is_first_pack, links_to_empty_tree};
@@ -40,7 +39,8 @@ fn create_in(line: &[u8]) -> Option<(ObjectId, &[u8])>
     ensures create { option_map (λ r. record { old = zero_id; new = r.0; name = codes "refs/heads/" ++ r.1.now }) result ≡ create_in line.now }
     ensures short { IfSome result (λ r. length r.1.now ≤ 64) }
 {
-    let behind = behind_zero(line)?;
+    let space = literal(line, &ObjectId::zero().hex())?;
+    let behind = literal(space, b" ")?;
     let (new, text) = hex_id(behind)?;
     let branch = literal(text, b" refs/heads/")?;
     let (letters, end) = letters(branch)?;
@@ -50,13 +50,6 @@ fn create_in(line: &[u8]) -> Option<(ObjectId, &[u8])>
         return None;
     }
     Some((new, letters))
-}
-
-// What follows the zero id and a space at the front.
-fn behind_zero(line: &[u8]) -> Option<&[u8]>
-    ensures { option_copied result ≡ literal (hex_of zero_id ++ 32 ∷ []) line.now }
-{
-    literal(line, b"0000000000000000000000000000000000000000 ")
 }
 
 // The id of forty digits at the front, and what follows them.
