@@ -61,7 +61,7 @@ order_flush : EntriesFirst false taking_flush ReadLast
 unfolding EntriesFirst ◌>>=◌ read next_packet taking_flush
 order_flush = λ reply. order_only_flush reply.found
 
-order_pick : (first : Bool) (objects : List Content) → EntriesFirst false (cond first (gives {E = SessionEnd} objects) not_built) ReadLast
+order_pick : (first : Bool) (objects : List Content) → EntriesFirst {E = SessionEnd} false (cond first (gives objects) not_built) ReadLast
 unfolding EntriesFirst ◌>>=◌ write refuse not_built ReadLast
 order_pick true objects = refl
 order_pick false objects = tt

@@ -50,9 +50,15 @@ module _ (a b : LinkState) (d : DeskView) (command : Command) (result : Result (
 -- the pack is the one that was wanted, or another
 pub picked : (a : LinkState) (d : DeskView) (command : Command) (objects : List Content) (first : Bool) → first ≡ is_first_pack command.new objects → first ≡ true → Runs a a d d (pack_in command (Ok objects)) (Ok objects)
 picked a d command objects first is yes' =
-    subst (λ (b : Bool). Runs a a d d (cond b (gives {E = SessionEnd} objects) not_built) (Ok objects)) (sym yes' ∙ is) (runs_gives a d objects)
+    subst (λ (b : Bool). Runs {E = SessionEnd} a a d d (cond b (gives objects) not_built) (Ok objects)) (sym yes' ∙ is) (runs_gives a d objects)
 
 pub not_picked : (a b : LinkState) (d : DeskView) (command : Command) (objects : List Content) (first : Bool) (out : Result (List Content) (Halt SessionEnd)) → first ≡ is_first_pack command.new objects → first ≡ false
     → Runs a b d d not_built out → Runs a b d d (pack_in command (Ok objects)) out
 not_picked a b d command objects first out is no' said =
-    subst (λ (v : Bool). Runs a b d d (cond v (gives {E = SessionEnd} objects) not_built) out) (sym no' ∙ is) said
+    subst (λ (v : Bool). Runs {E = SessionEnd} a b d d (cond v (gives objects) not_built) out) (sym no' ∙ is) said
+
+-- a fault that isn't of the reading, nor of memory
+pub of_pack : (fault : PackFault) → (fault ≡ ReadFault → ⊥) → (fault ≡ NoMemory → ⊥) → IsOfPack fault
+of_pack ReadFault unread room = absurd (unread refl)
+of_pack NoMemory unread room = absurd (room refl)
+of_pack fault unread room = tt

@@ -55,9 +55,11 @@ fn take_objects<L: Link>(
             }
             Err(not_built(link))
         }
-        Err(PackFault::ReadFault) => Err(SessionEnd::ReadFault),
-        Err(PackFault::NoMemory) => Err(SessionEnd::NoMemory),
-        Err(_) => Err(not_built(link)),
+        Err(fault) => match fault {
+            PackFault::ReadFault => Err(SessionEnd::ReadFault),
+            PackFault::NoMemory => Err(SessionEnd::NoMemory),
+            _ => Err(not_built(link)),
+        },
     }
 }
 

@@ -13,4 +13,4 @@ returns-in_err-advertise g c = record { runs =
 pub returns : goal.returns
 unfolding receiving
 returns g c = record { runs =
-    goes _ _ _ _ _ (λ u. commanding _ c.args.pin) c.advertise.result _ _ c.in_ok-advertise.field-0 _ c.in_ok-advertise.was (rw c.repo.ensures at (c.advertise.ensures.runs _)) c.receive_command.ensures }
+    goes _ _ _ _ _ (λ u. commanding _ c.args.pin) c.advertise.result _ _ c.in_ok-advertise.field-0 _ c.in_ok-advertise.was (rw c.repo.ensures at (c.advertise.ensures.runs _)) c.receive_command.ensures.runs }

@@ -14,7 +14,7 @@ returns-in-Created-clause-runs g c =
 
 pub returns-in-Denied-clause-runs : goal.returns-in-Denied-clause-runs
 returns-in-Denied-clause-runs g c =
-    entered_then _ _ _ _ c.args.asked.now _ _ _ refl c.in-Denied.ensures.answers (refused _ _ _ _ _ _ (c.refuse_denied.ensures _))
+    entered_then _ _ _ _ c.args.asked.now _ _ _ refl c.in-Denied.ensures.answers (refused _ _ _ _ _ _ (c.refuse_denied.ensures.runs _))
 
 pub returns-in-NoRepo-clause-runs : goal.returns-in-NoRepo-clause-runs
 returns-in-NoRepo-clause-runs g c =

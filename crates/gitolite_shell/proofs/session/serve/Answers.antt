@@ -13,4 +13,4 @@ returns-in_err-asked g c = record { runs =
 pub returns : goal.returns
 unfolding served
 returns g c = record { runs =
-    goes _ _ _ _ _ (λ a. serving _ a) c.ask.result _ _ c.in_ok-asked.asked _ c.in_ok-asked.was (c.ask.ensures.runs _) c.serve_asked.ensures }
+    goes _ _ _ _ _ (λ a. serving _ a) c.ask.result _ _ c.in_ok-asked.asked _ c.in_ok-asked.was (c.ask.ensures.runs _) c.serve_asked.ensures.runs }

@@ -16,4 +16,4 @@ receive-requires-clause-names g c = ?
 pub returns : goal.returns
 unfolding serving
 returns g c = record { runs =
-    goes _ _ _ _ _ (λ opening. receiving _ opening) c.enter.result _ _ c.in_ok-pin.pin _ c.in_ok-pin.was c.enter.ensures.runs (rw (c.in_ok-pin.ensures.same, c.in_ok-pin.ensures.admin) at c.receive.ensures) }
+    goes _ _ _ _ _ (λ opening. receiving _ opening) c.enter.result _ _ c.in_ok-pin.pin _ c.in_ok-pin.was c.enter.ensures.runs (rw (c.in_ok-pin.ensures.same, c.in_ok-pin.ensures.admin) at c.receive.ensures.runs) }

@@ -13,8 +13,8 @@ returns-in_default g c = record { turn = runs_turn _ _ _ _ _ _ (is_ordered _) (r
 
 pub returns-in-Ok-serve : goal.returns-in-Ok-serve
 unfolding session
-returns-in-Ok-serve g c = record { turn = runs_turn _ _ _ _ _ _ (is_ordered _) (goes _ _ _ _ _ (λ u. ends Served) c.serve.result _ _ c.in-Ok-serve.field-0 _ c.in-Ok-serve.is c.serve.ensures (runs_ends _ _ Served)) }
+returns-in-Ok-serve g c = record { turn = runs_turn _ _ _ _ _ _ (is_ordered _) (goes _ _ _ _ _ (λ u. ends Served) c.serve.result _ _ c.in-Ok-serve.field-0 _ c.in-Ok-serve.is c.serve.ensures.runs (runs_ends _ _ Served)) }
 
 pub returns : goal.returns
 unfolding session
-returns g c = record { turn = runs_turn _ _ _ _ _ _ (is_ordered _) (halts _ _ _ _ _ (λ u. ends Served) c.serve.result c.in-Err.end c.in-Err.is c.serve.ensures) }
+returns g c = record { turn = runs_turn _ _ _ _ _ _ (is_ordered _) (halts _ _ _ _ _ (λ u. ends Served) c.serve.result c.in-Err.end c.in-Err.is c.serve.ensures.runs) }
