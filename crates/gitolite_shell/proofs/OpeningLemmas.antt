@@ -1,11 +1,11 @@
 -- An opening's entry, and what it pins.
-use Rattle.std.proofs.Common.{◌≡◌, ℕ, List, [], ◌∷◌, ◌++◌, length, Option, Some, Result, Ok, Err, refl, sym, ◌∙◌, ap, subst}
+use Rattle.std.proofs.Common.{◌≡◌, ℕ, List, [], ◌∷◌, ◌++◌, length, Option, Some, Result, Ok, codes, refl, sym, ◌∙◌, ap, subst}
 use Rattle.std.specs.Option.{IfSome}
 use Rattle.pktline_core.specs.LinkState.{LinkState}
 use Rattle.hub_core.specs.declared.verdict.Want.TheVariants.{Write}
 use Rattle.hub_core.specs.declared.entry.Entry.{Entry}
 use Rattle.hub_core.specs.declared.entry.EnterKept.{EnterKept}
-use Rattle.hub_core.specs.declared.entry.EnterKept.TheVariants.{Granted, Created}
+use Rattle.hub_core.specs.declared.entry.EnterKept.TheVariants.{Granted, Created, Denied, NoRepo}
 use Rattle.hub_core.specs.declared.entry.Event.{Event}
 use Rattle.hub_core.specs.declared.entry.Event.TheVariants.{Entered}
 use Rattle.hub_core.specs.declared.hub.Entered as hub_entered
@@ -17,15 +17,18 @@ use Rattle.hub_core.specs.Hub.{Stands}
 use Rattle.hub_core.specs.Answer.{kept, IsPinOf}
 use Rattle.hub_core.specs.Desk.{DeskView, Enters, MakesEntry, known}
 use Rattle.hub_core.proofs.HistoryLemmas.{history_from-append, opening_at-place}
-use Rattle.interaction_tree.specs.Interaction.{Interaction, ◌>>=◌, ask}
+use Rattle.interaction_tree.specs.Interaction.{Interaction, gives, ◌>>=◌, ask}
 use Rattle.interaction_tree.specs.Requests.{Enter, answered}
 use Rattle.interaction_tree.specs.Traces.{Halt}
 use Rattle.interaction_tree.specs.Runs.{Runs}
-use Rattle.interaction_tree.proofs.RunLemmas.{runs_bind}
+use Rattle.interaction_tree.proofs.RunLemmas.{runs_bind, runs_gives}
 use Rattle.interaction_tree.proofs.StepLemmas.{runs_entered}
 use Rattle.gitolite_shell.specs.declared.end.SessionEnd.{SessionEnd}
 use Rattle.gitolite_shell.specs.declared.first_packet.Asked.{Asked}
-use Rattle.gitolite_shell.specs.Session.{by_answer, entering, opening_behind}
+use Rattle.gitolite_shell.specs.Session.{by_answer, entering, opening_behind, refuse}
+use Rattle.gitolite_shell.specs.Texts.{denial}
+use Rattle.gitolite_shell.specs.declared.end.SessionEnd.TheVariants as end
+use Rattle.hub_core.specs.declared.verdict.Verdict.{Verdict}
 
 -- an opening's entry, and the rest by its answer
 pub entered_then : (a c : LinkState) (d e : DeskView) (q : Asked) (result : hub_entered.Entered) (answer : EnterKept) (out : Result Opening (Halt SessionEnd)) → kept result ≡ Some answer → (enters : Enters d e q.user q.repo Write result)
@@ -82,3 +85,22 @@ pin_created d e q pin enters =
     let m = enters.1 in
     let is = enters.2.1 in
     same_opening pin (opening_behind d.admin enters.0 q) is.place (some_same (sym (stood d e enters.0 _ m pin is.place is.stands) ∙ pins_created d.admin enters.0 m.entry q Created m.event_is (sym enters.2.0)))
+
+-- ---- an opening by its answer
+
+pub granted_then : (a : LinkState) (d e : DeskView) (q : Asked) (pin : Opening) → Enters d e q.user q.repo Write (hub_entered.TheVariants.Granted pin) → Runs a a d e (entering d.admin q) (Ok pin)
+granted_then a d e q pin enters =
+    entered_then a a d e q (hub_entered.TheVariants.Granted pin) Granted (Ok pin) refl enters
+    (subst (λ (o : Opening). Runs {E = SessionEnd} a a e e (gives o) (Ok pin)) (pin_granted d e q pin enters) (runs_gives a e pin))
+
+pub created_then : (a : LinkState) (d e : DeskView) (q : Asked) (pin : Opening) → Enters d e q.user q.repo Write (hub_entered.TheVariants.Created pin) → Runs a a d e (entering d.admin q) (Ok pin)
+created_then a d e q pin enters =
+    entered_then a a d e q (hub_entered.TheVariants.Created pin) Created (Ok pin) refl enters
+    (subst (λ (o : Opening). Runs {E = SessionEnd} a a e e (gives o) (Ok pin)) (pin_created d e q pin enters) (runs_gives a e pin))
+
+module _ (a c : LinkState) (d e : DeskView) (q : Asked) (out : Result Opening (Halt SessionEnd)) where
+  pub denied_then : (verdict : Verdict) → Enters d e q.user q.repo Write (hub_entered.TheVariants.Denied verdict) → Runs a c e e (refuse (codes "ERR " ++ denial q.user q.repo verdict) end.Denied) out → Runs a c d e (entering d.admin q) out
+  denied_then verdict enters said = entered_then a c d e q (hub_entered.TheVariants.Denied verdict) (Denied verdict) out refl enters said
+
+  pub no_repo_then : Enters d e q.user q.repo Write hub_entered.TheVariants.NoRepo → Runs a c e e (refuse (codes "ERR no such repository") end.NoRepo) out → Runs a c d e (entering d.admin q) out
+  no_repo_then enters said = entered_then a c d e q hub_entered.TheVariants.NoRepo NoRepo out refl enters said

@@ -9,6 +9,7 @@ use itoa::Buffer;
 use std::alloc::{AllocError, Global};
 
 /// The text of a denied opening for writing, behind `ERR `.
+#[tactic(auto, unfolding(crate::specs::Texts::denial))]
 pub fn denial(
     alloc: Global,
     user: &UserName,

@@ -1,24 +1,20 @@
-use Rattle.std.proofs.Common.{◌≡◌, refl, sym}
-use Rattle.interaction_tree.proofs.RunLemmas.{runs_gives, runs_memory}
+use Rattle.std.proofs.Common.{◌≡◌}
+use Rattle.interaction_tree.proofs.RunLemmas.{runs_memory}
 use Rattle.gitolite_shell.proofs.StepLemmas.{refused}
-use Rattle.gitolite_shell.proofs.OpeningLemmas.{entered_then, pin_granted, pin_created}
+use Rattle.gitolite_shell.proofs.OpeningLemmas.{granted_then, created_then, denied_then, no_repo_then}
 use Rattle.gitolite_shell.proofs.session.enter.Goals as goal
 
 pub returns-in-Granted-clause-runs : goal.returns-in-Granted-clause-runs
-returns-in-Granted-clause-runs g c =
-    entered_then _ _ _ _ c.args.asked.now _ _ _ refl c.in-Granted.ensures.answers (rw (sym (pin_granted _ _ c.args.asked.now c.in-Granted.pin c.in-Granted.ensures.answers)) (runs_gives _ _ _))
+returns-in-Granted-clause-runs g c = granted_then _ _ _ c.args.asked.now c.in-Granted.pin c.in-Granted.ensures.answers
 
 pub returns-in-Created-clause-runs : goal.returns-in-Created-clause-runs
-returns-in-Created-clause-runs g c =
-    entered_then _ _ _ _ c.args.asked.now _ _ _ refl c.in-Created.ensures.answers (rw (sym (pin_created _ _ c.args.asked.now c.in-Created.pin c.in-Created.ensures.answers)) (runs_gives _ _ _))
+returns-in-Created-clause-runs g c = created_then _ _ _ c.args.asked.now c.in-Created.pin c.in-Created.ensures.answers
 
 pub returns-in-Denied-clause-runs : goal.returns-in-Denied-clause-runs
-returns-in-Denied-clause-runs g c =
-    entered_then _ _ _ _ c.args.asked.now _ _ _ refl c.in-Denied.ensures.answers (refused _ _ _ _ _ _ (c.refuse_denied.ensures.runs _))
+returns-in-Denied-clause-runs g c = denied_then _ _ _ _ c.args.asked.now _ c.in-Denied.verdict c.in-Denied.ensures.answers (refused _ _ _ _ _ _ (c.refuse_denied.ensures.runs _))
 
 pub returns-in-NoRepo-clause-runs : goal.returns-in-NoRepo-clause-runs
-returns-in-NoRepo-clause-runs g c =
-    entered_then _ _ _ _ c.args.asked.now _ _ _ refl c.in-NoRepo.ensures.answers (refused _ _ _ _ _ _ (c.refuse.ensures.runs _))
+returns-in-NoRepo-clause-runs g c = no_repo_then _ _ _ _ c.args.asked.now _ c.in-NoRepo.ensures.answers (refused _ _ _ _ _ _ (c.refuse.ensures.runs _))
 
 pub returns-in-NoMemory-clause-runs : goal.returns-in-NoMemory-clause-runs
 returns-in-NoMemory-clause-runs g c = rw c.in-NoMemory.ensures.answers.1.0 (runs_memory _ _ _)
