@@ -3,3 +3,4 @@ mod OpeningLemmas
 mod OrderLemmas
 mod PackLemmas
 mod PushLemmas
+mod TextLemmas
