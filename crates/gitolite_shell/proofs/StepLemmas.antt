@@ -1,5 +1,5 @@
 -- Calls of a session, one after the other.
-use Rattle.std.proofs.Common.{◌≡◌, inl, inr, ℕ, List, [], ◌++◌, length, Option, Result, Ok, Err, sym, ◌∙◌, ap, subst, append_assoc}
+use Rattle.std.proofs.Common.{◌≡◌, inl, inr, ℕ, List, [], ◌++◌, length, Option, Result, Ok, Err, refl, sym, ◌∙◌, ap, subst, append_assoc}
 use Rattle.std.specs.Io.KnownBytes.{IsAtEnd}
 use Rattle.pktline_core.specs.LinkState.{LinkState}
 use Rattle.pktline_core.specs.Links.{IsLater, KeepsReading, KeepsWriting}
@@ -14,7 +14,7 @@ use Rattle.interaction_tree.specs.Requests.{OwnEntry}
 use Rattle.interaction_tree.specs.Interaction.{Interaction, gives, ends, writes, reads, ◌>>=◌, write, read}
 use Rattle.interaction_tree.specs.Traces.{Reading, Writing, Memory, Halt, Ended, Failed, Begins, IsTrace}
 use Rattle.interaction_tree.specs.Runs.{IsCaused, Runs, TakesOnly}
-use Rattle.interaction_tree.proofs.RunLemmas.{runs_bind, runs_halts, runs_read, runs_failed, runs_cut}
+use Rattle.interaction_tree.proofs.RunLemmas.{runs_still, runs_bind, runs_halts, runs_read, runs_failed, runs_cut}
 use Rattle.gitolite_shell.specs.declared.end.SessionEnd.{SessionEnd}
 use Rattle.gitolite_shell.specs.End.{halt_of, outcome_of}
 use Rattle.gitolite_shell.specs.Session.{refuse, not_built, cut_short, next_packet}
@@ -98,6 +98,11 @@ module _ (a b : LinkState) (d : DeskView) (x y : List ℕ) (result : Result (Uni
   pub says : (c : LinkState) (u : Unit {0}) (out : Result (Unit {0}) (Halt SessionEnd)) → result ≡ Ok u → Runs a b d d (write x) (outcome_of result) → Runs b c d d (write y) out → Runs a c d d (write (x ++ y)) out
   unfolding ◌>>=◌ write
   says c u out was ran rest = runs_joined a c d d x y (gives tt) out (goes a b d d (write x) (λ u. write y) result c d u out was ran rest)
+
+-- no bytes at all
+pub says_nothing : (a : LinkState) (d : DeskView) → Runs {E = SessionEnd} a a d d (write []) (Ok tt)
+unfolding write
+says_nothing a d = runs_still a d (write []) (Ok tt) tt (inr ([], refl, ((refl, refl, refl), refl)))
 
 -- ---- a packet that is wanted
 
