@@ -4,3 +4,4 @@ mod OrderLemmas
 mod PackLemmas
 mod PushLemmas
 mod TextLemmas
+mod AdvertisementLemmas

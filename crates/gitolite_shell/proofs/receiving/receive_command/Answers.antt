@@ -15,7 +15,7 @@ pub returns-in-Ok-Line : goal.returns-in-Ok-Line
 unfolding commanding
 returns-in-Ok-Line g c = record { runs =
     let n = c.next.ensures in
-    packet_then _ _ _ (λ reply. commanded _ c.args.pin reply.found) c.next.result n.reads n.writing n.later _ _ _ c.in-Ok-Line.field-0 _ c.in-Ok-Line.is (ap packet_of c.in-Ok-Line.field-0-is) (λ used. ?) }
+    packet_then _ _ _ (λ reply. commanded _ c.args.pin reply.found) c.next.result n.reads n.writing n.later _ _ _ c.in-Ok-Line.field-0 _ c.in-Ok-Line.is (ap packet_of c.in-Ok-Line.field-0-is) (λ used. rw (← c.without_feed.ensures, ← c.repo_name.ensures, ← c.in-Ok.ensures.command) c.create.ensures.runs) }
 
 pub returns-in-Ok-Flush : goal.returns-in-Ok-Flush
 unfolding commanding
