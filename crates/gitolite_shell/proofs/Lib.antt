@@ -5,3 +5,4 @@ mod PackLemmas
 mod PushLemmas
 mod TextLemmas
 mod AdvertisementLemmas
+mod EndLemmas

@@ -1,10 +1,14 @@
 // One session.
-ghost use Rattle.std.specs.Prelude.{◌≡◌, ◌++◌, codes, OnOk, IfOk};
+ghost use Rattle.std.specs.Prelude.{◌≡◌, ◌++◌, List, codes, OnOk, IfOk};
+ghost use Rattle.pktline_core.specs.Links.{IsLater};
+ghost use Rattle.hub_core.specs.Store.{HasShortNames};
 ghost use Rattle.hub_core.specs.Hub.{Stands};
 ghost use Rattle.hub_core.specs.Desk.{DeskView, known};
 ghost use Rattle.interaction_tree.specs.Runs.{Runs};
+ghost use Rattle.interaction_tree.specs.Requests.{OwnEntry};
 ghost use Rattle.interaction_tree.specs.Endings.{TakesTurn};
-ghost use Rattle.gitolite_shell.specs.End.{halt_of, outcome_of};
+ghost use Rattle.interaction_tree.specs.Growth.{GrowsBy};
+ghost use Rattle.gitolite_shell.specs.End.{HasCause, IsSure, halt_of, outcome_of};
 ghost use Rattle.gitolite_shell.specs.FirstPacket.{AreShort, asked};
 ghost use Rattle.gitolite_shell.specs.Texts.{denial};
 ghost use Rattle.gitolite_shell.specs.Readers.{IsReady};
@@ -81,6 +85,7 @@ fn enter<L: Link, K: Desk>(
     ensures admin { (K.view desk.new).admin ≡ (K.view desk.old).admin }
     ensures stands { IfOk result (λ pin. Stands pin (known (K.view desk.new))) }
     ensures write { IfOk result (λ pin. pin.pinned.want ≡ Want.Write) }
+    ensures names { IfOk result (λ pin. HasShortNames pin.pinned.repository.refs) }
 {
     match desk.enter(alloc, &asked.user, &asked.repo, Want::Write) {
         Entered::Granted(pin) => Ok(pin),
@@ -124,7 +129,7 @@ fn serve<L: Link, K: Desk, G: Gate>(
     serve_asked(alloc, link, desk, gate, reader, &asked)
 }
 
-/// Serves one connection.
+/// Serves one connection, up to its session's end.
 pub fn session<L: Link, K: Desk, G: Gate>(
     alloc: Global,
     link: &mut L,
@@ -132,6 +137,10 @@ pub fn session<L: Link, K: Desk, G: Gate>(
     gate: &mut G,
 ) -> SessionEnd
     ensures turn { TakesTurn (L.state link.old) (L.state link.new) (K.view desk.old) (K.view desk.new) (session ((K.view desk.old).admin)) (halt_of result) }
+    ensures grows { (own : List OwnEntry) × GrowsBy (K.view desk.old) (K.view desk.new) own }
+    ensures causes { HasCause (L.state link.old) (L.state link.new) result }
+    ensures sure { IsSure (L.state link.old) (L.state link.new) result }
+    ensures later { IsLater (L.state link.old) (L.state link.new) }
 {
     let Ok(mut reader) = PktReader::new(alloc) else {
         return SessionEnd::NoMemory;

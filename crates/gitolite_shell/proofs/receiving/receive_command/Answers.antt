@@ -1,4 +1,4 @@
-use Rattle.std.proofs.Common.{◌≡◌, ap, refl}
+use Rattle.std.proofs.Common.{◌≡◌, ap, refl, sym}
 use Rattle.pktline_core.specs.Reading.{packet_of}
 use Rattle.interaction_tree.proofs.RunLemmas.{runs_gives, runs_memory}
 use Rattle.gitolite_shell.specs.Session.{commanding, commanded}
@@ -15,7 +15,8 @@ pub returns-in-Ok-Line : goal.returns-in-Ok-Line
 unfolding commanding
 returns-in-Ok-Line g c = record { runs =
     let n = c.next.ensures in
-    packet_then _ _ _ (λ reply. commanded _ c.args.pin reply.found) c.next.result n.reads n.writing n.later _ _ _ c.in-Ok-Line.field-0 _ c.in-Ok-Line.is (ap packet_of c.in-Ok-Line.field-0-is) (λ used. rw (← c.without_feed.ensures, ← c.repo_name.ensures, ← c.in-Ok.ensures.command) c.create.ensures.runs) }
+    let is = rw (c.repo_name.ensures, c.without_feed.ensures) at c.in-Ok.ensures.command in
+    packet_then _ _ _ (λ reply. commanded _ c.args.pin reply.found) c.next.result n.reads n.writing n.later _ _ _ c.in-Ok-Line.field-0 _ c.in-Ok-Line.is (ap packet_of c.in-Ok-Line.field-0-is) (λ used. rw (sym is) c.create.ensures.runs) }
 
 pub returns-in-Ok-Flush : goal.returns-in-Ok-Flush
 unfolding commanding

@@ -1,5 +1,6 @@
 use Rattle.std.proofs.Common.{◌≡◌}
 use Rattle.interaction_tree.proofs.RunLemmas.{runs_memory}
+use Rattle.hub_core.proofs.ShortNames.{pinned_short}
 use Rattle.gitolite_shell.proofs.StepLemmas.{refused}
 use Rattle.gitolite_shell.proofs.OpeningLemmas.{granted_then, created_then, denied_then, no_repo_then}
 use Rattle.gitolite_shell.proofs.session.enter.Goals as goal
@@ -18,3 +19,9 @@ returns-in-NoRepo-clause-runs g c = no_repo_then _ _ _ _ c.args.asked.now _ c.in
 
 pub returns-in-NoMemory-clause-runs : goal.returns-in-NoMemory-clause-runs
 returns-in-NoMemory-clause-runs g c = rw c.in-NoMemory.ensures.answers.1.0 (runs_memory _ _ _)
+
+pub returns-in-Granted-clause-names : goal.returns-in-Granted-clause-names
+returns-in-Granted-clause-names g c = pinned_short _ _ c.in-Granted.ensures.answers.1.legal c.in-Granted.pin c.in-Granted.ensures.answers.2.1.stands
+
+pub returns-in-Created-clause-names : goal.returns-in-Created-clause-names
+returns-in-Created-clause-names g c = pinned_short _ _ c.in-Created.ensures.answers.1.legal c.in-Created.pin c.in-Created.ensures.answers.2.1.stands

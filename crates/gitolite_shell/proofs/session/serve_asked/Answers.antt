@@ -10,10 +10,7 @@ returns-in_err-pin g c = record { runs =
     let p = err_from_is_err_and c.from_residual.result c.from_residual.ensures.1 in
     exits _ _ _ _ _ _ c.enter.result _ _ _ c.in_err-pin.was p.1 p.2 c.enter.ensures.runs }
 
-pub receive-requires-clause-names : goal.receive-requires-clause-names
-receive-requires-clause-names g c = ?
-
 pub returns : goal.returns
 unfolding serving
 returns g c = record { runs =
-    goes _ _ _ _ _ (λ opening. receiving _ opening) c.enter.result _ _ c.in_ok-pin.pin _ c.in_ok-pin.was c.enter.ensures.runs (rw (c.in_ok-pin.ensures.same, c.in_ok-pin.ensures.admin) at c.receive.ensures.runs) }
+    goes _ _ _ _ _ (λ opening. receiving _ opening) c.enter.result _ _ c.in_ok-pin.pin _ c.in_ok-pin.was c.enter.ensures.runs (rw c.in_ok-pin.ensures.admin at c.receive.ensures.runs) }
