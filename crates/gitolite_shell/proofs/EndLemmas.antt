@@ -1,5 +1,5 @@
 -- What a session that ran its interaction keeps.
-use Rattle.std.proofs.Common.{◌≡◌, ◌⊎◌, inl, inr, List, Err, refl}
+use Rattle.std.proofs.Common.{inl, inr, List, Err, refl}
 use Rattle.pktline_core.specs.LinkState.{LinkState}
 use Rattle.pktline_core.specs.Links.{IsLater}
 use Rattle.hub_core.specs.Desk.{DeskView}

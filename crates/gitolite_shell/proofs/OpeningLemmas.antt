@@ -1,5 +1,5 @@
 -- An opening's entry, and what it pins.
-use Rattle.std.proofs.Common.{◌≡◌, ℕ, List, [], ◌∷◌, ◌++◌, length, Option, Some, Result, Ok, codes, refl, sym, ◌∙◌, ap, subst}
+use Rattle.std.proofs.Common.{◌≡◌, List, [], ◌∷◌, ◌++◌, length, Option, Some, Result, Ok, codes, refl, sym, ◌∙◌, ap, subst}
 use Rattle.std.specs.Option.{IfSome}
 use Rattle.pktline_core.specs.LinkState.{LinkState}
 use Rattle.hub_core.specs.declared.verdict.Want.TheVariants.{Write}
@@ -11,13 +11,13 @@ use Rattle.hub_core.specs.declared.entry.Event.TheVariants.{Entered}
 use Rattle.hub_core.specs.declared.hub.Entered as hub_entered
 use Rattle.hub_core.specs.Name.{Name}
 use Rattle.hub_core.specs.State.{State}
-use Rattle.hub_core.specs.Pin.{Opening, Pinned, answer_to, pinned_in, pins}
-use Rattle.hub_core.specs.History.{History, history, new_history, history_from, opening_at, replay, step, pinned_by}
+use Rattle.hub_core.specs.Pin.{Opening, answer_to, pinned_in, pins}
+use Rattle.hub_core.specs.History.{History, history, new_history, opening_at, replay, step, pinned_by}
 use Rattle.hub_core.specs.Hub.{Stands}
-use Rattle.hub_core.specs.Answer.{kept, IsPinOf}
+use Rattle.hub_core.specs.Answer.{kept}
 use Rattle.hub_core.specs.Desk.{DeskView, Enters, MakesEntry, known}
 use Rattle.hub_core.proofs.HistoryLemmas.{history_from-append, opening_at-place}
-use Rattle.interaction_tree.specs.Interaction.{Interaction, gives, ◌>>=◌, ask}
+use Rattle.interaction_tree.specs.Interaction.{gives, ask}
 use Rattle.interaction_tree.specs.Requests.{Enter, answered}
 use Rattle.interaction_tree.specs.Traces.{Halt}
 use Rattle.interaction_tree.specs.Runs.{Runs}

@@ -1,5 +1,5 @@
 -- A session makes no entry between what it wrote and what it reads next.
-use Rattle.std.proofs.Common.{◌≡◌, ℕ, Bool, true, false, List, [], ◌∷◌, Option, None, Some, Result, Ok, Err, refl, cond}
+use Rattle.std.proofs.Common.{◌≡◌, Bool, true, false, List, Option, None, Some, Result, Ok, Err, refl, cond}
 use Rattle.std.specs.Bool.{⊤}
 use Rattle.pktline_core.specs.Packets as packets
 use Rattle.pktline_core.specs.declared.packets.PktFault.{PktFault}
@@ -12,7 +12,7 @@ use Rattle.hub_core.specs.declared.verdict.Want.TheVariants.{Write}
 use Rattle.hub_core.specs.Name.{Name}
 use Rattle.hub_core.specs.Pin.{Opening, answer_to}
 use Rattle.hub_core.specs.History.{replay}
-use Rattle.interaction_tree.specs.Interaction.{Interaction, gives, ◌>>=◌, write, read, ask}
+use Rattle.interaction_tree.specs.Interaction.{gives, ◌>>=◌, write, read, ask}
 use Rattle.interaction_tree.specs.Order.{EntriesFirst, IsOrdered}
 use Rattle.interaction_tree.proofs.OrderLemmas.{order_then}
 use Rattle.gitolite_shell.specs.declared.end.SessionEnd.{SessionEnd}

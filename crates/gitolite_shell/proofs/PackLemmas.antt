@@ -1,5 +1,5 @@
 -- The pack of a command.
-use Rattle.std.proofs.Common.{◌≡◌, ℕ, List, Bool, true, false, cond, length, Result, Ok, Err, refl, sym, ◌∙◌, ap, subst}
+use Rattle.std.proofs.Common.{◌≡◌, List, Bool, true, false, cond, length, Result, Ok, Err, refl, sym, ◌∙◌, subst}
 use Rattle.git_object.specs.Content.{Content}
 use Rattle.pktline_core.specs.LinkState.{LinkState}
 use Rattle.pktline_core.specs.Links.{IsLater, KeepsReading, KeepsWriting}
@@ -10,8 +10,8 @@ use Rattle.raw_pack.specs.declared.fault.PackFault.TheVariants.{ReadFault, NoMem
 use Rattle.hub_core.specs.declared.command.Command.{Command}
 use Rattle.hub_core.specs.Desk.{DeskView}
 use Rattle.interaction_tree.specs.Wanted.{Pack, Reply}
-use Rattle.interaction_tree.specs.Interaction.{Interaction, gives, writes, ends, ◌>>=◌, write, read}
-use Rattle.interaction_tree.specs.Traces.{Reading, Memory, Halt, Ended, Failed}
+use Rattle.interaction_tree.specs.Interaction.{Interaction, gives, ◌>>=◌, write, read}
+use Rattle.interaction_tree.specs.Traces.{Reading, Memory, Halt, Failed}
 use Rattle.interaction_tree.specs.Runs.{Runs}
 use Rattle.interaction_tree.specs.Steps.{IsOfPack}
 use Rattle.interaction_tree.proofs.RunLemmas.{runs_bind, runs_halts, runs_gives}

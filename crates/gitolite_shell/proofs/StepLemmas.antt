@@ -11,9 +11,9 @@ use Rattle.pktline_core.specs.declared.packets.PktFault.TheVariants.{Truncated, 
 use Rattle.hub_core.specs.Desk.{DeskView}
 use Rattle.interaction_tree.specs.Wanted.{Packet, front_of, Reply}
 use Rattle.interaction_tree.specs.Requests.{OwnEntry}
-use Rattle.interaction_tree.specs.Interaction.{Interaction, gives, ends, writes, reads, ◌>>=◌, write, read}
+use Rattle.interaction_tree.specs.Interaction.{Interaction, gives, ends, writes, ◌>>=◌, write, read}
 use Rattle.interaction_tree.specs.Traces.{Reading, Writing, Memory, Halt, Ended, Failed, Begins, IsTrace}
-use Rattle.interaction_tree.specs.Runs.{IsCaused, Runs, TakesOnly}
+use Rattle.interaction_tree.specs.Runs.{Runs, TakesOnly}
 use Rattle.interaction_tree.proofs.RunLemmas.{runs_still, runs_bind, runs_halts, runs_read, runs_failed, runs_cut}
 use Rattle.gitolite_shell.specs.declared.end.SessionEnd.{SessionEnd}
 use Rattle.gitolite_shell.specs.End.{halt_of, outcome_of}

@@ -1,13 +1,13 @@
 -- The command and the pack of a push, in the form that is built so far: one create of a branch in `testing`, at a commit of the empty tree without
 -- parents, with a pack of that commit and the empty tree.
-use Rattle.std.specs.Prelude.{ℕ, ◌≤◌, length, Bool, true, false, ◌&&◌, ◌||◌, ◌==◌, List, [], ◌∷◌, ◌++◌, Option, Some, None, codes, if◌then◌else◌}
+use Rattle.std.specs.Prelude.{ℕ, ◌≤◌, length, Bool, false, ◌&&◌, ◌||◌, ◌==◌, List, [], ◌∷◌, ◌++◌, Option, Some, None, codes, if◌then◌else◌}
 use Rattle.git_object.specs.Reader.{◌>>=◌, literal}
 use Rattle.git_object.specs.ObjectId.{hex_of, hex_id}
 use Rattle.git_object.specs.Content.{Content}
 use Rattle.git_object.specs.Object.{object_name, links_of}
 use Rattle.git_object.specs.declared.object_id.ObjectId.{ObjectId}
 use Rattle.git_object.specs.declared.kind.Kind.{Kind}
-use Rattle.git_object.specs.declared.kind.Kind.TheVariants.{Commit, Tree}
+use Rattle.git_object.specs.declared.kind.Kind.TheVariants.{Tree}
 use Rattle.hub_core.specs.declared.command.Command.{Command}
 use Rattle.hub_core.specs.Name.{Name, same_id, same_name, zero_id}
 use Rattle.hub_core.specs.Store.{kind_number, same_object}

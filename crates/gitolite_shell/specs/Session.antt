@@ -1,5 +1,5 @@
 -- A session, as an interaction, in the form that is built so far. What leaves the form is answered as not built, and so is an input that ends inside it.
-use Rattle.std.specs.Prelude.{◌≡◌, ℕ, false, List, [], ◌∷◌, ◌++◌, length, Option, Some, None, Result, Ok, Err, codes, if◌then◌else◌}
+use Rattle.std.specs.Prelude.{ℕ, false, List, [], ◌∷◌, ◌++◌, length, Option, Some, None, Result, Ok, Err, codes, if◌then◌else◌}
 use Rattle.pktline_core.specs.Packets as packets
 use Rattle.pktline_core.specs.declared.packets.PktFault.{PktFault}
 use Rattle.raw_pack.specs.declared.fault.PackFault.{PackFault}
@@ -13,7 +13,7 @@ use Rattle.hub_core.specs.Name.{Name}
 use Rattle.hub_core.specs.Pin.{Opening, pinned_in, answer_to}
 use Rattle.hub_core.specs.History.{history, replay, outcomes_at, step}
 use Rattle.interaction_tree.specs.Wanted.{Packet, Pack, Reply}
-use Rattle.interaction_tree.specs.Requests.{Request, Enter, Push, answered}
+use Rattle.interaction_tree.specs.Requests.{Enter, Push, answered}
 use Rattle.interaction_tree.specs.Interaction.{CutOff, Interaction, gives, ends, ◌>>=◌, write, read, ask}
 use Rattle.gitolite_shell.specs.declared.end.SessionEnd.{SessionEnd}
 use Rattle.gitolite_shell.specs.declared.end.SessionEnd.TheVariants as end

@@ -16,10 +16,9 @@ mod gate;
 mod receiving;
 mod said;
 mod session;
-mod text;
-
 #[cfg(test)]
 mod tests;
+mod text;
 
 use std::io;
 

@@ -22,7 +22,7 @@ use crate::said::{not_built, say, say_flush};
 use crate::text::{ref_line, status_line};
 use git_object::{ObjectId, ObjectList};
 use hub_core::{Command, CommandList, Desk, NoMemory, OutcomeList, Pin, Pushed, Repo, Want, judge};
-use pktline_core::{Link, PktFault, PktReader, Pkt};
+use pktline_core::{Link, Pkt, PktFault, PktReader};
 use raw_pack::{PackFault, read_pack};
 use std::alloc::Global;
 

@@ -38,11 +38,7 @@ fn asked_in<L: Link>(alloc: Global, link: &mut L, line: &[u8]) -> Result<Asked, 
 }
 
 // The first packet.
-fn ask<L: Link>(
-    alloc: Global,
-    link: &mut L,
-    reader: &mut PktReader,
-) -> Result<Asked, SessionEnd>
+fn ask<L: Link>(alloc: Global, link: &mut L, reader: &mut PktReader) -> Result<Asked, SessionEnd>
     requires ready { IsReady reader.old (L.state link.old) }
     ensures runs { (desk : DeskView) → Runs (L.state link.old) (L.state link.new) desk desk asking (outcome_of result) }
     ensures ready { OnOk result (IsReady reader.new (L.state link.new)) }

@@ -8,16 +8,19 @@ use std::test::Fail;
 
 const OPENING: &[u8] = b"0024carol git-receive-pack 'testing'";
 
-const COMMAND: &[u8] = b"00750000000000000000000000000000000000000000 1c73cda3964d5dd51bdaad94efd235c910cf59de refs/heads/master\0report-status0000";
+const COMMAND: &[u8] =
+    b"00750000000000000000000000000000000000000000 1c73cda3964d5dd51bdaad94efd235c910cf59de refs/heads/master\0report-status0000";
 
-const COMMIT: &[u8] = b"tree 4b825dc642cb6eb9a060e54bf8d69288fbee4904\nauthor Carol <carol@example.com> 1700000000 +0000\ncommitter Carol <carol@example.com> 1700000000 +0000\n\nfirst\n";
+const COMMIT: &[u8] =
+    b"tree 4b825dc642cb6eb9a060e54bf8d69288fbee4904\nauthor Carol <carol@example.com> 1700000000 +0000\ncommitter Carol <carol@example.com> 1700000000 +0000\n\nfirst\n";
 
 const TRAILER: [u8; 20] = [
     0x64, 0xe5, 0x6d, 0xb6, 0x5e, 0x40, 0xed, 0x16, 0x0b, 0x3b, 0xd3, 0x40, 0x52, 0x5a, 0xb6, 0x1e,
     0x82, 0x69, 0xdb, 0xdb,
 ];
 
-const EMPTY: &[u8] = b"00660000000000000000000000000000000000000000 capabilities^{}\0report-status delete-refs no-thin atomic\n0000";
+const EMPTY: &[u8] =
+    b"00660000000000000000000000000000000000000000 capabilities^{}\0report-status delete-refs no-thin atomic\n0000";
 
 const DONE: &[u8] = b"000eunpack ok\n0019ok refs/heads/master\n0000";
 
@@ -66,7 +69,11 @@ fn a_first_push_is_done_and_a_second_is_told(rt: HostRuntime) -> Result<(), Fail
     let (end, written) = serve(alloc, &mut desk, &input, 1)?;
     assert_eq!(rt; end, SessionEnd::Served);
     assert_eq!(rt; written.len(), 215);
-    assert!(rt; written.ends_with(b"004fng refs/heads/master not advertised, it was 1c73cda3964d5dd51bdaad94efd235c910cf59de\n0000"));
+    assert!(rt;
+        written.ends_with(
+            b"004fng refs/heads/master not advertised, it was 1c73cda3964d5dd51bdaad94efd235c910cf59de\n0000"
+        )
+    );
     let log = desk.into_hub().into_log();
     assert_eq!(rt; log.len(), 4);
     Ok(())
@@ -114,12 +121,26 @@ fn faults_of_the_link_end_a_session(rt: HostRuntime) -> Result<(), Fail> {
     for call in 0..10 {
         let failing = [call];
         let mut desk = new_desk(alloc)?;
-        let mut link = MemoryLink::new(input.clone()?, 65_520, failing.to_vec(alloc)?, Vec::new(alloc));
+        let mut link = MemoryLink::new(
+            input.clone()?,
+            65_520,
+            failing.to_vec(alloc)?,
+            Vec::new(alloc),
+        );
         let end = session(alloc, &mut link, &mut desk, &mut OpenGate);
         assert_eq!(rt; end, SessionEnd::ReadFault);
-        let mut link = MemoryLink::new(input.clone()?, 65_520, Vec::new(alloc), failing.to_vec(alloc)?);
+        let mut link = MemoryLink::new(
+            input.clone()?,
+            65_520,
+            Vec::new(alloc),
+            failing.to_vec(alloc)?,
+        );
         let end = session(alloc, &mut link, &mut desk, &mut OpenGate);
-        let wanted = if call < 8 { SessionEnd::WriteFault } else { SessionEnd::Served };
+        let wanted = if call < 8 {
+            SessionEnd::WriteFault
+        } else {
+            SessionEnd::Served
+        };
         assert_eq!(rt; end, wanted);
     }
     Ok(())

@@ -1,4 +1,4 @@
-use Rattle.std.proofs.Common.{◌≡◌, ◌∙◌, refl, sym}
+use Rattle.std.proofs.Common.{◌∙◌, refl, sym}
 use Rattle.gitolite_shell.specs.Create.{create_in}
 use Rattle.gitolite_shell.proofs.create.create_in.Goals as goal
 

@@ -1,4 +1,4 @@
-use Rattle.std.proofs.Common.{◌≡◌, refl}
+use Rattle.std.proofs.Common.{refl}
 use Rattle.gitolite_shell.specs.FirstPacket.{asked}
 use Rattle.gitolite_shell.proofs.first_packet.names.Goals as goal
 

@@ -1,4 +1,4 @@
-use Rattle.std.proofs.Common.{◌≡◌, ◌∙◌, ap}
+use Rattle.std.proofs.Common.{◌∙◌, ap}
 use Rattle.std.proofs.lemmas.Result.{err_from_is_err_and}
 use Rattle.gitolite_shell.proofs.StepLemmas.{says, says_exits}
 use Rattle.gitolite_shell.proofs.AdvertisementLemmas.{rest_text, rest_more, rest_none, advertisement_is, short_rest, short_first, keeps_same, keeps_more}

@@ -1,4 +1,3 @@
-use Rattle.std.proofs.Common.{◌≡◌}
 use Rattle.interaction_tree.proofs.RunLemmas.{runs_memory}
 use Rattle.gitolite_shell.proofs.receiving.advertise_ref.Goals as goal
 

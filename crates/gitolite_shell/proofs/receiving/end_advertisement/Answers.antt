@@ -1,4 +1,3 @@
-use Rattle.std.proofs.Common.{◌≡◌}
 use Rattle.std.proofs.lemmas.Result.{err_from_is_err_and}
 use Rattle.gitolite_shell.proofs.StepLemmas.{says, says_exits}
 use Rattle.gitolite_shell.proofs.receiving.end_advertisement.Goals as goal

@@ -1,4 +1,3 @@
-use Rattle.std.proofs.Common.{◌≡◌, refl, sym, arith}
 use Rattle.interaction_tree.proofs.RunLemmas.{runs_memory}
 use Rattle.gitolite_shell.proofs.PushLemmas.{pushed_then}
 use Rattle.gitolite_shell.proofs.receiving.push.Goals as goal

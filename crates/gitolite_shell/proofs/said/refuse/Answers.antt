@@ -1,4 +1,3 @@
-use Rattle.std.proofs.Common.{◌≡◌}
 use Rattle.interaction_tree.specs.Interaction.{ends}
 use Rattle.interaction_tree.proofs.RunLemmas.{runs_ends}
 use Rattle.gitolite_shell.specs.Session.{refuse}

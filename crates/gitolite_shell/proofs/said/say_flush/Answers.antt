@@ -1,4 +1,3 @@
-use Rattle.std.proofs.Common.{◌≡◌, ◌∙◌, ap}
 use Rattle.interaction_tree.proofs.RunLemmas.{runs_written}
 use Rattle.gitolite_shell.proofs.said.say_flush.Goals as goal
 

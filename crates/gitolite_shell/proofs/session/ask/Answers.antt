@@ -1,4 +1,4 @@
-use Rattle.std.proofs.Common.{◌≡◌, ap, refl}
+use Rattle.std.proofs.Common.{ap, refl}
 use Rattle.pktline_core.specs.Reading.{packet_of}
 use Rattle.gitolite_shell.specs.Session.{asking, asked_in}
 use Rattle.gitolite_shell.proofs.StepLemmas.{not_built_here, packet_then, packet_failed, packet_broken, packet_cut}

@@ -1,4 +1,4 @@
-use Rattle.std.proofs.Common.{◌≡◌, sym}
+use Rattle.std.proofs.Common.{sym}
 use Rattle.interaction_tree.proofs.RunLemmas.{runs_memory}
 use Rattle.gitolite_shell.proofs.StepLemmas.{not_built_here}
 use Rattle.gitolite_shell.proofs.session.asked_in.Goals as goal

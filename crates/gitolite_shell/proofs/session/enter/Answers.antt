@@ -1,4 +1,3 @@
-use Rattle.std.proofs.Common.{◌≡◌}
 use Rattle.interaction_tree.proofs.RunLemmas.{runs_memory}
 use Rattle.hub_core.proofs.ShortNames.{pinned_short}
 use Rattle.gitolite_shell.proofs.StepLemmas.{refused}

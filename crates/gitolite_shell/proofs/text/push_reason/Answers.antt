@@ -1,4 +1,4 @@
-use Rattle.std.proofs.Common.{◌≡◌, ◌∙◌, ◌++◌, List, ℕ, ap, append_assoc, decimal}
+use Rattle.std.proofs.Common.{◌∙◌, ◌++◌, List, ℕ, ap, append_assoc, decimal}
 use Rattle.gitolite_shell.proofs.TextLemmas.{on_ok_more, on_ok_extend, ref_past}
 use Rattle.gitolite_shell.proofs.text.push_reason.Goals as goal
 
@@ -27,5 +27,5 @@ pub returns-in_ok-push_number-in-Full-clause-text : goal.returns-in_ok-push_numb
 returns-in_ok-push_number-in-Full-clause-text c =
     rw c.in-Full.is
     (on_ok_extend c.extend_from_slice-in-Full-2.result _ _ _ _ _
-        (c.in_ok-push_number-in-Full.ensures.text ∙ ap (λ (l : List ℕ). l ++ decimal c.in-Full.count) c.in_ok-extend_from_slice-in-Full.ensures.items ∙ append_assoc c.args.text.now.items _ (decimal c.in-Full.count))
-        c.extend_from_slice-in-Full-2.ensures.items)
+    (c.in_ok-push_number-in-Full.ensures.text ∙ ap (λ (l : List ℕ). l ++ decimal c.in-Full.count) c.in_ok-extend_from_slice-in-Full.ensures.items ∙ append_assoc c.args.text.now.items _ (decimal c.in-Full.count))
+    c.extend_from_slice-in-Full-2.ensures.items)
