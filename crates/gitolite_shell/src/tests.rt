@@ -1,7 +1,8 @@
+// Sessions over a link of memory and the only desk of a new hub.
 use crate::end::SessionEnd;
-use crate::gate::OpenGate;
+use crate::gate::{Gate, OpenGate};
 use crate::session::session;
-use hub_core::{EnterKept, Event, Hub, LoneDesk, NoMemory, Outcome, Text, Verdict};
+use hub_core::{EnterKept, EntryList, Event, Hub, LoneDesk, NoMemory, Outcome, Text};
 use pktline_core::MemoryLink;
 use std::alloc::Global;
 use std::test::Fail;
@@ -54,6 +55,38 @@ fn serve(
     Ok((end, written))
 }
 
+// Whether an opening was granted at a place of the log.
+fn is_granted(log: &EntryList, place: usize) -> bool {
+    let Some(entry) = log.get(place) else {
+        return false;
+    };
+    match &entry.event {
+        Event::Entered { answer, .. } => *answer == EnterKept::Granted,
+        Event::Pushed { .. } => false,
+    }
+}
+
+// What the one command of the push at a place of the log was told.
+fn told(log: &EntryList, place: usize) -> Option<Outcome> {
+    let entry = log.get(place)?;
+    match &entry.event {
+        Event::Entered { .. } => None,
+        Event::Pushed { outcomes, .. } => outcomes.get(0).copied(),
+    }
+}
+
+// A gate that tells the place of the last opening.
+#[derive(Drop)]
+struct LastPlace {
+    place: Option<u64>,
+}
+
+impl Gate for LastPlace {
+    fn between(&mut self, place: u64) {
+        self.place = Some(place);
+    }
+}
+
 #[test]
 fn a_first_push_is_done_and_a_second_is_told(rt: HostRuntime) -> Result<(), Fail> {
     let alloc = rt.alloc();
@@ -71,11 +104,14 @@ fn a_first_push_is_done_and_a_second_is_told(rt: HostRuntime) -> Result<(), Fail
     assert_eq!(rt; written.len(), 215);
     assert!(rt;
         written.ends_with(
-            b"004fng refs/heads/master not advertised, it was 1c73cda3964d5dd51bdaad94efd235c910cf59de\n0000"
+            b"0059ng refs/heads/master not advertised, it was 1c73cda3964d5dd51bdaad94efd235c910cf59de\n0000"
         )
     );
     let log = desk.into_hub().into_log();
     assert_eq!(rt; log.len(), 4);
+    assert!(rt; is_granted(&log, 0) && is_granted(&log, 2));
+    assert!(rt; told(&log, 1) == Some(Outcome::Done));
+    assert!(rt; matches!(told(&log, 3), Some(Outcome::NotAdvertised(_))));
     Ok(())
 }
 
@@ -143,5 +179,26 @@ fn faults_of_the_link_end_a_session(rt: HostRuntime) -> Result<(), Fail> {
         };
         assert_eq!(rt; end, wanted);
     }
+    Ok(())
+}
+
+#[test]
+fn the_gate_stands_behind_an_opening(rt: HostRuntime) -> Result<(), Fail> {
+    let alloc = rt.alloc();
+    let mut desk = new_desk(alloc)?;
+    let mut gate = LastPlace { place: None };
+    let denied = b"002bcarol git-receive-pack 'gitolite-admin'".to_vec(alloc)?;
+    let mut link = MemoryLink::new(denied, 3, Vec::new(alloc), Vec::new(alloc));
+    assert_eq!(rt;
+        session(alloc, &mut link, &mut desk, &mut gate),
+        SessionEnd::Denied
+    );
+    assert_eq!(rt; gate.place, None);
+    let mut link = MemoryLink::new(OPENING.to_vec(alloc)?, 3, Vec::new(alloc), Vec::new(alloc));
+    assert_eq!(rt;
+        session(alloc, &mut link, &mut desk, &mut gate),
+        SessionEnd::NotBuilt
+    );
+    assert_eq!(rt; gate.place, Some(1));
     Ok(())
 }
