@@ -1,4 +1,12 @@
-pub mod FrameLemmas
-pub mod ReadingLemmas
-pub mod ScriptLemmas
+mod FrameLemmas
+mod ReadingLemmas
+mod ScriptLemmas
 mod ScriptRows
+mod StepLemmas
+mod OpeningLemmas
+mod OrderLemmas
+mod PackLemmas
+mod PushLemmas
+mod TextLemmas
+mod AdvertisementLemmas
+mod EndLemmas

@@ -1,6 +1,6 @@
 -- The command and the pack of a push, in the form that is built so far: one create of a branch in `testing`, at a commit of the empty tree without
 -- parents, with a pack of that commit and the empty tree.
-use Rattle.std.specs.Prelude.{ℕ, Bool, false, ◌&&◌, ◌||◌, ◌==◌, List, [], ◌∷◌, ◌++◌, Option, Some, None, codes, if◌then◌else◌}
+use Rattle.std.specs.Prelude.{ℕ, ◌≤◌, length, Bool, false, ◌&&◌, ◌||◌, ◌==◌, List, [], ◌∷◌, ◌++◌, Option, Some, None, codes, if◌then◌else◌}
 use Rattle.git_object.specs.Reader.{◌>>=◌, literal}
 use Rattle.git_object.specs.ObjectId.{hex_of, hex_id}
 use Rattle.git_object.specs.Content.{Content}
@@ -20,13 +20,14 @@ create new name = if same_id new zero_id then None else Some (record { old = zer
 -- the zero id, a space, an id, a space, a branch of 1 to 64 lower-case letters, a zero byte, `report-status`
 unfoldable pub create_in : List ℕ → Option Command
 create_in line = do
-  behind ← literal (hex_of zero_id ++ 32 ∷ []) line
+  space ← literal (hex_of zero_id) line
+  behind ← literal (codes " ") space
   new ← hex_id behind
   branch ← literal (codes " refs/heads/") new.1
   letters ← word is_letter branch
   rest ← literal (0 ∷ codes "report-status") letters.1
-  name ← at_end (codes "refs/heads/" ++ letters.0) rest
-  create new.0 name
+  ended ← at_end rest
+  create new.0 (codes "refs/heads/" ++ letters.0)
 
 -- the command of a line at a repository
 unfoldable pub command_at : Name → List ℕ → Option Command
@@ -48,3 +49,7 @@ is_first_commit new o = (kind_number o.kind == 1) && (same_id (object_name o) ne
 unfoldable pub is_first_pack : ObjectId → List Content → Bool
 is_first_pack new (a ∷ b ∷ []) = (is_first_commit new a && same_object b empty_tree) || (same_object a empty_tree && is_first_commit new b)
 is_first_pack new objects = false
+
+-- its ref's name is
+abbrev pub HasShortName : Command → Type 0
+HasShortName command = length command.name ≤ 1024

@@ -1,4 +1,7 @@
 -- The ends of a session, as its interaction sees them.
+use Rattle.std.specs.Prelude.{◌≡◌, ◌⊎◌, ⊤, IsTrue, Result, Ok, Err}
+use Rattle.base_types.specs.Counts.{HasRisen}
+use Rattle.pktline_core.specs.LinkState.{LinkState}
 use Rattle.interaction_tree.specs.Traces.{Reading, Writing, Memory, Halt, Ended, Failed}
 use Rattle.gitolite_shell.specs.declared.end.SessionEnd.{SessionEnd}
 use Rattle.gitolite_shell.specs.declared.end.SessionEnd.TheVariants.{Served, Denied, NoRepo, ReadFault, WriteFault, NoMemory, NotBuilt}
@@ -12,3 +15,19 @@ halt_of NotBuilt = Ended NotBuilt
 halt_of ReadFault = Failed Reading
 halt_of WriteFault = Failed Writing
 halt_of NoMemory = Failed Memory
+
+-- what a function of a session answers, as its interaction sees it
+abbrev pub outcome_of : {A : Type 0} → Result A SessionEnd → Result A (Halt SessionEnd)
+outcome_of (Ok value) = Ok value
+outcome_of (Err end) = Err (halt_of end)
+
+-- a fault of the link comes only where its count rose, and the link may fail
+abbrev pub HasCause : LinkState → LinkState → SessionEnd → Type 0
+HasCause old new ReadFault = HasRisen old.read_faults new.read_faults × IsTrue old.may_fail
+HasCause old new WriteFault = HasRisen old.write_faults new.write_faults × IsTrue old.may_fail
+HasCause old new end = ⊤
+
+-- over a link whose counts didn't rise the end is the interaction's, or memory lacked
+abbrev pub IsSure : LinkState → LinkState → SessionEnd → Type 0
+IsSure old new end =
+    (HasRisen old.read_faults new.read_faults → ⊥) → (HasRisen old.write_faults new.write_faults → ⊥) → (halt_of end ≡ Ended end) ⊎ (end ≡ NoMemory)

@@ -3,6 +3,7 @@ pub mod Texts
 pub mod FirstPacket
 pub mod Create
 pub mod Session
+pub mod Readers
 pub mod Frames
 pub mod ReadingFrames
 pub mod Script

@@ -18,7 +18,8 @@ use Rattle.interaction_tree.specs.Interaction.{CutOff, Interaction, gives, ends,
 use Rattle.gitolite_shell.specs.declared.end.SessionEnd.{SessionEnd}
 use Rattle.gitolite_shell.specs.declared.end.SessionEnd.TheVariants as end
 use Rattle.gitolite_shell.specs.Texts.{packet, advertisement, denial, report}
-use Rattle.gitolite_shell.specs.FirstPacket.{Asked, asked, without_feed}
+use Rattle.gitolite_shell.specs.declared.first_packet.Asked.{Asked}
+use Rattle.gitolite_shell.specs.FirstPacket.{asked, without_feed}
 use Rattle.gitolite_shell.specs.Create.{command_at, is_first_pack}
 
 -- a last packet, and the end
@@ -83,13 +84,21 @@ abbrev pub pack_in : Command → Result (List Content) PackFault → Interaction
 pack_in command (Ok objects) = if is_first_pack command.new objects then gives objects else not_built
 pack_in command (Err fault) = not_built
 
+unfoldable pub taking_flush : Interaction SessionEnd (Unit {0})
+taking_flush = do
+  next ← next_packet
+  only_flush next.found
+
+unfoldable pub taking_objects : Command → Interaction SessionEnd (List Content)
+taking_objects command = do
+  reply ← read Pack cut_short
+  pack_in command reply.found
+
 -- the flush behind the command, and the pack
 unfoldable pub taking_pack : Command → Interaction SessionEnd (List Content)
 taking_pack command = do
-  next ← next_packet
-  ended ← only_flush next.found
-  reply ← read Pack cut_short
-  pack_in command reply.found
+  ended ← taking_flush
+  taking_objects command
 
 -- The push, by the log just before its entry, and its report.
 unfoldable pub pushing : Name → Opening → Command → List Content → Interaction SessionEnd (Unit {0})
@@ -109,20 +118,28 @@ commanded admin opening (Ok packets.Flush) = gives tt
 commanded admin opening (Ok (packets.Line payload)) = creating admin opening (command_at opening.pinned.repo (without_feed payload))
 commanded admin opening (Err fault) = not_built
 
+unfoldable pub commanding : Name → Opening → Interaction SessionEnd (Unit {0})
+commanding admin opening = do
+  next ← next_packet
+  commanded admin opening next.found
+
 -- what follows an opening: the advertisement, and then the commands
 unfoldable pub receiving : Name → Opening → Interaction SessionEnd (Unit {0})
 receiving admin opening = do
   advertised ← write (advertisement opening.pinned.repository.refs)
-  next ← next_packet
-  commanded admin opening next.found
+  commanding admin opening
 
 -- III. The whole of it
+
+unfoldable pub serving : Name → Asked → Interaction SessionEnd (Unit {0})
+serving admin a = do
+  opening ← entering admin a
+  receiving admin opening
 
 unfoldable pub served : Name → Interaction SessionEnd (Unit {0})
 served admin = do
   a ← asking
-  opening ← entering admin a
-  receiving admin opening
+  serving admin a
 
 -- the session of a hub of this admin's setup
 unfoldable pub session : Name → Interaction SessionEnd (Unit {0})

@@ -1,13 +1,13 @@
 // What stands between an opening and what follows.
 
-/// What a session passes once its opening was granted.
+/// A point at which a session may be held up, so that others come in between.
 pub trait Gate {
-    /// Is called between an opening that was granted and what follows. The place is the opening's in the log.
+    /// Called behind an opening that was granted, before anything is written of it. The place is the opening's in the log.
     fn between(&mut self, place: u64);
 }
 
-/// A gate that does nothing.
-#[derive(Clone, Copy, Debug, PartialEq, Eq)]
+/// A gate that holds nothing up.
+#[derive(Clone, Copy, Debug)]
 pub struct OpenGate;
 
 impl Gate for OpenGate {

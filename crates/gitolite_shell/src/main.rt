@@ -2,19 +2,25 @@
 //!
 //! - `end`: how a session ends;
 //! - `gate`: what stands between an opening and what follows;
-//! - `text`: what a session writes;
+//! - `text`: the texts that a session writes;
+//! - `said`: packets that are written, and refusals;
 //! - `first_packet`, `create`: what a session reads;
-//! - `receiving`, `session`: a session;
-//! - `door`, `memory_door`, `post`: where a worker's links come from, and where it stands;
+//! - `receiving`: what follows an opening;
+//! - `session`: a session;
 //! - `frames`: the frames of a script;
 //! - `script`: sessions one after the other, and what is printed of them;
 //! - `words`: the words by which the program is called;
 //! - `lone`, `program`: the program run by one caller, and the program;
+//! - `door`, `memory_door`, `post`: where a worker's links come from, and where it stands;
 //! - `standard`: the standard input and output.
 #![tactic(auto)]
 
+mod create;
 mod door;
+#[cfg(test)]
+mod edge_tests;
 mod end;
+mod first_packet;
 mod frames;
 mod gate;
 mod lone;
@@ -23,11 +29,14 @@ mod lone_tests;
 mod memory_door;
 mod post;
 mod program;
+mod receiving;
+mod said;
 mod script;
 mod session;
-mod standard;
 #[cfg(test)]
-mod tests;
+mod session_tests;
+mod standard;
+mod text;
 mod words;
 
 use base_types::NoMemory;

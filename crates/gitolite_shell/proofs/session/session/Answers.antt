@@ -1,21 +1,24 @@
-use Rattle.std.proofs.Common.{◌≡◌, [], refl, arith, append_assoc}
-use Rattle.std.proofs.KnownBytes.{Appends-nil, Consumes-nil}
-use Rattle.interaction_tree.specs.Turns.{Open}
+use Rattle.interaction_tree.specs.Interaction.{ends}
+use Rattle.interaction_tree.proofs.RunLemmas.{runs_memory, runs_ends}
+use Rattle.gitolite_shell.specs.declared.end.SessionEnd.TheVariants.{Served, NoMemory}
+use Rattle.gitolite_shell.specs.Session.{session}
+use Rattle.gitolite_shell.proofs.StepLemmas.{halts, goes}
+use Rattle.gitolite_shell.proofs.EndLemmas.{session_keeps}
 use Rattle.gitolite_shell.proofs.session.session.Goals as goal
 
+pub returns-in_default : goal.returns-in_default
+returns-in_default g c =
+    let k = session_keeps _ _ _ _ _ NoMemory (runs_memory _ _ _) in
+    record { turn = k.turn; grows = k.grows; causes = k.causes; sure = k.sure; later = k.later }
+
+pub returns-in-Ok-serve : goal.returns-in-Ok-serve
+unfolding session
+returns-in-Ok-serve g c =
+    let k = session_keeps _ _ _ _ _ Served (goes _ _ _ _ _ (λ u. ends Served) c.serve.result _ _ c.in-Ok-serve.field-0 _ c.in-Ok-serve.is c.serve.ensures.runs (runs_ends _ _ Served)) in
+    record { turn = k.turn; grows = k.grows; causes = k.causes; sure = k.sure; later = k.later }
+
 pub returns : goal.returns
-returns g c = record {
-  turn = record {
-    part = [];
-    bytes = [];
-    own = [];
-    extent = Open;
-    is_extent = tt;
-    made = refl;
-    read = Consumes-nil _;
-    counted = omega arith;
-    entries = (_, refl);
-    written = Appends-nil _;
-    begins = (_, refl);
-  };
-}
+unfolding session
+returns g c =
+    let k = session_keeps _ _ _ _ _ c.in-Err.end (halts _ _ _ _ _ (λ u. ends Served) c.serve.result c.in-Err.end c.in-Err.is c.serve.ensures.runs) in
+    record { turn = k.turn; grows = k.grows; causes = k.causes; sure = k.sure; later = k.later }

@@ -1,0 +1,53 @@
+-- What a session that ran its interaction keeps.
+use Rattle.std.proofs.Common.{inl, inr, List, Err, refl}
+use Rattle.pktline_core.specs.LinkState.{LinkState}
+use Rattle.pktline_core.specs.Links.{IsLater}
+use Rattle.hub_core.specs.Desk.{DeskView}
+use Rattle.hub_core.specs.Name.{Name}
+use Rattle.interaction_tree.specs.Requests.{OwnEntry}
+use Rattle.interaction_tree.specs.Runs.{IsCaused, Runs}
+use Rattle.interaction_tree.specs.Endings.{TakesTurn}
+use Rattle.interaction_tree.specs.Growth.{GrowsBy}
+use Rattle.interaction_tree.proofs.EndingLemmas.{runs_turn}
+use Rattle.interaction_tree.proofs.DeskLemmas.{makes_grows}
+use Rattle.gitolite_shell.specs.declared.end.SessionEnd.{SessionEnd}
+use Rattle.gitolite_shell.specs.declared.end.SessionEnd.TheVariants.{Served, Denied, NoRepo, ReadFault, WriteFault, NoMemory, NotBuilt}
+use Rattle.gitolite_shell.specs.End.{HasCause, IsSure, halt_of}
+use Rattle.gitolite_shell.specs.Session.{session}
+use Rattle.gitolite_shell.proofs.OrderLemmas.{is_ordered}
+
+pub has_cause : (a b : LinkState) (end : SessionEnd) → IsCaused {A = Unit {0}} a b (Err (halt_of end)) → HasCause a b end
+has_cause a b Served caused = tt
+has_cause a b Denied caused = tt
+has_cause a b NoRepo caused = tt
+has_cause a b NotBuilt caused = tt
+has_cause a b ReadFault caused = caused
+has_cause a b WriteFault caused = caused
+has_cause a b NoMemory caused = tt
+
+pub is_sure : (a b : LinkState) (end : SessionEnd) → HasCause a b end → IsSure a b end
+is_sure a b Served caused reads writes = inl refl
+is_sure a b Denied caused reads writes = inl refl
+is_sure a b NoRepo caused reads writes = inl refl
+is_sure a b NotBuilt caused reads writes = inl refl
+is_sure a b ReadFault caused reads writes = absurd (reads caused.0)
+is_sure a b WriteFault caused reads writes = absurd (writes caused.0)
+is_sure a b NoMemory caused reads writes = inr refl
+
+pub record SessionKeeps (a b : LinkState) (d e : DeskView) (admin : Name) (end : SessionEnd) : Type 0 where
+  pub turn : TakesTurn a b d e (session admin) (halt_of end)
+  pub grows : (own : List OwnEntry) × GrowsBy d e own
+  pub causes : HasCause a b end
+  pub sure : IsSure a b end
+  pub later : IsLater a b
+
+pub session_keeps : (a b : LinkState) (d e : DeskView) (admin : Name) (end : SessionEnd) → Runs a b d e (session admin) (Err (halt_of end)) → SessionKeeps a b d e admin end
+session_keeps a b d e admin end ran =
+    let cause = has_cause a b end ran.caused in
+    record {
+      turn = runs_turn a b d e (session admin) (halt_of end) (is_ordered admin) ran;
+      grows = (ran.own, makes_grows d e ran.own ran.made);
+      causes = cause;
+      sure = is_sure a b end cause;
+      later = ran.later;
+    }

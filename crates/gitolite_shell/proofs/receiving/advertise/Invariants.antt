@@ -1,0 +1,24 @@
+use Rattle.std.proofs.Common.{◌≤◌, length, true}
+use Rattle.std.specs.List.{All}
+use Rattle.std.specs.FinMap.{entries}
+use Rattle.git_object.specs.declared.object_id.ObjectId.{ObjectId}
+use Rattle.pktline_core.specs.LinkState.{LinkState}
+use Rattle.pktline_core.specs.Links.{KeepsReading}
+use Rattle.hub_core.specs.Desk.{DeskView}
+use Rattle.hub_core.specs.Name.{Name}
+use Rattle.interaction_tree.specs.Interaction.{write}
+use Rattle.interaction_tree.specs.Traces.{Halt}
+use Rattle.interaction_tree.specs.Runs.{Runs}
+use Rattle.std.proofs.Common.{Result}
+use Rattle.gitolite_shell.specs.declared.end.SessionEnd.{SessionEnd}
+use Rattle.gitolite_shell.proofs.AdvertisementLemmas.{rest_text}
+use Rattle.gitolite_shell.proofs.receiving.advertise.Given as goal
+
+abbrev pub invariant-loop-name : goal.invariant-loop-name
+invariant-loop-name g l = record {
+  writes : (c : LinkState) (desk : DeskView) (out : Result (Unit {0}) (Halt SessionEnd))
+      → Runs (g.L.Endpoint.state l.link) c desk desk (write (rest_text l.first l.name-iterator)) out
+      → Runs (g.L.Endpoint.state l.initial.link) c desk desk (write (rest_text true (entries l.repo.refs))) out;
+  reading : KeepsReading (g.L.Endpoint.state l.initial.link) (g.L.Endpoint.state l.link);
+  short : All (λ (ref : Name × ObjectId). length ref.0 ≤ 1024) l.name-iterator;
+}

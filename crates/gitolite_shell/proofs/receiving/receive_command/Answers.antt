@@ -1,0 +1,55 @@
+use Rattle.std.proofs.Common.{ap, refl, sym}
+use Rattle.pktline_core.specs.Reading.{packet_of}
+use Rattle.interaction_tree.proofs.RunLemmas.{runs_gives, runs_memory}
+use Rattle.gitolite_shell.specs.Session.{commanding, commanded}
+use Rattle.gitolite_shell.proofs.StepLemmas.{not_built_here, packet_then, packet_failed, packet_broken, packet_cut}
+use Rattle.gitolite_shell.proofs.receiving.receive_command.Goals as goal
+
+pub returns-in_default : goal.returns-in_default
+unfolding commanding
+returns-in_default g c = record {
+  runs =
+      let n = c.next.ensures in
+      packet_then _ _ _ (λ reply. commanded _ c.args.pin reply.found) c.next.result n.reads n.writing n.later _ _ _ c.in-Ok-Line.field-0 _ c.in-Ok-Line.is (ap packet_of c.in-Ok-Line.field-0-is) (λ used. runs_memory _ _ _);
+}
+
+pub returns-in-Ok-Line : goal.returns-in-Ok-Line
+unfolding commanding
+returns-in-Ok-Line g c = record {
+  runs =
+      let n = c.next.ensures in
+      let is = rw (c.repo_name.ensures, c.without_feed.ensures) at c.in-Ok.ensures.command in
+      packet_then _ _ _ (λ reply. commanded _ c.args.pin reply.found) c.next.result n.reads n.writing n.later _ _ _ c.in-Ok-Line.field-0 _ c.in-Ok-Line.is (ap packet_of c.in-Ok-Line.field-0-is) (λ used. rw (sym is) c.create.ensures.runs);
+}
+
+pub returns-in-Ok-Flush : goal.returns-in-Ok-Flush
+unfolding commanding
+returns-in-Ok-Flush g c = record {
+  runs =
+      let n = c.next.ensures in
+      packet_then _ _ _ (λ reply. commanded _ c.args.pin reply.found) c.next.result n.reads n.writing n.later _ _ _ c.in-Ok-Flush.field-0 _ c.in-Ok-Flush.is (ap packet_of c.in-Ok-Flush.field-0-is) (λ used. runs_gives _ _ _);
+}
+
+pub returns-in-Err-BadLength : goal.returns-in-Err-BadLength
+unfolding commanding
+returns-in-Err-BadLength g c = record {
+  runs =
+      let n = c.next.ensures in
+      packet_broken _ _ _ (λ reply. commanded _ c.args.pin reply.found) c.next.result n.reads n.writing n.later _ c.not_built.ensures.reading (λ fault used. refl) _ (not_built_here _ _ _ _ (c.not_built.ensures.runs _)) c.in-Err-BadLength.field-0 c.in-Err-BadLength.is c.in-Err-BadLength.field-0-is;
+}
+
+pub returns-in-Err-Truncated : goal.returns-in-Err-Truncated
+unfolding commanding
+returns-in-Err-Truncated g c = record {
+  runs =
+      let n = c.next.ensures in
+      packet_cut _ _ _ (λ reply. commanded _ c.args.pin reply.found) c.next.result n.reads n.writing n.later _ c.not_built-in-Err-Truncated.ensures.reading (λ fault used. refl) _ (not_built_here _ _ _ _ (c.not_built-in-Err-Truncated.ensures.runs _)) c.in-Err-Truncated.field-0 c.in-Err-Truncated.is c.in-Err-Truncated.field-0-is;
+}
+
+pub returns : goal.returns
+unfolding commanding
+returns g c = record {
+  runs =
+      let n = c.next.ensures in
+      packet_failed _ _ _ (λ reply. commanded _ c.args.pin reply.found) c.next.result n.reads n.writing n.later c.in-Err-ReadFault.field-0 c.in-Err-ReadFault.is c.in-Err-ReadFault.field-0-is;
+}

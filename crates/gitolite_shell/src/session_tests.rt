@@ -1,0 +1,204 @@
+// Sessions over a link of memory and the only desk of a new hub.
+use crate::end::SessionEnd;
+use crate::gate::{Gate, OpenGate};
+use crate::session::session;
+use hub_core::{EnterKept, EntryList, Event, Hub, LoneDesk, NoMemory, Outcome, Text};
+use pktline_core::MemoryLink;
+use std::alloc::Global;
+use std::test::Fail;
+
+const OPENING: &[u8] = b"0024carol git-receive-pack 'testing'";
+
+const COMMAND: &[u8] =
+    b"00750000000000000000000000000000000000000000 1c73cda3964d5dd51bdaad94efd235c910cf59de refs/heads/master\0report-status0000";
+
+const COMMIT: &[u8] =
+    b"tree 4b825dc642cb6eb9a060e54bf8d69288fbee4904\nauthor Carol <carol@example.com> 1700000000 +0000\ncommitter Carol <carol@example.com> 1700000000 +0000\n\nfirst\n";
+
+const TRAILER: [u8; 20] = [
+    0x64, 0xe5, 0x6d, 0xb6, 0x5e, 0x40, 0xed, 0x16, 0x0b, 0x3b, 0xd3, 0x40, 0x52, 0x5a, 0xb6, 0x1e,
+    0x82, 0x69, 0xdb, 0xdb,
+];
+
+const EMPTY: &[u8] =
+    b"00660000000000000000000000000000000000000000 capabilities^{}\0report-status delete-refs no-thin atomic\n0000";
+
+const DONE: &[u8] = b"000eunpack ok\n0019ok refs/heads/master\n0000";
+
+// An opening, a create of a branch, and its pack.
+fn first_push(alloc: Global) -> Result<Vec<u8>, NoMemory> {
+    let mut input = OPENING.to_vec(alloc)?;
+    input.extend_from_slice(COMMAND)?;
+    input.extend_from_slice(b"PACK\0\0\0\x02\0\0\0\x02\x9c\x09")?;
+    input.extend_from_slice(COMMIT)?;
+    input.extend_from_slice(b"\x20")?;
+    input.extend_from_slice(&TRAILER)?;
+    Ok(input)
+}
+
+fn new_desk(alloc: Global) -> Result<LoneDesk, NoMemory> {
+    let admin = Text::of(alloc, b"admin")?;
+    Ok(LoneDesk::new(Hub::start(alloc, &admin)?))
+}
+
+// The end of a session over such an input, and what was written.
+fn serve(
+    alloc: Global,
+    desk: &mut LoneDesk,
+    input: &[u8],
+    most: usize,
+) -> Result<(SessionEnd, Vec<u8>), NoMemory> {
+    let input = input.to_vec(alloc)?;
+    let mut link = MemoryLink::new(input, most.max(1), Vec::new(alloc), Vec::new(alloc));
+    let end = session(alloc, &mut link, desk, &mut OpenGate);
+    let written = link.written().to_vec(alloc)?;
+    Ok((end, written))
+}
+
+// Whether an opening was granted at a place of the log.
+fn is_granted(log: &EntryList, place: usize) -> bool {
+    let Some(entry) = log.get(place) else {
+        return false;
+    };
+    match &entry.event {
+        Event::Entered { answer, .. } => *answer == EnterKept::Granted,
+        Event::Pushed { .. } => false,
+    }
+}
+
+// What the one command of the push at a place of the log was told.
+fn told(log: &EntryList, place: usize) -> Option<Outcome> {
+    let entry = log.get(place)?;
+    match &entry.event {
+        Event::Entered { .. } => None,
+        Event::Pushed { outcomes, .. } => outcomes.get(0).copied(),
+    }
+}
+
+// A gate that tells the place of the last opening.
+#[derive(Drop)]
+struct LastPlace {
+    place: Option<u64>,
+}
+
+impl Gate for LastPlace {
+    fn between(&mut self, place: u64) {
+        self.place = Some(place);
+    }
+}
+
+#[test]
+fn a_first_push_is_done_and_a_second_is_told(rt: HostRuntime) -> Result<(), Fail> {
+    let alloc = rt.alloc();
+    let mut desk = new_desk(alloc)?;
+    let input = first_push(alloc)?;
+    assert_eq!(rt; input.len(), 348);
+    let (end, written) = serve(alloc, &mut desk, &input, 65_520)?;
+    assert_eq!(rt; end, SessionEnd::Served);
+    let mut reply = EMPTY.to_vec(alloc)?;
+    reply.extend_from_slice(DONE)?;
+    assert_eq!(rt; reply.len(), 149);
+    assert!(rt; written == reply);
+    let (end, written) = serve(alloc, &mut desk, &input, 1)?;
+    assert_eq!(rt; end, SessionEnd::Served);
+    assert_eq!(rt; written.len(), 215);
+    assert!(rt;
+        written.ends_with(
+            b"0059ng refs/heads/master not advertised, it was 1c73cda3964d5dd51bdaad94efd235c910cf59de\n0000"
+        )
+    );
+    let log = desk.into_hub().into_log();
+    assert_eq!(rt; log.len(), 4);
+    assert!(rt; is_granted(&log, 0) && is_granted(&log, 2));
+    assert!(rt; told(&log, 1) == Some(Outcome::Done));
+    assert!(rt; matches!(told(&log, 3), Some(Outcome::NotAdvertised(_))));
+    Ok(())
+}
+
+#[test]
+fn what_leaves_the_form_is_told(rt: HostRuntime) -> Result<(), Fail> {
+    let alloc = rt.alloc();
+    let rows: [(&[u8], SessionEnd, &[u8], usize); 5] = [
+        (
+            b"002bcarol git-receive-pack 'gitolite-admin'",
+            SessionEnd::Denied,
+            b"0035ERR W any gitolite-admin carol DENIED by fallthru",
+            1,
+        ),
+        (
+            b"0024carol git-receive-pack 'testing'0000",
+            SessionEnd::Served,
+            EMPTY,
+            1,
+        ),
+        (
+            b"0023carol git-upload-pack 'testing'0000",
+            SessionEnd::NotBuilt,
+            b"0011ERR not built",
+            0,
+        ),
+        (b"", SessionEnd::NotBuilt, b"0011ERR not built", 0),
+        (b"0000", SessionEnd::NotBuilt, b"0011ERR not built", 0),
+    ];
+    for (input, wanted, reply, entries) in rows {
+        let mut desk = new_desk(alloc)?;
+        let (end, written) = serve(alloc, &mut desk, input, 7)?;
+        assert_eq!(rt; end, wanted);
+        assert!(rt; written.as_slice() == reply);
+        assert_eq!(rt; desk.into_hub().into_log().len(), entries);
+    }
+    Ok(())
+}
+
+#[test]
+fn faults_of_the_link_end_a_session(rt: HostRuntime) -> Result<(), Fail> {
+    let alloc = rt.alloc();
+    let input = first_push(alloc)?;
+    for call in 0..10 {
+        let failing = [call];
+        let mut desk = new_desk(alloc)?;
+        let mut link = MemoryLink::new(
+            input.clone()?,
+            65_520,
+            failing.to_vec(alloc)?,
+            Vec::new(alloc),
+        );
+        let end = session(alloc, &mut link, &mut desk, &mut OpenGate);
+        assert_eq!(rt; end, SessionEnd::ReadFault);
+        let mut link = MemoryLink::new(
+            input.clone()?,
+            65_520,
+            Vec::new(alloc),
+            failing.to_vec(alloc)?,
+        );
+        let end = session(alloc, &mut link, &mut desk, &mut OpenGate);
+        let wanted = if call < 8 {
+            SessionEnd::WriteFault
+        } else {
+            SessionEnd::Served
+        };
+        assert_eq!(rt; end, wanted);
+    }
+    Ok(())
+}
+
+#[test]
+fn the_gate_stands_behind_an_opening(rt: HostRuntime) -> Result<(), Fail> {
+    let alloc = rt.alloc();
+    let mut desk = new_desk(alloc)?;
+    let mut gate = LastPlace { place: None };
+    let denied = b"002bcarol git-receive-pack 'gitolite-admin'".to_vec(alloc)?;
+    let mut link = MemoryLink::new(denied, 3, Vec::new(alloc), Vec::new(alloc));
+    assert_eq!(rt;
+        session(alloc, &mut link, &mut desk, &mut gate),
+        SessionEnd::Denied
+    );
+    assert_eq!(rt; gate.place, None);
+    let mut link = MemoryLink::new(OPENING.to_vec(alloc)?, 3, Vec::new(alloc), Vec::new(alloc));
+    assert_eq!(rt;
+        session(alloc, &mut link, &mut desk, &mut gate),
+        SessionEnd::NotBuilt
+    );
+    assert_eq!(rt; gate.place, Some(1));
+    Ok(())
+}

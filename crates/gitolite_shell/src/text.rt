@@ -1,0 +1,136 @@
+// The texts that a session writes.
+ghost use Rattle.std.specs.Prelude.{◌≡◌, ◌≤◌, ◌+◌, ◌*◌, ◌++◌, ◌∷◌, [], length, codes, decimal, IfOk, OnOk, if◌then◌else◌};
+ghost use Rattle.git_object.specs.ObjectId.{hex_of};
+ghost use Rattle.gitolite_shell.specs.Texts.{denial, denier, first_line, more_line, reason, status_text};
+
+use git_object::ObjectId;
+use hub_core::{Command, Outcome, RepoName, UserName, Verdict};
+use itoa::Buffer;
+use std::alloc::{AllocError, Global};
+
+/// The text of a denied opening for writing, behind `ERR `.
+#[tactic(auto, unfolding(crate::specs::Texts::denial))]
+pub fn denial(
+    alloc: Global,
+    user: &UserName,
+    repo: &RepoName,
+    verdict: Verdict,
+) -> Result<Vec<u8>, AllocError>
+    ensures text { IfOk result (λ v. v.items ≡ codes "ERR " ++ denial user.now repo.now verdict) }
+    ensures size { IfOk result (λ v. length v.items ≤ length user.now + length repo.now + 100) }
+{
+    let mut text = Vec::from_slice(alloc, b"ERR W any ")?;
+    text.extend_from_slice(repo.bytes())?;
+    text.extend_from_slice(b" ")?;
+    text.extend_from_slice(user.bytes())?;
+    text.extend_from_slice(b" DENIED by ")?;
+    push_denier(&mut text, verdict)?;
+    Ok(text)
+}
+
+fn push_denier(text: &mut Vec<u8>, verdict: Verdict) -> Result<(), AllocError>
+    ensures text { OnOk result (text.new.items ≡ text.old.items ++ denier verdict) }
+    ensures size { OnOk result (length text.new.items ≤ length text.old.items + 45) }
+{
+    match verdict {
+        Verdict::Allowed(number) | Verdict::DeniedBy(number) => {
+            text.extend_from_slice(b"rule ")?;
+            push_number(text, u64::from(number))
+        }
+        Verdict::Fallthru => text.extend_from_slice(b"fallthru"),
+    }
+}
+
+fn push_number(text: &mut Vec<u8>, number: u64) -> Result<(), AllocError>
+    ensures text { OnOk result (text.new.items ≡ text.old.items ++ decimal number) }
+    ensures size { OnOk result (length text.new.items ≤ length text.old.items + 40) }
+{
+    let mut digits = Buffer::new();
+    text.extend_from_slice(digits.format(number).as_bytes())
+}
+
+fn push_id(text: &mut Vec<u8>, id: ObjectId) -> Result<(), AllocError>
+    ensures text { OnOk result (text.new.items ≡ text.old.items ++ hex_of id) }
+    ensures size { OnOk result (length text.new.items ≤ length text.old.items + 40) }
+{
+    text.extend_from_slice(&id.hex())
+}
+
+/// The line of a ref in an advertisement. The first line bears the capabilities.
+pub fn ref_line(
+    alloc: Global,
+    name: &[u8],
+    id: ObjectId,
+    first: bool,
+) -> Result<Vec<u8>, AllocError>
+    ensures text { IfOk result (λ v. v.items ≡ (if first then first_line (name.now, id) else more_line (name.now, id))) }
+    ensures size { IfOk result (λ v. length v.items ≤ length name.now + 100) }
+{
+    let mut text = Vec::new(alloc);
+    push_id(&mut text, id)?;
+    text.extend_from_slice(b" ")?;
+    text.extend_from_slice(name)?;
+    if first {
+        text.extend_from_slice(b"\0report-status delete-refs no-thin atomic\n")?;
+        return Ok(text);
+    }
+    text.extend_from_slice(b"\n")?;
+    Ok(text)
+}
+
+/// What is reported of the one command of a push.
+pub fn status_line(
+    alloc: Global,
+    command: &Command,
+    outcome: Outcome,
+) -> Result<Vec<u8>, AllocError>
+    ensures text { IfOk result (λ v. v.items ≡ status_text (command.now ∷ []) command.now.name outcome) }
+    ensures size { IfOk result (λ v. length v.items ≤ 2 * length command.now.name + 100) }
+{
+    if outcome.is_done() {
+        let mut text = Vec::from_slice(alloc, b"ok ")?;
+        text.extend_from_slice(command.name.bytes())?;
+        text.extend_from_slice(b"\n")?;
+        return Ok(text);
+    }
+    let mut text = Vec::from_slice(alloc, b"ng ")?;
+    text.extend_from_slice(command.name.bytes())?;
+    text.extend_from_slice(b" ")?;
+    push_reason(&mut text, command, outcome)?;
+    text.extend_from_slice(b"\n")?;
+    Ok(text)
+}
+
+// Why the one command of a push isn't done.
+fn push_reason(text: &mut Vec<u8>, command: &Command, outcome: Outcome) -> Result<(), AllocError>
+    ensures text { OnOk result (text.new.items ≡ text.old.items ++ reason (command.now ∷ []) outcome) }
+    ensures size { OnOk result (length text.new.items ≤ length text.old.items + length command.now.name + 70) }
+{
+    match outcome {
+        Outcome::Done => Ok(()),
+        Outcome::NotAdvertised(id) => {
+            text.extend_from_slice(b"not advertised, it was ")?;
+            push_id(text, id)
+        }
+        Outcome::Stale(id) => {
+            text.extend_from_slice(b"stale, it is ")?;
+            push_id(text, id)
+        }
+        Outcome::AtomicOther(place) => {
+            text.extend_from_slice(b"atomic push refused with ")?;
+            if place == 0 {
+                return text.extend_from_slice(command.name.bytes());
+            }
+            Ok(())
+        }
+        Outcome::Collided(id) => {
+            text.extend_from_slice(b"name collision ")?;
+            push_id(text, id)
+        }
+        Outcome::Full(count) => {
+            text.extend_from_slice(b"repository would have ")?;
+            push_number(text, count)?;
+            text.extend_from_slice(b" objects")
+        }
+    }
+}
