@@ -1,12 +1,12 @@
 -- Steps of reading a frame, one after the other.
-use Rattle.std.proofs.Common.{◌≡◌, ◌⊎◌, ℕ, suc, ◌+◌, ◌<◌, ◌≤◌, List, [], ◌∷◌, ◌++◌, length, Option, Some, None, refl, sym, ◌∙◌, ap, subst, inl, inr, arith, append_assoc, length-append}
+use Rattle.std.proofs.Common.{◌≡◌, ◌⊎◌, ℕ, ◌+◌, ◌<◌, ◌≤◌, List, [], ◌∷◌, ◌++◌, length, Option, Some, None, sym, ◌∙◌, ap, subst, inl, inr, arith, append_assoc, length-append}
 use Rattle.std.proofs.lemmas.List.{append-nil}
 use Rattle.std.specs.Io.KnownBytes.{IsAtEnd}
 use Rattle.pktline_core.specs.LinkState.{LinkState}
 use Rattle.pktline_core.specs.Links.{IsLater}
 use Rattle.pktline_core.proofs.LinkLemmas.{consumes_more, risen_later}
-use Rattle.gitolite_shell.specs.Frames.{head_text, frame_text, largest_body, BeginsNoFrame}
-use Rattle.gitolite_shell.specs.ReadingFrames.{Takes, FailsToRead, HasNoFeed, IsRest, TakesByte, StopsAtByte, TakesNoLine, StopsInLine, IsSizeIn, HasNoSize, TakesBody, TakesPart, StopsInBody, TakesFrame, TakesNoFrame, StopsInFrame}
+use Rattle.gitolite_shell.specs.Frames.{head_text, frame_text, BeginsNoFrame}
+use Rattle.gitolite_shell.specs.ReadingFrames.{Takes, FailsToRead, HasNoFeed, IsRest, TakesNoLine, StopsInLine, IsSizeIn, HasNoSize, TakesBody, StopsInBody, TakesFrame, TakesNoFrame, StopsInFrame}
 use Rattle.gitolite_shell.specs.declared.frames.FrameFault.{FrameFault}
 use Rattle.gitolite_shell.specs.declared.frames.FrameFault.TheVariants.{Bad, ReadFault, NoMemory}
 use Rattle.gitolite_shell.proofs.FrameLemmas.{begins_line, begins_long, begins_cut, begins_short, begins_open}

@@ -1,11 +1,11 @@
 -- One session more of a script, and its end.
-use Rattle.std.proofs.Common.{◌≡◌, ◌⊎◌, inl, inr, ℕ, ◌+◌, ◌<◌, ◌≤◌, Bool, true, false, IsTrue, List, [], ◌∷◌, ◌++◌, length, Option, Some, None, Result, Ok, Err, refl, sym, ◌∙◌, ap, subst, arith, append_assoc, length-append}
+use Rattle.std.proofs.Common.{◌≡◌, ◌⊎◌, inl, inr, ℕ, ◌+◌, ◌<◌, ◌≤◌, true, false, IsTrue, List, [], ◌∷◌, ◌++◌, length, Option, Some, None, Result, Ok, Err, refl, sym, ◌∙◌, ap, subst, arith, append_assoc, length-append}
 use Rattle.std.specs.Prelude.{IfOk, is_some}
 use Rattle.std.specs.List.{flat_map}
 use Rattle.std.proofs.lemmas.List.{append-nil}
 use Rattle.std.proofs.lemmas.List.Concat.{flat_map-append}
 use Rattle.std.proofs.KnownBytes.{Appends-nil, Consumes-nil}
-use Rattle.std.specs.Io.KnownBytes.{Appends, Consumes, IsAtEnd}
+use Rattle.std.specs.Io.KnownBytes.{Appends, Consumes}
 use Rattle.pktline_core.specs.LinkState.{LinkState}
 use Rattle.pktline_core.specs.Links.{IsLater}
 use Rattle.pktline_core.proofs.LinkLemmas.{appends_more, risen_later}
@@ -23,7 +23,7 @@ use Rattle.gitolite_shell.specs.Session.{session}
 use Rattle.gitolite_shell.specs.Frames.{head_text, frame_text, AreBodies, BeginsNoFrame}
 use Rattle.gitolite_shell.specs.ReadingFrames.{Takes, IsRest, TakesFrame}
 use Rattle.gitolite_shell.specs.Script.{end_word, stop_word, reply_text, fault_text, served_alone, Printed, sessions, bad_offset, last_line, script}
-use Rattle.gitolite_shell.specs.RunningScripts.{Serves, Advances, AdvancesOne, FindsEnd, FindsBad, WritesPart, FailsAtRead, ServesPart, TellsPart, StopsAdvancing, RunsScript, StopsAtRead, StopsAtWrite, StopsScript}
+use Rattle.gitolite_shell.specs.RunningScripts.{Serves, Advances, AdvancesOne, FindsEnd, FindsBad, FailsAtRead, ServesPart, TellsPart, StopsAdvancing, RunsScript, StopsAtRead, StopsAtWrite, StopsScript}
 use Rattle.gitolite_shell.specs.declared.script.ScriptFault.{ScriptFault}
 use Rattle.gitolite_shell.specs.declared.script.ScriptFault.TheVariants.{BadScript, InputFault, OutputFault, NoMemory}
 use Rattle.gitolite_shell.proofs.FrameLemmas.{begins_none}

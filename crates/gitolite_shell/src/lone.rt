@@ -1,7 +1,6 @@
 // The program, run by one caller.
 ghost use Rattle.std.specs.Prelude.{◌≡◌, IfOk, map, string_bytes};
 ghost use Rattle.hub_core.specs.LoneDesk.{desk_of};
-ghost use Rattle.gitolite_shell.specs.Words.{usage_line};
 ghost use Rattle.gitolite_shell.specs.Lone.{EndsRun, IsSure, new_desk, status_number, status_of};
 
 use crate::script::{ScriptFault, run_script, write_text};

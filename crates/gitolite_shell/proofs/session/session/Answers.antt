@@ -1,4 +1,4 @@
-use Rattle.std.proofs.Common.{◌≡◌, [], refl, arith, append_assoc}
+use Rattle.std.proofs.Common.{[], refl, arith}
 use Rattle.std.proofs.KnownBytes.{Appends-nil, Consumes-nil}
 use Rattle.interaction_tree.specs.Turns.{Open}
 use Rattle.gitolite_shell.proofs.session.session.Goals as goal
