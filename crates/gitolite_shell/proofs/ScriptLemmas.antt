@@ -196,17 +196,16 @@ advances_next s s' s'' k k' k'' d d' d'' number offset taken bodies advances cou
 
 module _ (s s' s'' k k' k'' : LinkState) (d d' d'' : DeskView) (bodies : List (List ℕ)) (advances : Advances s s' k k' d d' 1 bodies) where
   stops_read : IsLater s s' → FailsAtRead s' s'' k' k'' d' d'' → StopsAtRead s s'' k k'' d.admin d.seen d''.seen
-  stops_read later fails =
-      let whole = input_of s.left s'.left (flat_map frame_text bodies) advances.takes.consumed in
-      record {
-        bodies = bodies;
-        rest = whole.0;
-        told = whole.2;
-        small = advances.small;
-        written = rw fails.sink_is advances.written;
-        log_is = ap (λ (e : DeskView). e.seen) fails.desk_is ∙ advances.seen;
-        risen = risen_later s.read_faults s'.read_faults s''.read_faults later.read_faults fails.risen;
-      }
+  stops_read later fails = record {
+    bodies = bodies;
+    part = fails.read.part;
+    small = advances.small;
+    none = fails.read.none;
+    takes = takes_more s s' s'' (flat_map frame_text bodies) fails.read.part advances.takes fails.read.fails.takes;
+    written = rw fails.sink_is advances.written;
+    log_is = ap (λ (e : DeskView). e.seen) fails.desk_is ∙ advances.seen;
+    risen = risen_later s.read_faults s'.read_faults s''.read_faults later.read_faults fails.read.fails.risen;
+  }
 
   more_begins : (out bytes text : List ℕ) → Begins bytes text → Begins (out ++ bytes) (out ++ text)
   more_begins out bytes text begins = (begins.0, ap (λ (l : List ℕ). out ++ l) begins.1 ∙ sym (append_assoc out bytes begins.0))

@@ -72,8 +72,8 @@ pub record EndsRun (words : List (List ℕ)) (source source' sink sink' : LinkSt
   pub ends : EndsWith words source source' sink sink' log status
 
 -- Where no fault is counted, refused words end with 1, and a script with 0 or 7, unless memory lacks.
-abbrev pub IsSure : List (List ℕ) → LinkState → LinkState → LinkState → LinkState → ℕ → Type 0
-IsSure words source source' sink sink' number =
+abbrev pub EndsSurely : List (List ℕ) → LinkState → LinkState → LinkState → LinkState → ℕ → Type 0
+EndsSurely words source source' sink sink' number =
     (HasRisen source.read_faults source'.read_faults → ⊥) → (HasRisen sink.write_faults sink'.write_faults → ⊥)
     → ((script_admin words ≡ None) × ((number ≡ 1) ⊎ (number ≡ 4))) ⊎ (((admin : Name) × (script_admin words ≡ Some admin)) × ((number ≡ 0) ⊎ (number ≡ 4) ⊎ (number ≡ 7)))
 
