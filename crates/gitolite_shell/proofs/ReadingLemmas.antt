@@ -1,12 +1,12 @@
 -- Steps of reading a frame, one after the other.
-use Rattle.std.proofs.Common.{◌≡◌, ◌⊎◌, ℕ, suc, ◌+◌, ◌<◌, ◌≤◌, List, [], ◌∷◌, ◌++◌, length, Option, Some, None, refl, sym, ◌∙◌, ap, subst, inl, inr, arith, append_assoc, length-append}
+use Rattle.std.proofs.Common.{◌≡◌, ◌⊎◌, ℕ, ◌+◌, ◌<◌, ◌≤◌, List, [], ◌∷◌, ◌++◌, length, Option, Some, None, sym, ◌∙◌, ap, subst, inl, inr, arith, append_assoc, length-append}
 use Rattle.std.proofs.lemmas.List.{append-nil}
 use Rattle.std.specs.Io.KnownBytes.{IsAtEnd}
 use Rattle.pktline_core.specs.LinkState.{LinkState}
 use Rattle.pktline_core.specs.Links.{IsLater}
 use Rattle.pktline_core.proofs.LinkLemmas.{consumes_more, risen_later}
-use Rattle.gitolite_shell.specs.Frames.{head_text, frame_text, largest_body, BeginsNoFrame}
-use Rattle.gitolite_shell.specs.ReadingFrames.{Takes, FailsToRead, HasNoFeed, IsRest, TakesByte, StopsAtByte, TakesNoLine, StopsInLine, IsSizeIn, HasNoSize, TakesBody, TakesPart, StopsInBody, TakesFrame, TakesNoFrame, StopsInFrame}
+use Rattle.gitolite_shell.specs.Frames.{head_text, frame_text, BeginsNoFrame}
+use Rattle.gitolite_shell.specs.ReadingFrames.{StopsAtByte, Takes, FailsAfter, FailsInLine, FailsInBody, FailsInFrame, HasNoFeed, IsRest, TakesNoLine, StopsInLine, IsSizeIn, HasNoSize, TakesBody, StopsInBody, TakesFrame, TakesNoFrame, StopsInFrame}
 use Rattle.gitolite_shell.specs.declared.frames.FrameFault.{FrameFault}
 use Rattle.gitolite_shell.specs.declared.frames.FrameFault.TheVariants.{Bad, ReadFault, NoMemory}
 use Rattle.gitolite_shell.proofs.FrameLemmas.{begins_line, begins_long, begins_cut, begins_short, begins_open}
@@ -17,8 +17,16 @@ takes_more a b c xs ys p q = record {
   counted = omega (arith, p.counted, q.counted, length-append xs ys);
 }
 
-pub fails_later : (a b c : LinkState) → IsLater a b → FailsToRead b c → FailsToRead a c
-fails_later a b c later f = record { risen = risen_later a.read_faults b.read_faults c.read_faults later.read_faults f.risen; may_fail = rw later.may_fail at f.may_fail }
+fails_more : (a b c : LinkState) (xs ys : List ℕ) → Takes a b xs → IsLater a b → FailsAfter b c ys → FailsAfter a c (xs ++ ys)
+fails_more a b c xs ys p later f = record {
+  takes = takes_more a b c xs ys p f.takes;
+  risen = risen_later a.read_faults b.read_faults c.read_faults later.read_faults f.risen;
+  may_fail = rw later.may_fail at f.may_fail;
+}
+
+-- where nothing more was taken
+fails_here : (a b c : LinkState) (xs : List ℕ) → Takes a b xs → IsLater a b → FailsAfter b c [] → FailsAfter a c xs
+fails_here a b c xs p later f = subst (FailsAfter a c) (append-nil xs) (fails_more a b c xs [] p later f)
 
 pub no_rest : (left : Option (List ℕ)) (rest : List ℕ) → IsAtEnd left → IsRest left rest → rest ≡ []
 no_rest None rest ended is = is
@@ -41,7 +49,7 @@ no_line a b t = record { part = t.part; takes = t.takes; some = some_part t.part
 
 pub line_stops : (a b : LinkState) (fault : FrameFault) → StopsInLine a b fault → StopsInFrame a b fault
 line_stops a b Bad t = no_line a b t
-line_stops a b ReadFault t = t
+line_stops a b ReadFault t = record { part = t.part; none = begins_cut t.part t.no_feed; fails = t.fails }
 line_stops a b NoMemory t = tt
 
 module _ (a b : LinkState) (line : List ℕ) (first : Takes a b (line ++ 10 ∷ [])) where
@@ -70,7 +78,7 @@ module _ (a b : LinkState) (line : List ℕ) (first : Takes a b (line ++ 10 ∷ 
 
     pub body_stops : (c : LinkState) (fault : FrameFault) → IsLater a b → StopsInBody b c n fault → StopsInFrame a c fault
     body_stops c Bad later t = ended c t.part t.takes (omega (arith, t.short)) t.ended
-    body_stops c ReadFault later t = fails_later a b c later t
+    body_stops c ReadFault later t = record { part = (line ++ 10 ∷ []) ++ t.part; none = short t.part (omega (arith, t.short)); fails = fails_more a b c (line ++ 10 ∷ []) t.part first later t.fails }
     body_stops c NoMemory later t = tt
 
     module _ (c d : LinkState) (body : List ℕ) (second : TakesBody b c n body) where
@@ -100,3 +108,8 @@ module _ (a b : LinkState) (line : List ℕ) (first : Takes a b (line ++ 10 ∷ 
 
       pub cut_off : Takes c d [] → IsAtEnd d.left → TakesNoFrame a d
       cut_off none end = ended d body (subst (Takes b d) (append-nil body) (takes_more b c d body [] second.takes none)) (omega (arith, second.sized)) end
+
+      pub byte_stops : (fault : FrameFault) → IsLater a c → StopsAtByte c d fault → StopsInFrame a d fault
+      byte_stops Bad later stop = absurd stop
+      byte_stops ReadFault later stop = record { part = (line ++ 10 ∷ []) ++ body; none = short body (omega (arith, second.sized)); fails = fails_here a c d ((line ++ 10 ∷ []) ++ body) both later stop }
+      byte_stops NoMemory later stop = tt

@@ -1,11 +1,11 @@
 -- One session more of a script, and its end.
-use Rattle.std.proofs.Common.{◌≡◌, ◌⊎◌, inl, inr, ℕ, ◌+◌, ◌<◌, ◌≤◌, Bool, true, false, IsTrue, List, [], ◌∷◌, ◌++◌, length, Option, Some, None, Result, Ok, Err, refl, sym, ◌∙◌, ap, subst, arith, append_assoc, length-append}
+use Rattle.std.proofs.Common.{◌≡◌, ◌⊎◌, inl, inr, ℕ, ◌+◌, ◌<◌, ◌≤◌, true, false, IsTrue, List, [], ◌∷◌, ◌++◌, length, Option, Some, None, Result, Ok, Err, refl, sym, ◌∙◌, ap, subst, arith, append_assoc, length-append}
 use Rattle.std.specs.Prelude.{IfOk, is_some}
 use Rattle.std.specs.List.{flat_map}
 use Rattle.std.proofs.lemmas.List.{append-nil}
 use Rattle.std.proofs.lemmas.List.Concat.{flat_map-append}
 use Rattle.std.proofs.KnownBytes.{Appends-nil, Consumes-nil}
-use Rattle.std.specs.Io.KnownBytes.{Appends, Consumes, IsAtEnd}
+use Rattle.std.specs.Io.KnownBytes.{Appends, Consumes}
 use Rattle.pktline_core.specs.LinkState.{LinkState}
 use Rattle.pktline_core.specs.Links.{IsLater}
 use Rattle.pktline_core.proofs.LinkLemmas.{appends_more, risen_later}
@@ -23,7 +23,7 @@ use Rattle.gitolite_shell.specs.Session.{session}
 use Rattle.gitolite_shell.specs.Frames.{head_text, frame_text, AreBodies, BeginsNoFrame}
 use Rattle.gitolite_shell.specs.ReadingFrames.{Takes, IsRest, TakesFrame}
 use Rattle.gitolite_shell.specs.Script.{end_word, stop_word, reply_text, fault_text, served_alone, Printed, sessions, bad_offset, last_line, script}
-use Rattle.gitolite_shell.specs.RunningScripts.{Serves, Advances, AdvancesOne, FindsEnd, FindsBad, WritesPart, FailsAtRead, ServesPart, TellsPart, StopsAdvancing, RunsScript, StopsAtRead, StopsAtWrite, StopsScript}
+use Rattle.gitolite_shell.specs.RunningScripts.{Serves, Advances, AdvancesOne, FindsEnd, FindsBad, FailsAtRead, ServesPart, TellsPart, StopsAdvancing, RunsScript, StopsAtRead, StopsAtWrite, StopsScript}
 use Rattle.gitolite_shell.specs.declared.script.ScriptFault.{ScriptFault}
 use Rattle.gitolite_shell.specs.declared.script.ScriptFault.TheVariants.{BadScript, InputFault, OutputFault, NoMemory}
 use Rattle.gitolite_shell.proofs.FrameLemmas.{begins_none}
@@ -196,17 +196,16 @@ advances_next s s' s'' k k' k'' d d' d'' number offset taken bodies advances cou
 
 module _ (s s' s'' k k' k'' : LinkState) (d d' d'' : DeskView) (bodies : List (List ℕ)) (advances : Advances s s' k k' d d' 1 bodies) where
   stops_read : IsLater s s' → FailsAtRead s' s'' k' k'' d' d'' → StopsAtRead s s'' k k'' d.admin d.seen d''.seen
-  stops_read later fails =
-      let whole = input_of s.left s'.left (flat_map frame_text bodies) advances.takes.consumed in
-      record {
-        bodies = bodies;
-        rest = whole.0;
-        told = whole.2;
-        small = advances.small;
-        written = rw fails.sink_is advances.written;
-        log_is = ap (λ (e : DeskView). e.seen) fails.desk_is ∙ advances.seen;
-        risen = risen_later s.read_faults s'.read_faults s''.read_faults later.read_faults fails.risen;
-      }
+  stops_read later fails = record {
+    bodies = bodies;
+    part = fails.read.part;
+    small = advances.small;
+    none = fails.read.none;
+    takes = takes_more s s' s'' (flat_map frame_text bodies) fails.read.part advances.takes fails.read.fails.takes;
+    written = rw fails.sink_is advances.written;
+    log_is = ap (λ (e : DeskView). e.seen) fails.desk_is ∙ advances.seen;
+    risen = risen_later s.read_faults s'.read_faults s''.read_faults later.read_faults fails.read.fails.risen;
+  }
 
   more_begins : (out bytes text : List ℕ) → Begins bytes text → Begins (out ++ bytes) (out ++ text)
   more_begins out bytes text begins = (begins.0, ap (λ (l : List ℕ). out ++ l) begins.1 ∙ sym (append_assoc out bytes begins.0))

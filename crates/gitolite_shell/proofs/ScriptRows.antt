@@ -1,5 +1,5 @@
 -- Rows of a script, worked out.
-use Rattle.std.proofs.Common.{◌≡◌, List, ℕ, [], ◌∷◌, ◌++◌, Some, None, refl, arith, codes}
+use Rattle.std.proofs.Common.{◌≡◌, [], ◌∷◌, Some, None, refl, arith, codes}
 use Rattle.std.proofs.lemmas.Fmt.{decimal_digit}
 use Rattle.gitolite_shell.specs.declared.end.SessionEnd.TheVariants.{Served}
 use Rattle.gitolite_shell.specs.Frames.{head_text, frame_text}

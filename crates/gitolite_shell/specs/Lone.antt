@@ -1,5 +1,5 @@
 -- How a run of the program ends.
-use Rattle.std.specs.Prelude.{◌≡◌, ◌⊎◌, ⊤, ℕ, Bool, true, false, List, [], map, Option, Some, None, Result, Ok, Err}
+use Rattle.std.specs.Prelude.{◌≡◌, ◌⊎◌, ⊤, ℕ, Bool, true, false, List, [], Some, None, Result, Ok, Err}
 use Rattle.std.specs.Io.KnownBytes.{Appends}
 use Rattle.base_types.specs.Counts.{HasRisen}
 use Rattle.pktline_core.specs.LinkState.{LinkState}
@@ -32,10 +32,11 @@ pub record RunsWords (words : List (List ℕ)) (source source' sink sink' : Link
   pub asked : script_admin words ≡ Some admin
   pub runs : RunsScript source source' sink sink' admin [] log bad
 
--- The words were refused: the usage was printed, and nothing was logged.
-pub record RefusesWords (words : List (List ℕ)) (sink sink' : LinkState) (log : List Entry) : Type 0 where
+-- The words were refused: the usage was printed, nothing was read, and nothing was logged.
+pub record RefusesWords (words : List (List ℕ)) (source source' sink sink' : LinkState) (log : List Entry) : Type 0 where
   pub refused : script_admin words ≡ None
   pub printed : Appends sink.written sink'.written usage_line
+  pub source_is : source' ≡ source
   pub log_is : log ≡ []
 
 -- The words ask for a script, which was left where a read failed.
@@ -51,18 +52,19 @@ pub record FailsOutput (words : List (List ℕ)) (source source' sink sink' : Li
   pub stops : StopsAtWrite source source' sink sink' admin [] log
 
 -- the words were refused, and a part of the usage was printed
-pub record FailsUsage (words : List (List ℕ)) (sink sink' : LinkState) (log : List Entry) : Type 0 where
+pub record FailsUsage (words : List (List ℕ)) (source source' sink sink' : LinkState) (log : List Entry) : Type 0 where
   pub refused : script_admin words ≡ None
   pub part : WritesPart sink sink' usage_line
+  pub source_is : source' ≡ source
   pub log_is : log ≡ []
 
 -- what holds where a run ended with this status
 abbrev pub EndsWith : List (List ℕ) → LinkState → LinkState → LinkState → LinkState → List Entry → Status → Type 0
 EndsWith words source source' sink sink' log Done = RunsWords words source source' sink sink' log false
 EndsWith words source source' sink sink' log BadScript = RunsWords words source source' sink sink' log true
-EndsWith words source source' sink sink' log Usage = RefusesWords words sink sink' log
+EndsWith words source source' sink sink' log Usage = RefusesWords words source source' sink sink' log
 EndsWith words source source' sink sink' log InputFault = FailsInput words source source' sink sink' log
-EndsWith words source source' sink sink' log OutputFault = FailsUsage words sink sink' log ⊎ FailsOutput words source source' sink sink' log
+EndsWith words source source' sink sink' log OutputFault = FailsUsage words source source' sink sink' log ⊎ FailsOutput words source source' sink sink' log
 EndsWith words source source' sink sink' log NoMemory = ⊤
 
 -- A run ended with this number and this log. Where memory lacked nothing is said of it.
@@ -72,8 +74,8 @@ pub record EndsRun (words : List (List ℕ)) (source source' sink sink' : LinkSt
   pub ends : EndsWith words source source' sink sink' log status
 
 -- Where no fault is counted, refused words end with 1, and a script with 0 or 7, unless memory lacks.
-abbrev pub IsSure : List (List ℕ) → LinkState → LinkState → LinkState → LinkState → ℕ → Type 0
-IsSure words source source' sink sink' number =
+abbrev pub EndsSurely : List (List ℕ) → LinkState → LinkState → LinkState → LinkState → ℕ → Type 0
+EndsSurely words source source' sink sink' number =
     (HasRisen source.read_faults source'.read_faults → ⊥) → (HasRisen sink.write_faults sink'.write_faults → ⊥)
     → ((script_admin words ≡ None) × ((number ≡ 1) ⊎ (number ≡ 4))) ⊎ (((admin : Name) × (script_admin words ≡ Some admin)) × ((number ≡ 0) ⊎ (number ≡ 4) ⊎ (number ≡ 7)))
 

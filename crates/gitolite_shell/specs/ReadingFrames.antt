@@ -12,8 +12,9 @@ pub record Takes (old new : LinkState) (taken : List ℕ) : Type 0 where
   pub consumed : Consumes old.left new.left taken
   pub counted : new.given ≡ old.given + length taken
 
--- a read failed
-pub record FailsToRead (old new : LinkState) : Type 0 where
+-- a read failed after these bytes
+pub record FailsAfter (old new : LinkState) (part : List ℕ) : Type 0 where
+  pub takes : Takes old new part
   pub risen : HasRisen old.read_faults new.read_faults
   pub may_fail : IsTrue old.may_fail
 
@@ -35,7 +36,7 @@ TakesByte old new None = Takes old new [] × IsAtEnd new.left
 -- a byte fails to come by a fault of the source alone
 abbrev pub StopsAtByte : LinkState → LinkState → FrameFault → Type 0
 StopsAtByte old new Bad = ⊥
-StopsAtByte old new ReadFault = FailsToRead old new
+StopsAtByte old new ReadFault = FailsAfter old new []
 StopsAtByte old new NoMemory = ⊥
 
 -- A line, and its line feed; or the input was at its end.
@@ -50,9 +51,15 @@ pub record TakesNoLine (old new : LinkState) : Type 0 where
   pub no_feed : HasNoFeed part
   pub ended : (17 < length part) ⊎ ((0 < length part) × IsAtEnd new.left)
 
+-- a read failed inside a line
+pub record FailsInLine (old new : LinkState) : Type 0 where
+  pub part : List ℕ
+  pub no_feed : HasNoFeed part
+  pub fails : FailsAfter old new part
+
 abbrev pub StopsInLine : LinkState → LinkState → FrameFault → Type 0
 StopsInLine old new Bad = TakesNoLine old new
-StopsInLine old new ReadFault = FailsToRead old new
+StopsInLine old new ReadFault = FailsInLine old new
 StopsInLine old new NoMemory = ⊤
 
 -- digits of no number below 2 ^ 32
@@ -80,9 +87,15 @@ pub record TakesPart (old new : LinkState) (size : ℕ) : Type 0 where
   pub short : length part < size
   pub ended : IsAtEnd new.left
 
+-- a read failed inside it
+pub record FailsInBody (old new : LinkState) (size : ℕ) : Type 0 where
+  pub part : List ℕ
+  pub short : length part < size
+  pub fails : FailsAfter old new part
+
 abbrev pub StopsInBody : LinkState → LinkState → ℕ → FrameFault → Type 0
 StopsInBody old new size Bad = TakesPart old new size
-StopsInBody old new size ReadFault = FailsToRead old new
+StopsInBody old new size ReadFault = FailsInBody old new size
 StopsInBody old new size NoMemory = ⊤
 
 -- The next frame, and no byte behind it; or the input was at its end.
@@ -98,7 +111,13 @@ pub record TakesNoFrame (old new : LinkState) : Type 0 where
   pub some : 0 < length part
   pub bad : (rest : List ℕ) → IsRest new.left rest → BeginsNoFrame (part ++ rest)
 
+-- a read failed before a whole frame was taken
+pub record FailsInFrame (old new : LinkState) : Type 0 where
+  pub part : List ℕ
+  pub none : BeginsNoFrame part
+  pub fails : FailsAfter old new part
+
 abbrev pub StopsInFrame : LinkState → LinkState → FrameFault → Type 0
 StopsInFrame old new Bad = TakesNoFrame old new
-StopsInFrame old new ReadFault = FailsToRead old new
+StopsInFrame old new ReadFault = FailsInFrame old new
 StopsInFrame old new NoMemory = ⊤

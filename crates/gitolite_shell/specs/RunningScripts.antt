@@ -1,5 +1,5 @@
 -- What running a script does.
-use Rattle.std.specs.Prelude.{◌≡◌, ◌⊎◌, ⊤, ℕ, ◌+◌, List, [], ◌∷◌, ◌++◌, length, Bool, true, IsTrue, is_some, Option, Some, None}
+use Rattle.std.specs.Prelude.{◌≡◌, ◌⊎◌, ⊤, ℕ, List, [], ◌∷◌, ◌++◌, length, Bool, true, IsTrue, is_some}
 use Rattle.std.specs.List.{flat_map}
 use Rattle.std.specs.Io.KnownBytes.{Appends, IsAtEnd}
 use Rattle.base_types.specs.Counts.{HasRisen}
@@ -10,7 +10,7 @@ use Rattle.hub_core.specs.Desk.{DeskView}
 use Rattle.interaction_tree.specs.Traces.{Begins}
 use Rattle.interaction_tree.specs.Endings.{IsInput}
 use Rattle.gitolite_shell.specs.Frames.{frame_text, AreBodies, BeginsNoFrame, IsScript}
-use Rattle.gitolite_shell.specs.ReadingFrames.{Takes, TakesFrame, TakesNoFrame}
+use Rattle.gitolite_shell.specs.ReadingFrames.{Takes, TakesFrame, TakesNoFrame, FailsInFrame}
 use Rattle.gitolite_shell.specs.Script.{stop_word, reply_text, fault_text, served_alone, sessions, bad_offset, script}
 use Rattle.gitolite_shell.specs.declared.script.ScriptFault.{ScriptFault}
 use Rattle.gitolite_shell.specs.declared.script.ScriptFault.TheVariants.{BadScript, InputFault, OutputFault, NoMemory}
@@ -64,9 +64,9 @@ StopsWriting sink sink' text InputFault = ⊥
 StopsWriting sink sink' text OutputFault = WritesPart sink sink' text
 StopsWriting sink sink' text NoMemory = ⊤
 
--- a read failed, and nothing else was done
+-- a read failed inside a frame, and nothing else was done
 pub record FailsAtRead (source source' sink sink' : LinkState) (old new : DeskView) : Type 0 where
-  pub risen : HasRisen source.read_faults source'.read_faults
+  pub read : FailsInFrame source source'
   pub sink_is : sink' ≡ sink
   pub desk_is : new ≡ old
 
@@ -107,12 +107,13 @@ pub record RunsScript (source source' sink sink' : LinkState) (admin : Name) (lo
   pub written : Appends sink.written sink'.written (script admin bodies rest log).output
   pub log_is : log' ≡ (script admin bodies rest log).log
 
--- A read failed: the sessions of the frames before were served and printed.
+-- A read failed: the sessions of all frames that were read whole were served and printed.
 pub record StopsAtRead (source source' sink sink' : LinkState) (admin : Name) (log log' : List Entry) : Type 0 where
   pub bodies : List (List ℕ)
-  pub rest : List ℕ
-  pub told : IsInput source.left (flat_map frame_text bodies ++ rest)
+  pub part : List ℕ
   pub small : AreBodies bodies
+  pub none : BeginsNoFrame part
+  pub takes : Takes source source' (flat_map frame_text bodies ++ part)
   pub written : Appends sink.written sink'.written (sessions admin 1 bodies log).output
   pub log_is : log' ≡ (sessions admin 1 bodies log).log
   pub risen : HasRisen source.read_faults source'.read_faults

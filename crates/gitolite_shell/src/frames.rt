@@ -1,8 +1,8 @@
 // Frames of a script.
-ghost use Rattle.std.specs.Prelude.{◌≡◌, ◌≤◌, [], length, decimal, IfOk, IfErr, IfSome, IfNone};
-ghost use Rattle.pktline_core.specs.Links.{IsLater, KeepsWriting};
+ghost use Rattle.std.specs.Prelude.{◌≡◌, decimal, IfOk, IfErr, IfSome, IfNone};
+ghost use Rattle.pktline_core.specs.Links.{IsLater};
 ghost use Rattle.gitolite_shell.specs.Frames.{OneScript};
-ghost use Rattle.gitolite_shell.specs.ReadingFrames.{HasNoSize, IsNoNumber, IsSizeIn, StopsAtByte, StopsInBody, StopsInFrame, StopsInLine, Takes, TakesBody, TakesByte, TakesFrame, TakesLine};
+ghost use Rattle.gitolite_shell.specs.ReadingFrames.{HasNoSize, IsNoNumber, IsSizeIn, StopsAtByte, StopsInBody, StopsInFrame, StopsInLine, TakesBody, TakesByte, TakesFrame, TakesLine};
 
 use itoa::Buffer;
 use pktline_core::{Source, Taken};

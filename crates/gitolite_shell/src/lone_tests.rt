@@ -106,3 +106,19 @@ fn frames_are_served_in_order_up_to_the_bad_one(rt: HostRuntime) -> Result<(), F
     assert!(rt; ends(alloc, &SCRIPT, b"session 0\n\nx", 7, bad)?);
     Ok(())
 }
+
+// The first read fails, or the first write.
+#[test]
+fn faults_have_their_status(rt: HostRuntime) -> Result<(), Fail> {
+    let alloc = rt.alloc();
+    let words = words(alloc, &SCRIPT)?;
+    let none = Vec::new(alloc);
+    let mut broken = MemoryLink::new(b"x".to_vec(alloc)?, 7, vec![in alloc; 0]?, none);
+    let mut sink = link(alloc, b"")?;
+    assert_eq!(rt; lone_main(alloc, &words, &mut broken, &mut sink).status, 2);
+    assert!(rt; sink.written().is_empty());
+    let mut source = link(alloc, b"x")?;
+    let mut full = MemoryLink::new(Vec::new(alloc), 7, Vec::new(alloc), vec![in alloc; 0]?);
+    assert_eq!(rt; lone_main(alloc, &words, &mut source, &mut full).status, 3);
+    Ok(())
+}

@@ -1,6 +1,7 @@
 use Rattle.std.proofs.Common.{◌≡◌, Err, length, arith, rules}
 use Rattle.gitolite_shell.specs.ReadingFrames.{HasNoSize, IsSizeIn}
-use Rattle.gitolite_shell.proofs.ReadingLemmas.{line_stops, no_size, body_stops, closed, open_ended, cut_off}
+use Rattle.pktline_core.proofs.LinkLemmas.{later_more}
+use Rattle.gitolite_shell.proofs.ReadingLemmas.{line_stops, no_size, body_stops, closed, open_ended, cut_off, byte_stops}
 use Rattle.gitolite_shell.proofs.frames.read_frame.Goals as goal
 
 pub returns-in_err-line-clause-err : goal.returns-in_err-line-clause-err
@@ -46,3 +47,11 @@ returns-clause-err g c =
     let size : IsSizeIn c.in-Some.line.items c.in-Some-size_in.size = rw c.deref.ensures.value at c.in-Some-size_in.ensures.some in
     let last = rw c.in-None.is at c.in_ok-take_byte.ensures.ok in
     cut_off _ _ c.in-Some.line.items line.0 c.in-Some-size_in.size size _ _ c.in_ok-body.body.items c.in_ok-body.ensures.ok last.0 last.1
+
+pub returns-in_err-take_byte-clause-err : goal.returns-in_err-take_byte-clause-err
+returns-in_err-take_byte-clause-err g c =
+    let answer : c.from_residual-in_err-take_byte.result ≡ Err c.in_err-take_byte.field-0.0 = search rules in
+    let line = rw c.in-Some.is at c.in_ok-line.ensures.some in
+    let size : IsSizeIn c.in-Some.line.items c.in-Some-size_in.size = rw c.deref.ensures.value at c.in-Some-size_in.ensures.some in
+    let later = later_more _ _ _ c.read_line.ensures.later c.read_body.ensures.later in
+    rw answer (byte_stops _ _ c.in-Some.line.items line.0 c.in-Some-size_in.size size _ _ c.in_ok-body.body.items c.in_ok-body.ensures.ok c.in_err-take_byte.field-0.0 later c.in_err-take_byte.ensures.err)

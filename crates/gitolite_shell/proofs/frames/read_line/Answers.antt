@@ -1,4 +1,4 @@
-use Rattle.std.proofs.Common.{◌≡◌, ◌++◌, ◌∷◌, [], ◌≤◌, arith, rules, length}
+use Rattle.std.proofs.Common.{◌≡◌, ◌++◌, ◌∷◌, [], rules}
 use Rattle.pktline_core.proofs.LinkLemmas.{later_more}
 use Rattle.gitolite_shell.proofs.FrameLemmas.{no_feed_more}
 use Rattle.gitolite_shell.proofs.ReadingLemmas.{takes_more}

@@ -1,4 +1,4 @@
-use Rattle.std.proofs.Common.{◌≡◌, ◌≤◌, ◌-◌, length}
+use Rattle.std.proofs.Common.{◌≤◌, ◌-◌, length}
 use Rattle.pktline_core.specs.Links.{IsLater}
 use Rattle.gitolite_shell.specs.ReadingFrames.{HasNoFeed, Takes}
 use Rattle.gitolite_shell.proofs.frames.read_line.Given as goal

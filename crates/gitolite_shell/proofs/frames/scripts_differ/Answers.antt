@@ -1,4 +1,4 @@
-use Rattle.std.proofs.Common.{◌≡◌, ◌∙◌, sym}
+use Rattle.std.proofs.Common.{◌∙◌, sym}
 use Rattle.gitolite_shell.proofs.FrameLemmas.{script_same}
 use Rattle.gitolite_shell.proofs.frames.scripts_differ.Goals as goal
 

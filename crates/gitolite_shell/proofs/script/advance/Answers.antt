@@ -1,4 +1,3 @@
-use Rattle.std.proofs.Common.{◌≡◌}
 use Rattle.gitolite_shell.proofs.ScriptLemmas.{advances_one}
 use Rattle.gitolite_shell.proofs.script.advance.Goals as goal
 

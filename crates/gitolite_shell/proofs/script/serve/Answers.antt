@@ -1,4 +1,4 @@
-use Rattle.std.proofs.Common.{◌≡◌, ◌∙◌, Some, List, ℕ, refl, ap}
+use Rattle.std.proofs.Common.{◌∙◌, Some, refl, ap}
 use Rattle.pktline_core.specs.MemoryLinks.{MemoryState}
 use Rattle.gitolite_shell.specs.Script.{reply_text}
 use Rattle.gitolite_shell.proofs.ScriptLemmas.{serves, if_ok}
