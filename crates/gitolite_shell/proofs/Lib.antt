@@ -1,6 +1,7 @@
 mod FrameLemmas
 mod ReadingLemmas
 mod ScriptLemmas
+mod LoneLemmas
 mod ScriptRows
 mod StepLemmas
 mod OpeningLemmas
