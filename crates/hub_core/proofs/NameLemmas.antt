@@ -1,73 +1,74 @@
--- Named values as a list and as a map.
-use Rattle.std.proofs.Common.{◌≡◌, List, ℕ, [], ◌∷◌, ◌++◌, refl, sym, ◌∙◌, ap, ◌<◌, ◌+◌, length, drop, get_or, Bool, true, false, not, cond, subst, T, ◌≤◌}
-use Rattle.std.specs.Prelude.{Option, Some, None}
-use Rattle.std.specs.List.{filter}
-use Rattle.std.specs.Ordering.{nat_cmp, eq_by_cmp}
-use Rattle.std.specs.Cmp.Lexicographic.{slice_cmp, nat_list_cmp_total, texts_ties, same_text as one_text}
-use Rattle.std.specs.FinMap.{get, insert, remove, get-insert, get-remove, get-empty, same_map, slice_cmp-IsAntisymmetric, nat_cmp-IsAntisymmetric}
+-- Named values as entries of a table and as a map.
+use Rattle.std.proofs.Common.{◌≡◌, List, ℕ, [], ◌∷◌, ◌++◌, refl, sym, ◌∙◌, ap, ◌+◌, false, cond, length, arith}
+use Rattle.std.specs.Prelude.{Some, None}
+use Rattle.std.specs.List.{sum_by, IsDistinct, AllByRecursion}
+use Rattle.std.specs.Map.{lookup, keys_of}
+use Rattle.std.proofs.lemmas.Map.{lookup-none, NonePasses}
+use Rattle.std.proofs.lemmas.Map.Keys.{IsDistinct-head, IsDistinct-tail}
+use Rattle.std.proofs.lemmas.List.Sums.{sum_by-cons}
+use Rattle.std.specs.declared.cmp.Ordering.TheVariants.{Less, Equal, Greater}
+use Rattle.std.specs.Ordering.{nat_cmp, eq_by_cmp, is_eq}
+use Rattle.std.specs.Cmp.{eq_by_cmp_equiv}
+use Rattle.std.specs.Cmp.Lexicographic.{slice_cmp, nat_list_cmp_total, texts_ties}
+use Rattle.std.specs.FinMap.{get, insert, entries, find, get-insert, get-from_entries, get-entries, len-entries, len-empty, entries-insert, same_map, slice_cmp-IsAntisymmetric, nat_cmp-IsAntisymmetric}
+use Rattle.std.specs.FinMap.Entries.{put, by_order}
 use Rattle.hub_core.specs.declared.name_table.Named.{Named}
 use Rattle.base_types.specs.Names.{ByName}
 use Rattle.hub_core.specs.Name.{Name, placed_in, same_name, map_of}
-use Rattle.std.proofs.lemmas.List.{drop_all}
-use Rattle.hub_core.proofs.ListLemmas.{drop_here}
+
+turned : (k q : Name) → same_name k q ≡ eq_by_cmp (slice_cmp nat_cmp) q k
+turned k q = texts_ties k q ∙ (eq_by_cmp_equiv nat_list_cmp_total).symm k q
+
+none : {A : Type 0} (xs : List A) → length xs ≡ 0 → xs ≡ []
+none [] is = refl
+none (x ∷ xs) is = absurd (omega (arith, is))
 
 module _ {X : Type 0} where
-  pub same_names : (m n : ByName X) → ((q : Name) → get m q ≡ get n q) → m ≡ n
+  same_names : (m n : ByName X) → ((q : Name) → get m q ≡ get n q) → m ≡ n
   same_names m n is = same_map nat_list_cmp_total (slice_cmp-IsAntisymmetric nat_cmp-IsAntisymmetric) m n is
 
-  twice : (b : Bool) (x y : Option X) → cond b x (cond b None y) ≡ cond b x y
-  twice true x y = refl
-  twice false x y = refl
+  find-lookup : (q : Name) (es : List (Name × X)) → find (slice_cmp nat_cmp) q es ≡ lookup (same_name q) es
+  find-lookup q [] = refl
+  find-lookup q (e ∷ es) = ap (λ o. cond (eq_by_cmp (slice_cmp nat_cmp) q e.0) (Some e.1) o) (find-lookup q es) ∙ ap (λ b. cond b (Some e.1) (lookup (same_name q) es)) (sym (texts_ties q e.0))
 
-  again : (b : Bool) (x y : Option X) → cond b None y ≡ cond b None (cond b x y)
-  again true x y = refl
-  again false x y = refl
+  -- a table answers as its map
+  pub get-map_of : (es : List (Name × X)) (q : Name) → get (map_of es) q ≡ lookup (same_name q) es
+  get-map_of es q = get-from_entries nat_list_cmp_total es q ∙ find-lookup q es
 
-  nothing : (b : Bool) → let n : Option X = None in n ≡ cond b None None
-  nothing true = refl
-  nothing false = refl
+  -- the map after a value was put in place
+  pub updated : (es fs : List (Name × X)) (k : Name) (v : X) → ((q : Name) → lookup (same_name q) fs ≡ cond (same_name k q) (Some v) (lookup (same_name q) es)) → map_of fs ≡ insert (map_of es) k v
+  updated es fs k v updates = same_names _ _ (λ q.
+      get-map_of fs q
+      ∙ updates q
+      ∙ ap (λ b. cond b (Some v) (lookup (same_name q) es)) (turned k q)
+      ∙ ap (λ o. cond (eq_by_cmp (slice_cmp nat_cmp) q k) (Some v) o) (sym (get-map_of es q))
+      ∙ sym (get-insert nat_list_cmp_total (map_of es) k v q))
 
-  pub insert-remove : (m : ByName X) (k : Name) (v : X) → insert (remove m k) k v ≡ insert m k v
-  insert-remove m k v = same_names _ _ (λ q.
-      get-insert nat_list_cmp_total (remove m k) k v q
-      ∙ ap (λ o. cond (eq_by_cmp (slice_cmp nat_cmp) q k) (Some v) o) (get-remove nat_list_cmp_total m k q)
-      ∙ twice (eq_by_cmp (slice_cmp nat_cmp) q k) (Some v) (get m q)
-      ∙ sym (get-insert nat_list_cmp_total m k v q))
+  pub placed_in-push : (known : ByName X) (ns : List (Named X)) (n : Named X) → placed_in known (ns ++ n ∷ []) ≡ placed_in (insert known n.name n.value) ns
+  placed_in-push known [] n = refl
+  placed_in-push known (m ∷ ns) n = ap (λ i. insert i m.name m.value) (placed_in-push known ns n)
 
-  get-cons : (r : Named X) (rs : List (Named X)) (q : Name) → get (map_of (r ∷ rs)) q ≡ cond (same_name q r.name) (Some r.value) (get (map_of rs) q)
-  get-cons r rs q = get-insert nat_list_cmp_total (map_of rs) r.name r.value q ∙ ap (λ b. cond b (Some r.value) (get (map_of rs) q)) (sym (texts_ties q r.name))
+  -- a sum over a map grows by what is put at a new name
+  sum-put : (f : Name × X → ℕ) (k : Name) (v : X) (es : List (Name × X)) → find (slice_cmp nat_cmp) k es ≡ None → sum_by f (put (slice_cmp nat_cmp) k v es) ≡ f (k, v) + sum_by f es
+  sum-put f k v [] none = sum_by-cons f (k, v) []
+  sum-put f k v (e ∷ es) none =
+      elim (slice_cmp nat_cmp k e.0) as (λ o. cond (is_eq o) (Some e.1) (find (slice_cmp nat_cmp) k es) ≡ None → sum_by f (by_order o ((k, v) ∷ e ∷ es) ((e.0, v) ∷ es) (e ∷ put (slice_cmp nat_cmp) k v es)) ≡ f (k, v) + sum_by f (e ∷ es)) [
+        | Less ↦ λ absent. sum_by-cons f (k, v) (e ∷ es)
+        | Equal ↦ λ absent. cc
+        | Greater ↦ λ absent. omega (arith, sum_by-cons f e (put (slice_cmp nat_cmp) k v es), sum_by-cons f e es, sum-put f k v es absent)
+      ] none
 
-  swaps : (k n q : Name) (x y : Option X) (a b : Bool) → same_name q n ≡ a → same_name q k ≡ b → same_name k n ≡ false → cond a x (cond b None y) ≡ cond b None (cond a x y)
-  swaps k n q x y true true p r apart = absurd (subst T (sym (subst (λ (t : Name). same_name t n ≡ true) (one_text q k (sym r)) p) ∙ apart) tt)
-  swaps k n q x y true false p r apart = refl
-  swaps k n q x y false b p r apart = refl
+  each_apart : (k : Name) (es : List (Name × X)) → AllByRecursion (λ y. same_name k y ≡ false) (keys_of es) → NonePasses (same_name k) es
+  each_apart k [] apart = tt
+  each_apart k (e ∷ es) apart = (apart.0, each_apart k es apart.1)
 
-  get-filter : (k : Name) (rs : List (Named X)) (q : Name) → get (map_of (filter (λ r. not (same_name k r.name)) rs)) q ≡ cond (same_name q k) None (get (map_of rs) q)
-  get-filter k [] q = get-empty (slice_cmp nat_cmp) q ∙ nothing (same_name q k) ∙ ap (λ o. cond (same_name q k) None o) (sym (get-empty (slice_cmp nat_cmp) q))
-  get-filter k (r ∷ rs) q =
-      elim (same_name k r.name) as (λ b. same_name k r.name ≡ b → get (map_of (cond (not b) (r ∷ filter (λ r. not (same_name k r.name)) rs) (filter (λ r. not (same_name k r.name)) rs))) q ≡ cond (same_name q k) None (get (map_of (r ∷ rs)) q)) [
-        | true ↦ λ is.
-            get-filter k rs q
-            ∙ again (same_name q k) (Some r.value) (get (map_of rs) q)
-            ∙ ap (λ (t : Name). cond (same_name q k) None (cond (same_name q t) (Some r.value) (get (map_of rs) q))) (one_text k r.name (sym is))
-            ∙ ap (λ o. cond (same_name q k) None o) (sym (get-cons r rs q))
-        | false ↦ λ is.
-            get-cons r (filter (λ r. not (same_name k r.name)) rs) q
-            ∙ ap (λ o. cond (same_name q r.name) (Some r.value) o) (get-filter k rs q)
-            ∙ swaps k r.name q (Some r.value) (get (map_of rs) q) (same_name q r.name) (same_name q k) refl refl is
-            ∙ ap (λ o. cond (same_name q k) None o) (sym (get-cons r rs q))
-      ] refl
-
-  pub map_of-filter : (k : Name) (rs : List (Named X)) → map_of (filter (λ r. not (same_name k r.name)) rs) ≡ remove (map_of rs) k
-  map_of-filter k rs = same_names _ _ (λ q. get-filter k rs q ∙ ap (λ b. cond b None (get (map_of rs) q)) (texts_ties q k) ∙ sym (get-remove nat_list_cmp_total (map_of rs) k q))
-
-  pub get_here : (rs : List (Named X)) (i : ℕ) (d : Named X) (name : Name) → i < length rs
-      → get (map_of (drop i rs)) name ≡ cond (same_name name (get_or rs i d).name) (Some (get_or rs i d).value) (get (map_of (drop (i + 1) rs)) name)
-  get_here rs i d name h = ap (λ l. get (map_of l) name) (drop_here rs i d h) ∙ get-cons (get_or rs i d) (drop (i + 1) rs) name
-
-  pub get_none : (rs : List (Named X)) (i : ℕ) (name : Name) → length rs ≤ i → get (map_of (drop i rs)) name ≡ None
-  get_none rs i name h = ap (λ l. get (map_of l) name) (drop_all i rs h) ∙ get-empty (slice_cmp nat_cmp) name
-
-  pub placed_in-push : (items : ByName X) (ns : List (Named X)) (n : Named X) → placed_in items (ns ++ n ∷ []) ≡ placed_in (insert items n.name n.value) ns
-  placed_in-push items [] n = refl
-  placed_in-push items (m ∷ ns) n = ap (λ i. insert i m.name m.value) (placed_in-push items ns n)
+  -- a sum over a map is the sum over the table, whose names are distinct
+  pub sum-map_of : (f : Name × X → ℕ) (es : List (Name × X)) → IsDistinct same_name (keys_of es) → sum_by f (entries (map_of es)) ≡ sum_by f es
+  sum-map_of f [] distinct = ap (sum_by f) (none (entries (map_of {X = X} [])) (sym (len-entries (map_of {X = X} [])) ∙ len-empty (slice_cmp nat_cmp) X))
+  sum-map_of f (e ∷ es) distinct =
+      let absent : find (slice_cmp nat_cmp) e.0 (entries (map_of es)) ≡ None =
+      sym (get-entries (map_of es) e.0) ∙ get-map_of es e.0 ∙ lookup-none (same_name e.0) es (each_apart e.0 es (IsDistinct-head same_name e.0 (keys_of es) distinct)) in
+      ap (sum_by f) (entries-insert nat_list_cmp_total (map_of es) e.0 e.1)
+      ∙ sum-put f e.0 e.1 (entries (map_of es)) absent
+      ∙ ap (λ n. f e + n) (sum-map_of f es (IsDistinct-tail same_name e.0 (keys_of es) distinct))
+      ∙ sym (sum_by-cons f e es)

@@ -12,7 +12,6 @@ use Rattle.std.proofs.lemmas.List.Elements.{All-from_recursion}
 use Rattle.base_types.specs.Names.{ByName}
 use Rattle.git_object.specs.Content.{Content}
 use Rattle.git_object.specs.declared.object_id.ObjectId.{ObjectId}
-use Rattle.hub_core.specs.declared.name_table.Named.{Named}
 use Rattle.hub_core.specs.declared.command.Command.{Command}
 use Rattle.hub_core.specs.declared.outcome.Outcome.{Outcome}
 use Rattle.hub_core.specs.declared.entry.Entry.{Entry}
@@ -24,7 +23,7 @@ use Rattle.hub_core.specs.Name.{Name, same_name, same_id, zero_id, placed_in}
 use Rattle.hub_core.specs.Store.{Refs, moved, with_pack, HasShortNames}
 use Rattle.hub_core.specs.State.{Repository, State, start, changed, repository_at, empty_repository, put_in_place}
 use Rattle.hub_core.specs.Pin.{Opening, Pinned, answer_to, made_by}
-use Rattle.hub_core.specs.Push.{is_done, refs_after, refs_left, landed}
+use Rattle.hub_core.specs.Push.{is_done, refs_after, refs_left}
 use Rattle.hub_core.specs.Hub.{Stands}
 use Rattle.hub_core.specs.History.{History, new_history, after, after_push, opening_at, outcomes_at, push_change, IsDue, IsDuePush, IsLegal, replay}
 use Rattle.hub_core.proofs.HistoryLemmas.{history-keeps, IsLegalFrom-beginning}

@@ -1,5 +1,5 @@
 -- Names compared, and values by their names.
-use Rattle.std.specs.Prelude.{ℕ, Bool, List, [], ◌∷◌, nat_eq, map, replicate}
+use Rattle.std.specs.Prelude.{ℕ, Bool, List, [], ◌∷◌, nat_eq, replicate}
 use Rattle.std.specs.FinMap.{from_entries, insert}
 use lib.Pointwise.{pointwise}
 use Rattle.base_types.specs.Names.{ByName}
@@ -20,9 +20,9 @@ same_id a b = pointwise nat_eq a.bytes b.bytes
 abbrev pub zero_id : ObjectId
 zero_id = record { bytes = replicate 20 0 }
 
--- the map that named values make; of two with one name the first counts
-abbrev pub map_of : {X : Type 0} → List (Named X) → ByName X
-map_of {X} items = from_entries (map (λ (e : Named X). (e.name, e.value)) items)
+-- the map of names with their values; of two with one name the first counts
+abbrev pub map_of : {X : Type 0} → List (Name × X) → ByName X
+map_of entries = from_entries entries
 
 -- a map with named values put in place; of two with one name the first counts
 abbrev pub placed_in : {X : Type 0} → ByName X → List (Named X) → ByName X

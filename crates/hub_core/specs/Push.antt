@@ -40,6 +40,15 @@ abbrev pub is_done : Outcome → Bool
 is_done Done = true
 is_done _ = false
 
+-- the number by which an outcome is known, whatever it holds
+abbrev pub outcome_number : Outcome → ℕ
+outcome_number Done = 1
+outcome_number (NotAdvertised id) = 5
+outcome_number (Stale id) = 11
+outcome_number (AtomicOther place) = 13
+outcome_number (Collided id) = 14
+outcome_number (Full count) = 17
+
 -- a command that is done moves its ref
 abbrev pub refs_after : Refs → Command → Outcome → Refs
 refs_after refs command outcome = if is_done outcome then moved refs command.name command.new else refs

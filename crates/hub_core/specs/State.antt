@@ -1,7 +1,8 @@
 -- The state of a hub: repositories by their names, and the conf in force.
-use Rattle.std.specs.Prelude.{List, [], ◌∷◌, Option, None, Some, codes}
+use Rattle.std.specs.Prelude.{ℕ, List, [], ◌∷◌, Option, None, Some, codes}
+use Rattle.std.specs.List.{sum_by}
 use Rattle.std.specs.Option.{unwrap_or}
-use Rattle.std.specs.FinMap.{empty, get, insert}
+use Rattle.std.specs.FinMap.{empty, entries, get, insert, len}
 use Rattle.base_types.specs.Names.{ByName}
 use Rattle.git_object.specs.Content.{Content}
 use Rattle.hub_core.specs.declared.name_table.Named.{Named}
@@ -37,6 +38,10 @@ pub record State : Type 0 where
 -- a repository by its name; where there is none it is empty
 abbrev pub repository_at : State → Name → Repository
 repository_at state name = unwrap_or (get state.repositories name) (empty_repository None)
+
+-- how many refs all repositories have together
+unfoldable pub ref_count : State → ℕ
+ref_count state = sum_by (λ (e : Name × Repository). len e.1.refs) (entries state.repositories)
 
 -- a new hub: two empty repositories, and the setup's rules
 abbrev pub start : Name → State

@@ -1,9 +1,9 @@
 // The hub.
-ghost use Rattle.std.specs.Prelude.{◌≡◌, ◌≤◌, [], IfOk, IfSome, length, None, OnErr, OnOk, Some};
+ghost use Rattle.std.specs.Prelude.{◌≡◌, ◌≤◌, ◌-◌, ◌^◌, min, [], IfOk, IfSome, length, None, OnErr, OnOk, Some};
 ghost use Rattle.std.specs.FinMap as map;
 ghost use Rattle.std.specs.Option.{option_copied, option_map, unwrap_or};
 ghost use Rattle.hub_core.specs.Name.{map_of};
-ghost use Rattle.hub_core.specs.State.{changed, empty_repository, put_in_place, repository_at, store_of};
+ghost use Rattle.hub_core.specs.State.{changed, empty_repository, put_in_place, ref_count, repository_at, store_of};
 ghost use Rattle.hub_core.specs.Pin.{answer_to, by_creation, by_verdict};
 ghost use Rattle.hub_core.specs.Push.{AreWithinLimits, judgement, landed};
 ghost use Rattle.hub_core.specs.History.{history, IsDue, IsLegal, outcomes_at, replay, step};
@@ -63,7 +63,7 @@ impl Model for Hub {
 
     ghost view = { λ h. record { admin = h.admin; log = h.log } };
 
-    ghost invariant = { λ h. IsLegal h.admin h.log × (state_of (map_of h.repositories.items.items) h.policy ≡ replay h.admin h.log) };
+    ghost invariant = { λ h. IsLegal h.admin h.log × (state_of (map_of h.repositories.entries.entries) h.policy ≡ replay h.admin h.log) };
 }
 
 impl Hub {
@@ -110,6 +110,17 @@ impl Hub {
             Some(hosted) => Some(hosted.repo()),
             None => None,
         }
+    }
+
+    /// How many refs all repositories have together, or 2^64 - 1 where there are more. It costs the number of the repositories.
+    pub fn ref_count(&self) -> u64
+        ensures { result ≡ min (ref_count (replay self.now.admin self.now.log)) (2 ^ 64 - 1) }
+    {
+        let mut count: u64 = 0;
+        for (_, hosted) in self.repositories.entries.iter() {
+            count = count.saturating_add(hosted.repo().refs().len() as u64);
+        }
+        count
     }
 
     // Puts an event into the log, and what it changes in place. This is the one place where the hub changes.
@@ -360,10 +371,13 @@ fn add_empty(
     repositories: &mut NameTable<HostedRepo>,
     name: &[u8],
 ) -> Result<(), NoMemory>
-    ensures { OnOk result (map_of repositories.new.items.items ≡ map.insert (map_of repositories.old.items.items) name.now (empty_repository None)) }
+    ensures { OnOk result (map_of repositories.new.entries.entries ≡ map.insert (map_of repositories.old.entries.entries) name.now (empty_repository None)) }
 {
     let hosted = HostedRepo::new(alloc, Repo::empty(alloc), None)?;
-    repositories.insert(Text::of(alloc, name)?, hosted)
+    let name = Text::of(alloc, name)?;
+    repositories.reserve(1)?;
+    repositories.put(name, hosted);
+    Ok(())
 }
 
 // Puts other rules in force, if there are any.

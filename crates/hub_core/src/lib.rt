@@ -41,7 +41,7 @@ pub use outcome::{Outcome, OutcomeList};
 pub use pin::Pin;
 pub use rule::{Policy, Rule};
 pub use store::Repo;
-pub use verdict::{Verdict, Want};
+pub use verdict::{Base, Letter, Verdict, Want};
 
 #[cfg(test)]
 mod tests;

@@ -1,11 +1,13 @@
-// Values by their names. It takes room first and then several at once, which the map of `base_types` can't.
-ghost use Rattle.std.specs.Prelude.{◌≡◌, ◌+◌, ◌<◌, ◌≤◌, [], IfOk, OnErr, OnOk};
+// Values by their names, in a hashed table. It takes room first and then several at once, which the map of `base_types` can't.
+ghost use Rattle.std.specs.Prelude.{◌≡◌, ◌+◌, ◌<◌, ◌≤◌, OnOk};
 ghost use Rattle.std.specs.FinMap as map;
 ghost use Rattle.std.specs.Option.{option_copied};
-ghost use Rattle.std.specs.Vec.{vec_len, vec_capacity};
+ghost use Rattle.std.specs.Vec.{vec_len};
+ghost use Rattle.indexmap.specs.IndexMap.{spare};
 ghost use Rattle.hub_core.specs.Name.{map_of, placed_in};
 
 use base_types::{NoMemory, Text};
+use indexmap::IndexMap;
 use std::alloc::Global;
 
 /// A value and its name.
@@ -15,91 +17,54 @@ pub struct Named<T> {
     pub value: T,
 }
 
-/// Values by their names, in no order. A look-up compares the name with each.
+/// Values by their names. A look-up takes the same time however many there are.
 #[derive(Drop)]
 pub struct NameTable<T> {
-    pub items: Vec<Named<T>>,
+    pub entries: IndexMap<Text, T>,
 }
 
 impl<T: Drop> NameTable<T> {
     pub fn new(alloc: Global) -> NameTable<T>
-        ensures { map_of result.items.items ≡ map.empty }
+        ensures { map_of result.entries.entries ≡ map.empty }
     {
         NameTable {
-            items: Vec::new(alloc),
+            entries: IndexMap::new(alloc),
         }
     }
 
     pub fn get(&self, name: &Text) -> Option<&T>
-        ensures { option_copied result ≡ map.get (map_of self.now.items.items) name.now }
+        ensures { option_copied result ≡ map.get (map_of self.now.entries.entries) name.now }
     {
-        for item in &self.items {
-            if *name == item.name {
-                return Some(&item.value);
-            }
-        }
-        None
-    }
-
-    pub fn insert(&mut self, name: Text, value: T) -> Result<(), NoMemory>
-        ensures ok { OnOk result (map_of self.new.items.items ≡ map.insert (map_of self.old.items.items) name value) }
-        ensures err { OnErr result (map_of self.new.items.items ≡ map_of self.old.items.items) }
-    {
-        self.reserve(1)?;
-        put(&mut self.items, Named { name, value });
-        Ok(())
+        self.entries.get(name)
     }
 
     /// Takes room for so many more.
     pub fn reserve(&mut self, more: usize) -> Result<(), NoMemory>
-        ensures same { self.new.items.items ≡ self.old.items.items }
-        ensures room { OnOk result (vec_len self.new.items + more ≤ vec_capacity self.new.items) }
+        ensures same { self.new.entries.entries ≡ self.old.entries.entries }
+        ensures room { OnOk result (more ≤ spare self.new.entries) }
     {
-        self.items.reserve(more)?;
+        self.entries.reserve(more)?;
         Ok(())
     }
 
-    /// Puts all of them in place, in room that is there; of two with one name the first counts.
-    pub fn put_all(&mut self, changes: Vec<Named<T>>)
-        requires { vec_len self.old.items + vec_len changes ≤ vec_capacity self.old.items }
-        ensures { map_of self.new.items.items ≡ placed_in (map_of self.old.items.items) changes.items }
+    /// Puts a value in place, in room that is there.
+    pub fn put(&mut self, name: Text, value: T)
+        requires { 0 < spare self.old.entries }
+        ensures map { map_of self.new.entries.entries ≡ map.insert (map_of self.old.entries.entries) name value }
+        ensures room { spare self.old.entries ≤ spare self.new.entries + 1 }
     {
-        put_each(&mut self.items, changes);
+        let Ok(_) = self.entries.insert(name, value) else {
+            unreachable!()
+        };
     }
 
-    pub fn len(&self) -> usize {
-        self.items.len()
+    /// Puts all of them in place, in room that is there, the last first; of two with one name the first counts.
+    pub fn put_all(&mut self, mut changes: Vec<Named<T>>)
+        requires { vec_len changes ≤ spare self.old.entries }
+        ensures { map_of self.new.entries.entries ≡ placed_in (map_of self.old.entries.entries) changes.items }
+    {
+        while let Some(Named { name, value }) = changes.pop() {
+            self.put(name, value);
+        }
     }
-}
-
-// Leaves out a name.
-fn forget<T: Drop>(items: &mut Vec<Named<T>>, name: &Text)
-    ensures map { map_of items.new.items ≡ map.remove (map_of items.old.items) name.now }
-    ensures len { vec_len items.new ≤ vec_len items.old }
-    ensures capacity { vec_capacity items.new ≡ vec_capacity items.old }
-{
-    items.retain(|item| *name != item.name);
-}
-
-// Puts each in place, the last first.
-fn put_each<T: Drop>(items: &mut Vec<Named<T>>, mut changes: Vec<Named<T>>)
-    requires { vec_len items.old + vec_len changes ≤ vec_capacity items.old }
-    ensures { map_of items.new.items ≡ placed_in (map_of items.old.items) changes.items }
-{
-    while let Some(change) = changes.pop() {
-        put(items, change);
-    }
-}
-
-// Puts one in place, in room that is there.
-fn put<T: Drop>(items: &mut Vec<Named<T>>, change: Named<T>)
-    requires { vec_len items.old < vec_capacity items.old }
-    ensures map { map_of items.new.items ≡ map.insert (map_of items.old.items) change.name change.value }
-    ensures len { vec_len items.new ≤ vec_len items.old + 1 }
-    ensures capacity { vec_capacity items.new ≡ vec_capacity items.old }
-{
-    forget(items, &change.name);
-    let Ok(()) = items.insert(0, change) else {
-        unreachable!()
-    };
 }

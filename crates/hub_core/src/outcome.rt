@@ -1,6 +1,6 @@
 // Outcomes of commands.
 ghost use Rattle.std.specs.Prelude.{◌≡◌};
-ghost use Rattle.hub_core.specs.Push.{is_done};
+ghost use Rattle.hub_core.specs.Push.{is_done, outcome_number};
 
 use base_types::ItemList;
 use git_object::ObjectId;
@@ -39,5 +39,19 @@ impl Outcome {
         ensures { result ≡ is_done self }
     {
         matches!(self, Outcome::Done)
+    }
+
+    /// The number by which the outcome is known, whatever it holds. A variant with a field can't bear it itself.
+    pub fn number(self) -> u8
+        ensures { result ≡ outcome_number self }
+    {
+        match self {
+            Outcome::Done => 1,
+            Outcome::NotAdvertised(_) => 5,
+            Outcome::Stale(_) => 11,
+            Outcome::AtomicOther(_) => 13,
+            Outcome::Collided(_) => 14,
+            Outcome::Full(_) => 17,
+        }
     }
 }

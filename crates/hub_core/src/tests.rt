@@ -194,6 +194,7 @@ fn a_create_is_judged_by_its_opening_and_then_by_the_refs(rt: HostRuntime) -> Re
     assert!(rt; is_told(&late, Outcome::NotAdvertised(A)));
     let hub = desk.into_hub();
     assert!(rt; testing_has(alloc, &hub, b"refs/heads/a", 1, A)?);
+    assert_eq!(rt; hub.ref_count(), 1);
     assert_eq!(rt; hub.log().len(), 6);
     Ok(())
 }
@@ -226,6 +227,7 @@ fn another_push_does_what_is_not_refused(rt: HostRuntime) -> Result<(), Fail> {
     let hub = desk.into_hub();
     assert!(rt; testing_has(alloc, &hub, b"refs/heads/a", 2, B)?);
     assert!(rt; testing_has(alloc, &hub, b"refs/heads/b", 2, A)?);
+    assert_eq!(rt; hub.ref_count(), 3);
     Ok(())
 }
 
