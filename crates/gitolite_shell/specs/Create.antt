@@ -50,6 +50,6 @@ unfoldable pub is_first_pack : ObjectId → List Content → Bool
 is_first_pack new (a ∷ b ∷ []) = (is_first_commit new a && same_object b empty_tree) || (same_object a empty_tree && is_first_commit new b)
 is_first_pack new objects = false
 
--- its ref's name is
+-- its ref's name has at most 1,024 bytes
 abbrev pub HasShortName : Command → Type 0
 HasShortName command = length command.name ≤ 1024

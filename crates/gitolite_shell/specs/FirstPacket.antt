@@ -45,6 +45,6 @@ asked line = do
   ended ← at_end rest
   Some (record { user = user.0; repo = repo.0 })
 
--- both names are
+-- both names have at most 64 bytes
 abbrev pub AreShort : Asked → Type 0
 AreShort a = (length a.user ≤ 64) × (length a.repo ≤ 64)
