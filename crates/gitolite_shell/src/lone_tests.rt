@@ -1,6 +1,9 @@
 // Rows of the program run by one caller.
 use crate::frames::read_frame;
-use crate::lone::lone_main;
+use crate::lone::{Ended, lone_main};
+use crate::session_tests::{DONE, EMPTY, first_push, is_granted, told};
+use base_types::NoMemory;
+use hub_core::Outcome;
 use pktline_core::MemoryLink;
 use std::alloc::Global;
 use std::test::Fail;
@@ -120,5 +123,113 @@ fn faults_have_their_status(rt: HostRuntime) -> Result<(), Fail> {
     let mut source = link(alloc, b"x")?;
     let mut full = MemoryLink::new(Vec::new(alloc), 7, Vec::new(alloc), vec![in alloc; 0]?);
     assert_eq!(rt; lone_main(alloc, &words, &mut source, &mut full).status, 3);
+    Ok(())
+}
+
+// A frame of a session with this input.
+fn frame(alloc: Global, body: &[u8]) -> Result<Vec<u8>, NoMemory> {
+    let mut text = Vec::from_slice(alloc, b"session ")?;
+    text.extend_from_slice(body.len().to_string(alloc)?.as_bytes())?;
+    text.extend_from_slice(b"\n")?;
+    text.extend_from_slice(body)?;
+    text.extend_from_slice(b"\n")?;
+    Ok(text)
+}
+
+// A script of these frames, run whole: what is printed, and the end.
+fn run(alloc: Global, script: Vec<u8>) -> Result<(Vec<u8>, Ended), NoMemory> {
+    let mut words = Vec::new(alloc);
+    for word in ["script", "--admin", "admin"] {
+        words.push(word.to_string(alloc)?)?;
+    }
+    let mut source = MemoryLink::new(script, 65_536, Vec::new(alloc), Vec::new(alloc));
+    let mut sink = MemoryLink::new(Vec::new(alloc), 65_536, Vec::new(alloc), Vec::new(alloc));
+    let ended = lone_main(alloc, &words, &mut source, &mut sink);
+    Ok((sink.written().to_vec(alloc)?, ended))
+}
+
+// What the first push of a new hub prints.
+fn first_reply(alloc: Global) -> Result<Vec<u8>, NoMemory> {
+    let mut text = Vec::from_slice(alloc, b"session 1 served 149\n")?;
+    text.extend_from_slice(EMPTY)?;
+    text.extend_from_slice(DONE)?;
+    text.extend_from_slice(b"\n")?;
+    Ok(text)
+}
+
+const SECOND: &[u8] =
+    b"session 2 served 215\n00681c73cda3964d5dd51bdaad94efd235c910cf59de refs/heads/master\0report-status delete-refs no-thin atomic\n0000000eunpack ok\n0059ng refs/heads/master not advertised, it was 1c73cda3964d5dd51bdaad94efd235c910cf59de\n0000\n";
+
+#[test]
+fn a_push_is_printed_and_logged_and_a_second_one_is_told(rt: HostRuntime) -> Result<(), Fail> {
+    let alloc = rt.alloc();
+    let mut script = frame(alloc, &first_push(alloc)?)?;
+    script.extend_from_slice(&frame(alloc, &first_push(alloc)?)?)?;
+    let (printed, ended) = run(alloc, script)?;
+    let mut due = first_reply(alloc)?;
+    due.extend_from_slice(SECOND)?;
+    assert_eq!(rt; ended.status, 0);
+    assert!(rt; printed == due);
+    assert_eq!(rt; ended.log.len(), 4);
+    assert!(rt; is_granted(&ended.log, 0) && is_granted(&ended.log, 2));
+    assert!(rt; told(&ended.log, 1) == Some(Outcome::Done));
+    assert!(rt; matches!(told(&ended.log, 3), Some(Outcome::NotAdvertised(_))));
+    Ok(())
+}
+
+#[test]
+fn other_sessions_are_printed_with_their_ends(rt: HostRuntime) -> Result<(), Fail> {
+    let alloc = rt.alloc();
+    let rows: [(&[u8], &[u8], usize); 3] = [
+        (
+            b"002bcarol git-receive-pack 'gitolite-admin'",
+            b"session 1 denied 53\n0035ERR W any gitolite-admin carol DENIED by fallthru\n",
+            1,
+        ),
+        (
+            b"0024carol git-receive-pack 'testing'0000",
+            b"session 1 served 106\n00660000000000000000000000000000000000000000 capabilities^{}\0report-status delete-refs no-thin atomic\n0000\n",
+            1,
+        ),
+        (
+            b"0023carol git-upload-pack 'testing'",
+            b"session 1 not-built 17\n0011ERR not built\n",
+            0,
+        ),
+    ];
+    for (body, due, entries) in rows {
+        let (printed, ended) = run(alloc, frame(alloc, body)?)?;
+        assert_eq!(rt; ended.status, 0);
+        assert!(rt; printed.as_slice() == due);
+        assert_eq!(rt; ended.log.len(), entries);
+    }
+    Ok(())
+}
+
+// Whether the first push is printed and logged whole or, for want of memory, a beginning of both.
+fn is_begun(alloc: Global) -> Result<bool, NoMemory> {
+    let script = frame(alloc, &first_push(alloc)?)?;
+    let due = first_reply(alloc)?;
+    let (printed, Ended { status, log }) = run(alloc, script)?;
+    if log.len() > 0 && !is_granted(&log, 0) {
+        return Ok(false);
+    }
+    if log.len() > 1 && told(&log, 1) != Some(Outcome::Done) {
+        return Ok(false);
+    }
+    match status {
+        0 => Ok(printed == due && log.len() == 2),
+        4 => Ok(due.starts_with(&printed) && log.len() <= 2),
+        _ => Ok(false),
+    }
+}
+
+// With a number of `rt try --fail-alloc` it says of each place what want of memory leaves; without, nothing wants.
+#[test]
+fn want_of_memory_leaves_a_beginning(rt: HostRuntime) -> Result<(), Fail> {
+    match is_begun(rt.alloc()) {
+        Ok(begun) => assert!(rt; begun),
+        Err(NoMemory) => {}
+    }
     Ok(())
 }

@@ -20,13 +20,13 @@ const TRAILER: [u8; 20] = [
     0x82, 0x69, 0xdb, 0xdb,
 ];
 
-const EMPTY: &[u8] =
+pub const EMPTY: &[u8] =
     b"00660000000000000000000000000000000000000000 capabilities^{}\0report-status delete-refs no-thin atomic\n0000";
 
-const DONE: &[u8] = b"000eunpack ok\n0019ok refs/heads/master\n0000";
+pub const DONE: &[u8] = b"000eunpack ok\n0019ok refs/heads/master\n0000";
 
 // An opening, a create of a branch, and its pack.
-fn first_push(alloc: Global) -> Result<Vec<u8>, NoMemory> {
+pub fn first_push(alloc: Global) -> Result<Vec<u8>, NoMemory> {
     let mut input = OPENING.to_vec(alloc)?;
     input.extend_from_slice(COMMAND)?;
     input.extend_from_slice(b"PACK\0\0\0\x02\0\0\0\x02\x9c\x09")?;
@@ -56,7 +56,7 @@ fn serve(
 }
 
 // Whether an opening was granted at a place of the log.
-fn is_granted(log: &EntryList, place: usize) -> bool {
+pub fn is_granted(log: &EntryList, place: usize) -> bool {
     let Some(entry) = log.get(place) else {
         return false;
     };
@@ -67,7 +67,7 @@ fn is_granted(log: &EntryList, place: usize) -> bool {
 }
 
 // What the one command of the push at a place of the log was told.
-fn told(log: &EntryList, place: usize) -> Option<Outcome> {
+pub fn told(log: &EntryList, place: usize) -> Option<Outcome> {
     let entry = log.get(place)?;
     match &entry.event {
         Event::Entered { .. } => None,
@@ -150,34 +150,44 @@ fn what_leaves_the_form_is_told(rt: HostRuntime) -> Result<(), Fail> {
     Ok(())
 }
 
-#[test]
-fn faults_of_the_link_end_a_session(rt: HostRuntime) -> Result<(), Fail> {
-    let alloc = rt.alloc();
+// The end of the first push over a link that fails at these calls, and how many entries it makes.
+fn serve_failing(
+    alloc: Global,
+    takes: &[u64],
+    puts: &[u64],
+) -> Result<(SessionEnd, usize), NoMemory> {
+    let mut desk = new_desk(alloc)?;
     let input = first_push(alloc)?;
-    for call in 0..10 {
-        let failing = [call];
-        let mut desk = new_desk(alloc)?;
-        let mut link = MemoryLink::new(
-            input.clone()?,
-            65_520,
-            failing.to_vec(alloc)?,
-            Vec::new(alloc),
-        );
-        let end = session(alloc, &mut link, &mut desk, &mut OpenGate);
-        assert_eq!(rt; end, SessionEnd::ReadFault);
-        let mut link = MemoryLink::new(
-            input.clone()?,
-            65_520,
-            Vec::new(alloc),
-            failing.to_vec(alloc)?,
-        );
-        let end = session(alloc, &mut link, &mut desk, &mut OpenGate);
-        let wanted = if call < 8 {
-            SessionEnd::WriteFault
+    let mut link = MemoryLink::new(input, 65_520, takes.to_vec(alloc)?, puts.to_vec(alloc)?);
+    let end = session(alloc, &mut link, &mut desk, &mut OpenGate);
+    Ok((end, desk.into_hub().into_log().len()))
+}
+
+// The opening is made once the first packet is read, in two calls, and the push once all is.
+#[test]
+fn each_read_that_fails_ends_a_session(rt: HostRuntime) -> Result<(), Fail> {
+    let mut served = false;
+    for call in 0..20u64 {
+        let (end, entries) = serve_failing(rt.alloc(), &[call], &[])?;
+        if end == SessionEnd::Served {
+            served = true;
+            assert_eq!(rt; entries, 2);
         } else {
-            SessionEnd::Served
-        };
-        assert_eq!(rt; end, wanted);
+            assert!(rt; !served && end == SessionEnd::ReadFault);
+            assert_eq!(rt; entries, if call < 2 { 0 } else { 1 });
+        }
+    }
+    assert!(rt; served);
+    Ok(())
+}
+
+// The advertisement is written in three calls, and the report in five.
+#[test]
+fn each_write_that_fails_ends_a_session(rt: HostRuntime) -> Result<(), Fail> {
+    for call in 0..8u64 {
+        let (end, entries) = serve_failing(rt.alloc(), &[], &[call])?;
+        assert_eq!(rt; end, SessionEnd::WriteFault);
+        assert_eq!(rt; entries, if call < 3 { 1 } else { 2 });
     }
     Ok(())
 }
