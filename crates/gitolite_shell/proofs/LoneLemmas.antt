@@ -1,5 +1,5 @@
 -- How a script that was run ends the program.
-use Rattle.std.proofs.Common.{◌≡◌, List, ℕ, [], subst, true, false, inr}
+use Rattle.std.proofs.Common.{◌≡◌, List, ℕ, [], subst, false, inr}
 use Rattle.std.specs.Prelude.{Result, Ok, Err, Some, OnOk, IfErr}
 use Rattle.pktline_core.specs.LinkState.{LinkState}
 use Rattle.hub_core.specs.declared.entry.Entry.{Entry}

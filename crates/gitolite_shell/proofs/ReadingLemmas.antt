@@ -6,7 +6,7 @@ use Rattle.pktline_core.specs.LinkState.{LinkState}
 use Rattle.pktline_core.specs.Links.{IsLater}
 use Rattle.pktline_core.proofs.LinkLemmas.{consumes_more, risen_later}
 use Rattle.gitolite_shell.specs.Frames.{head_text, frame_text, BeginsNoFrame}
-use Rattle.gitolite_shell.specs.ReadingFrames.{StopsAtByte, Takes, FailsAfter, FailsInLine, FailsInBody, FailsInFrame, HasNoFeed, IsRest, TakesNoLine, StopsInLine, IsSizeIn, HasNoSize, TakesBody, StopsInBody, TakesFrame, TakesNoFrame, StopsInFrame}
+use Rattle.gitolite_shell.specs.ReadingFrames.{StopsAtByte, Takes, FailsAfter, HasNoFeed, IsRest, TakesNoLine, StopsInLine, IsSizeIn, HasNoSize, TakesBody, StopsInBody, TakesFrame, TakesNoFrame, StopsInFrame}
 use Rattle.gitolite_shell.specs.declared.frames.FrameFault.{FrameFault}
 use Rattle.gitolite_shell.specs.declared.frames.FrameFault.TheVariants.{Bad, ReadFault, NoMemory}
 use Rattle.gitolite_shell.proofs.FrameLemmas.{begins_line, begins_long, begins_cut, begins_short, begins_open}

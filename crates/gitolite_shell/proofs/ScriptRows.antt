@@ -26,17 +26,13 @@ nothing_follows : last_line (bad_offset (codes "abcde" ∷ []) []) ≡ []
 nothing_follows = refl
 
 good_words : script_admin (codes "script" ∷ codes "--admin" ∷ codes "alice" ∷ []) ≡ Some (codes "alice")
-unfolding script_admin
 good_words = refl
 
 no_flag : script_admin (codes "script" ∷ codes "alice" ∷ []) ≡ None
-unfolding script_admin
 no_flag = refl
 
 a_capital : script_admin (codes "script" ∷ codes "--admin" ∷ codes "Alice" ∷ []) ≡ None
-unfolding script_admin
 a_capital = refl
 
 a_word_more : script_admin (codes "script" ∷ codes "--admin" ∷ codes "alice" ∷ codes "bob" ∷ []) ≡ None
-unfolding script_admin
 a_word_more = refl

@@ -114,7 +114,8 @@ fn first_no_letter_or_dash(bytes: &[u8]) -> Option<usize>
     bytes.iter().position(|c| !is_letter_or_dash(*c))
 }
 
-fn is_letter(c: u8) -> bool
+/// Whether it is a lower-case letter.
+pub fn is_letter(c: u8) -> bool
     ensures { result ≡ is_letter c }
 {
     matches!(c, b'a'..=b'z')

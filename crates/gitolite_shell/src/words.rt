@@ -5,15 +5,11 @@ ghost use Rattle.std.specs.List.{list_all};
 ghost use Rattle.gitolite_shell.specs.FirstPacket.{is_letter};
 ghost use Rattle.gitolite_shell.specs.Words.{is_user_name, script_admin};
 
+use crate::first_packet::is_letter;
+
 /// What is printed where the words are refused.
 pub const USAGE: &str =
     "usage: gitolite_shell script --admin NAME | serve --admin NAME --workers K --sessions N | check | load N START\n";
-
-fn is_letter(byte: u8) -> bool
-    ensures { result ≡ is_letter byte }
-{
-    matches!(byte, b'a'..=b'z')
-}
 
 fn all_letters(name: &[u8]) -> bool
     ensures { result ≡ list_all is_letter name.now }
