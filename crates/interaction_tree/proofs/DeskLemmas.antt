@@ -72,8 +72,7 @@ makes_alone a b (one ∷ own) alone p =
     let event : one.entry.event ≡ answered (history_from (new_history a.admin) a.seen) (asked one) =
     one_answered a mid one makes ∙ ap (λ (l : List Entry). answered (history_from (new_history a.admin) l) (asked one)) before in
     let ih = makes_alone mid b own (subst (λ (x : Bool). IsTrue x) (sym makes.made.alone) alone) p.2 in
-    let seen : mid.seen ≡ a.seen ++ one.entry ∷ [] = seen_one a mid one makes ∙ ap (λ (l : List Entry). l ++ one.entry ∷ []) before in
-    (
+    let seen : mid.seen ≡ a.seen ++ one.entry ∷ [] = seen_one a mid one makes ∙ ap (λ (l : List Entry). l ++ one.entry ∷ []) before in (
       before,
       (λ i. record { caller = caller i; event = event i }),
       subst (λ (p : Name × List Entry). IsAlone p.0 p.1 own b.seen) (λ i. (makes.made.admin i, seen i)) ih,
