@@ -1,1 +1,3 @@
 pub mod RefName
+pub mod Objects
+pub mod Table
