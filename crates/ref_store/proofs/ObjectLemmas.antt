@@ -1,11 +1,12 @@
 -- Where a name stands first in a list of objects.
-use Rattle.std.proofs.Common.{◌≡◌, ℕ, zero, suc, ◌+◌, ◌<◌, ◌≤◌, Bool, true, false, ◌&&◌, cond, nat_eq, nat_lt, List, [], ◌∷◌, ◌++◌, take, length, get_or, Option, None, Some, refl, sym, ◌∙◌, ap, arith, ◌⊎◌, inl, inr}
+use Rattle.std.proofs.Common.{◌≡◌, ℕ, zero, suc, ◌+◌, ◌-◌, ◌<◌, ◌≤◌, Bool, true, false, ◌&&◌, ◌||◌, cond, nat_eq, nat_lt, List, [], ◌∷◌, ◌++◌, take, length, get_or, Option, None, Some, refl, sym, ◌∙◌, ap, arith, ◌⊎◌, inl, inr}
 use Rattle.std.proofs.lemmas.Bool.Decides.{nat_tests}
 use Rattle.std.proofs.lemmas.Cmp.{nat_list_eq_equiv}
 use Rattle.std.specs.Prelude.{slice_get, is_some}
 use Rattle.std.specs.Option.{option_map}
 use lib.Pointwise.{pointwise}
 use Rattle.git_object.specs.Content.{Content}
+use Rattle.git_object.specs.declared.kind.Kind.TheVariants.{Blob}
 use Rattle.git_object.specs.Object.{object_name}
 use Rattle.git_object.specs.declared.object_id.ObjectId.{ObjectId}
 use Rattle.ref_store.specs.Objects.{same_id, has_object, first_named, place_of}
@@ -175,4 +176,103 @@ place_within (suc k) (x ∷ xs) id i is =
     elim (cases_some (same_id id (object_name x)) (place_of (take k xs) id) i is) [
       | inl w ↦ omega (arith, w.1)
       | inr w ↦ omega (arith, w.1.2, place_within k xs id w.1.0 w.1.1)
+    ]
+
+within_some : (k : ℕ) (p : Option ℕ) (i : ℕ) → within k p ≡ Some i → (p ≡ Some i) × (i < k)
+within_some k None i is = cc
+within_some k (Some j) i is = by_test (nat_lt j k) refl is
+  where
+    by_test : (b : Bool) → nat_lt j k ≡ b → cond b (Some j) None ≡ Some i → (Some j ≡ Some i) × (i < k)
+    by_test true e same = let j_is : j ≡ i = cc in (same, grind (arith, nat_tests))
+    by_test false e same = cc
+
+within_none : (k i : ℕ) → within k (Some i) ≡ None → k ≤ i
+within_none k i is = by_test (nat_lt i k) refl is
+  where
+    by_test : (b : Bool) → nat_lt i k ≡ b → cond b (Some i) None ≡ None → k ≤ i
+    by_test true e same = cc
+    by_test false e same = grind (arith, nat_tests)
+
+within_moved : (len k : ℕ) (p : Option ℕ) → within k (option_map (λ i. len + i) p) ≡ option_map (λ i. len + i) (within (k - len) p)
+within_moved len k None = refl
+within_moved len k (Some j) =
+    let is : nat_lt (len + j) k ≡ nat_lt j (k - len) = grind (arith, nat_tests) in
+    ap (λ b. cond b (Some (len + j)) None) is ∙ elim (nat_lt j (k - len)) as (λ b. cond b (Some (len + j)) None ≡ option_map (λ i. len + i) (cond b (Some j) None)) [ true ↦ refl | false ↦ refl ]
+
+-- among the first so many of two lists, a name stands where it does in the first
+pub before_kept : (k : ℕ) (xs ys : List Content) (id : ObjectId) (i : ℕ) → place_of (take k xs) id ≡ Some i → place_of (take k (xs ++ ys)) id ≡ Some i
+before_kept k xs ys id i is =
+    let parts = within_some k (place_of xs id) i (sym (place_take k xs id) ∙ is) in
+    place_take k (xs ++ ys) id ∙ ap (within k) (place_kept xs ys id i parts.0) ∙ within_yes k i parts.1
+
+-- or else where it does in the second
+pub before_behind : (k : ℕ) (xs ys : List Content) (id : ObjectId) → place_of (take k xs) id ≡ None → place_of (take k (xs ++ ys)) id ≡ option_map (λ i. length xs + i) (place_of (take (k - length xs) ys) id)
+before_behind k xs ys id is = by_place (place_of xs id) refl
+  where
+    none_among : within k (place_of xs id) ≡ None
+    none_among = sym (place_take k xs id) ∙ is
+    by_place : (p : Option ℕ) → place_of xs id ≡ p → place_of (take k (xs ++ ys)) id ≡ option_map (λ i. length xs + i) (place_of (take (k - length xs) ys) id)
+    by_place None none =
+        place_take k (xs ++ ys) id
+        ∙ ap (within k) (place_behind xs ys id none)
+        ∙ within_moved (length xs) k (place_of ys id)
+        ∙ ap (option_map (λ i. length xs + i)) (sym (place_take (k - length xs) ys id))
+    by_place (Some i) some =
+        let past = within_none k i (ap (within k) (sym some) ∙ none_among) in
+        let below = (place_there xs id i (record { kind = Blob; body = [] }) some).0 in
+        let zero_left : k - length xs ≡ 0 = omega (arith, past, below) in
+        place_take k (xs ++ ys) id
+        ∙ ap (within k) (place_kept xs ys id i some)
+        ∙ within_no k i past
+        ∙ ap (λ n. option_map (λ i. length xs + i) (place_of (take n ys) id)) (sym zero_left)
+
+-- the object at the place of a name
+pub object_there : (k : ℕ) (xs : List Content) (id : ObjectId) (i : ℕ) → place_of (take k xs) id ≡ Some i → i < length xs
+object_there k xs id i is =
+    let parts = within_some k (place_of xs id) i (sym (place_take k xs id) ∙ is) in
+    (place_there xs id i (record { kind = Blob; body = [] }) parts.0).0
+
+pub get_kept : (xs ys : List Content) (i : ℕ) (o : Content) → slice_get xs i ≡ Some o → slice_get (xs ++ ys) i ≡ Some o
+get_kept [] ys i o is = cc
+get_kept (x ∷ xs) ys zero o is = is
+get_kept (x ∷ xs) ys (suc i) o is = get_kept xs ys i o is
+
+pub get_behind : (xs ys : List Content) (i : ℕ) → slice_get (xs ++ ys) (length xs + i) ≡ slice_get ys i
+get_behind [] ys i = ap (slice_get ys) (omega arith)
+get_behind (x ∷ xs) ys i = let e : length (x ∷ xs) + i ≡ suc (length xs + i) = omega arith in ap (slice_get (x ∷ (xs ++ ys))) e ∙ get_behind xs ys i
+
+chosen_kept : (b : Bool) (x o : Content) (p q : Option Content) → (p ≡ Some o → q ≡ Some o) → cond b (Some x) p ≡ Some o → cond b (Some x) q ≡ Some o
+chosen_kept true x o p q rest is = is
+chosen_kept false x o p q rest is = rest is
+
+pub first_kept : (xs ys : List Content) (id : ObjectId) (o : Content) → first_named xs id ≡ Some o → first_named (xs ++ ys) id ≡ Some o
+first_kept [] ys id o is = cc
+first_kept (x ∷ xs) ys id o is = chosen_kept (same_id id (object_name x)) x o (first_named xs id) (first_named (xs ++ ys) id) (first_kept xs ys id o) is
+
+chosen_behind : (b : Bool) (x : Content) (p q r : Option Content) → (p ≡ None → q ≡ r) → cond b (Some x) p ≡ None → cond b (Some x) q ≡ r
+chosen_behind true x p q r rest is = cc
+chosen_behind false x p q r rest is = rest is
+
+pub first_behind : (xs ys : List Content) (id : ObjectId) → first_named xs id ≡ None → first_named (xs ++ ys) id ≡ first_named ys id
+first_behind [] ys id is = refl
+first_behind (x ∷ xs) ys id is = chosen_behind (same_id id (object_name x)) x (first_named xs id) (first_named (xs ++ ys) id) (first_named ys id) (first_behind xs ys id) is
+
+-- an object is at each place below the length
+pub no_object : (xs : List Content) (i : ℕ) → i < length xs → None ≡ slice_get xs i → ⊥
+no_object [] i below is = omega (arith, below)
+no_object (x ∷ xs) zero below is = cc
+no_object (x ∷ xs) (suc i) below is = no_object xs i (omega (arith, below)) is
+
+pub has_none : (xs : List Content) (id : ObjectId) → place_of xs id ≡ None → has_object xs id ≡ false
+has_none [] id is = refl
+has_none (x ∷ xs) id is =
+    let parts = cases_none (same_id id (object_name x)) (place_of xs id) is in
+    ap (λ b. b || has_object xs id) parts.0 ∙ has_none xs id parts.1
+
+pub has_some : (xs : List Content) (id : ObjectId) (i : ℕ) → place_of xs id ≡ Some i → has_object xs id ≡ true
+has_some [] id i is = cc
+has_some (x ∷ xs) id i is =
+    elim (cases_some (same_id id (object_name x)) (place_of xs id) i is) [
+      | inl w ↦ ap (λ b. b || has_object xs id) w.0
+      | inr w ↦ ap (λ b. b || has_object xs id) w.0 ∙ has_some xs id w.1.0 w.1.1
     ]

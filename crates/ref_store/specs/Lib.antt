@@ -1,3 +1,6 @@
 pub mod RefName
 pub mod Objects
 pub mod Table
+pub mod Lacking
+pub mod Store
+pub mod Codes

@@ -1,6 +1,6 @@
 // Objects in order, found by their names.
-ghost use Rattle.std.specs.Prelude.{◌≡◌, ◌++◌, ◌∷◌, ◌<◌, ◌^◌, [], IfOk, length, OnErr, OnOk, slice_get, take};
-ghost use Rattle.std.specs.Option.{option_copied};
+ghost use Rattle.std.specs.Prelude.{◌≡◌, ◌++◌, ◌∷◌, ◌<◌, ◌^◌, [], IfOk, IfSome, length, OnErr, OnOk, slice_get, Some, take};
+ghost use Rattle.std.specs.Option.{option_copied, option_map};
 ghost use Rattle.ref_store.specs.Objects.{first_named, place_of};
 
 use base_types::NoMemory;
@@ -55,6 +55,13 @@ impl ObjectTable {
         &self.objects
     }
 
+    pub fn len(&self) -> usize
+        ensures len { result ≡ length self.now }
+        ensures small { result < 2 ^ 63 }
+    {
+        self.objects.len()
+    }
+
     pub fn get(&self, at: usize) -> Option<&Object>
         ensures { option_copied result ≡ slice_get self.now at }
     {
@@ -85,6 +92,28 @@ impl ObjectTable {
             Some(at) => self.get(at),
             None => None,
         }
+    }
+
+    /// The object of the name that stands first among the first so many, and its place.
+    pub fn before(&self, id: ObjectId, among: usize) -> Option<(usize, &Object)>
+        ensures place { option_map (λ p. p.0) result ≡ place_of (take among self.now) id }
+        ensures object { IfSome result (λ p. slice_get self.now p.0 ≡ Some p.1.now) }
+        ensures within { IfSome result (λ p. p.0 < length self.now) }
+    {
+        let Some(at) = self.place(id, among) else {
+            return None;
+        };
+        match self.get(at) {
+            Some(object) => Some((at, object)),
+            None => None,
+        }
+    }
+
+    /// The object of the name that stands first.
+    pub fn first(&self, id: ObjectId) -> Option<&Object>
+        ensures { option_copied result ≡ first_named self.now id }
+    {
+        self.named(id, self.objects.len())
     }
 
     /// Adds an object at the end.
