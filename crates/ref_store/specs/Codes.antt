@@ -7,13 +7,11 @@ use Rattle.git_object.specs.Content.{Content}
 use Rattle.git_object.specs.declared.object_id.ObjectId.{ObjectId}
 use Rattle.git_object.specs.declared.kind.Kind.{Kind}
 use Rattle.git_object.specs.contracts.kind.Kind as kind
+use Rattle.ref_store.specs.RefCodes.{coded_id}
 use Rattle.ref_store.specs.Store.{Store}
 
 abbrev pub coded_name : Coded (List ℕ)
 coded_name = coded_list coded_ℕ
-
-abbrev pub coded_id : Coded ObjectId
-coded_id = code_by (List ℕ) coded_name (λ i. i.bytes) (λ b. record { bytes = b }) (λ _. refl)
 
 abbrev pub coded_content : Coded Content
 coded_content = code_by (Kind × List ℕ) (coded× kind.the_row.coded coded_name) (λ c. (c.kind, c.body)) (λ p. record { kind = p.0; body = p.1 }) (λ _. refl)

@@ -1,4 +1,7 @@
 pub mod RefName
+pub mod RefCodes
+pub mod Refs
+pub mod Odds
 pub mod Objects
 pub mod Table
 pub mod Lacking

@@ -4,8 +4,9 @@ ghost use Rattle.std.specs.Option.{option_copied, option_map};
 ghost use Rattle.ref_store.specs.Objects.{first_named, place_of};
 
 use crate::object_table::ObjectTable;
+use crate::repo::Repo;
 use base_types::NoMemory;
-use git_object::{Object, ObjectId};
+use git_object::{Object, ObjectId, ObjectList};
 use std::alloc::Global;
 use std::marker::Model;
 
@@ -26,6 +27,13 @@ impl<'a> Model for Lens<'a> {
 }
 
 impl<'a> Lens<'a> {
+    /// Holds handles of the pack's objects; their bodies are shared.
+    pub fn new(alloc: Global, repo: &'a Repo, pack: &ObjectList) -> Result<Lens<'a>, NoMemory>
+        ensures { IfOk result (λ l. l ≡ repo.now.objects ++ pack.now) }
+    {
+        Lens::over(alloc, repo.table(), pack.as_slice())
+    }
+
     pub(crate) fn over(
         alloc: Global,
         kept: &'a ObjectTable,

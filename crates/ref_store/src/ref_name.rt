@@ -45,6 +45,12 @@ impl RefName {
     {
         self.text.bytes()
     }
+
+    pub(crate) fn text(&self) -> &Text
+        ensures { result.now ≡ self.now }
+    {
+        &self.text
+    }
 }
 
 fn is_ref_name(text: &[u8]) -> bool

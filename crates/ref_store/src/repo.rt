@@ -1,16 +1,21 @@
 // A repository.
-ghost use Rattle.std.specs.Prelude.{◌≡◌, ◌++◌, [], IfOk, length, slice_get, take};
+ghost use Rattle.std.specs.Prelude.{◌≡◌, ◌++◌, ◌↔◌, [], IfOk, IsTrue, length, slice_get, take};
 ghost use Rattle.std.specs.Arc.{arc_value};
 ghost use Rattle.std.specs.FinMap as map;
 ghost use Rattle.std.specs.Option.{option_copied};
 ghost use Rattle.ref_store.specs.Objects.{first_named, HasNamesOnce};
-ghost use Rattle.ref_store.specs.Store.{left_by, TellsOfAdding};
+ghost use Rattle.ref_store.specs.Refs.{value, zero_id};
+ghost use Rattle.ref_store.specs.Store.{left_by, moved_by, TellsOfAdding, TellsOfMove};
 
 use crate::lacking::{Lacking, compare};
 use crate::object_table::ObjectTable;
-use base_types::{NameMap, NoMemory};
+use crate::odds::at_odds;
+use crate::ref_map::RefMap;
+use crate::ref_name::RefName;
+use base_types::{NoMemory, Text};
 use git_object::{Object, ObjectId, ObjectList};
 use std::alloc::Global;
+use std::collections::btree_map::Iter;
 use std::marker::Model;
 use std::sync::Arc;
 
@@ -22,7 +27,7 @@ const MAX_OBJECTS: usize = 4_294_967_295;
 pub struct Repo {
     alloc: Global,
     objects: Arc<ObjectTable>,
-    refs: NameMap<ObjectId>,
+    refs: RefMap,
 }
 
 /// What came of adding a pack's objects.
@@ -37,6 +42,17 @@ pub enum Added {
     },
     /// There would be this many objects.
     Full(u64),
+    NoMemory,
+}
+
+/// What came of creating a ref.
+#[derive(Drop)]
+pub enum Applied {
+    Moved,
+    /// The ref has this value, and not the one that was thought of.
+    Stale(ObjectId),
+    /// This ref is a directory of the name or stands below it.
+    DirFile(Text),
     NoMemory,
 }
 
@@ -63,8 +79,44 @@ impl Repo {
         Ok(Repo {
             alloc,
             objects: Arc::new(alloc, ObjectTable::new(alloc))?,
-            refs: NameMap::new(alloc),
+            refs: RefMap::new(alloc),
         })
+    }
+
+    /// A copy with the same objects and refs. It costs the refs, and no object.
+    pub fn copy(&self) -> Result<Repo, NoMemory>
+        ensures { IfOk result (λ r. r ≡ self.now) }
+    {
+        let refs = self.refs.copy()?;
+        let objects = Arc::try_clone(&self.objects)?;
+        Ok(Repo {
+            alloc: self.alloc,
+            objects,
+            refs,
+        })
+    }
+
+    /// The refs with their values, in the byte order of their names.
+    pub fn refs(&self) -> Iter<'_, Text, ObjectId>
+        ensures { result ≡ map.entries self.now.refs }
+    {
+        self.refs.iter()
+    }
+
+    /// A ref's value, zero where it is absent.
+    pub fn value(&self, name: &Text) -> ObjectId
+        ensures { result ≡ value self.now.refs name.now }
+    {
+        match self.refs.get(name) {
+            Some(id) => *id,
+            None => ObjectId::zero(),
+        }
+    }
+
+    pub(crate) fn table(&self) -> &ObjectTable
+        ensures { result.now ≡ self.now.objects }
+    {
+        &self.objects
     }
 
     /// How many objects there are, of which no two have one name.
@@ -87,6 +139,31 @@ impl Repo {
         ensures { option_copied result ≡ first_named (take first_k self.now.objects) id }
     {
         self.objects.named(id, first_k)
+    }
+
+    /// Creates a ref. It looks at no more refs than the name has directories, and at one behind them.
+    pub fn apply(&mut self, name: &RefName, old: ObjectId, new: ObjectId) -> Applied
+        requires old { old ≡ zero_id }
+        requires new { ¬ (new ≡ zero_id) }
+        ensures told { TellsOfMove self.old.refs name.now old result }
+        ensures repo { self.new ≡ moved_by self.old name.now new result }
+    {
+        let value = self.value(name.text());
+        if !same_id(value, old) {
+            return Applied::Stale(value);
+        }
+        match at_odds(self.alloc, &self.refs, name.bytes()) {
+            Ok(Some(other)) => return Applied::DirFile(other),
+            Ok(None) => {}
+            Err(NoMemory) => return Applied::NoMemory,
+        }
+        let Ok(name) = name.text().clone() else {
+            return Applied::NoMemory;
+        };
+        match self.refs.insert(name, new) {
+            Ok(()) => Applied::Moved,
+            Err(NoMemory) => Applied::NoMemory,
+        }
     }
 
     /// Adds the objects of a pack that are not there. Whoever has a copy doesn't see them.
@@ -115,6 +192,12 @@ impl Repo {
         self.objects = objects;
         Added::Added
     }
+}
+
+fn same_id(a: ObjectId, b: ObjectId) -> bool
+    ensures { IsTrue result ↔ (a ≡ b) }
+{
+    a == b
 }
 
 // A table of the objects of another, and of these behind them.
