@@ -1,7 +1,7 @@
 -- Refs in the byte order of their names.
-use Rattle.std.proofs.Common.{◌≡◌, ℕ, ◌+◌, ◌<◌, ◌≤◌, Bool, true, false, ◌&&◌, nat_eq, nat_lt, List, [], ◌∷◌, ◌++◌, take, drop, length, get_or, Option, None, Some, refl, sym, ◌∙◌, ap, subst, arith, inl, inr, length-append, append_assoc}
+use Rattle.std.proofs.Common.{◌≡◌, ℕ, ◌+◌, ◌<◌, ◌≤◌, Bool, true, false, ◌&&◌, cond, nat_eq, nat_lt, List, [], ◌∷◌, ◌++◌, take, drop, length, get_or, Option, None, Some, refl, sym, ◌∙◌, ap, subst, arith, inl, inr, length-append, append_assoc}
 use Rattle.std.proofs.lemmas.Bool.Decides.{nat_tests}
-use Rattle.std.proofs.lemmas.Cmp.{nat_cmp_total, tied_itself}
+use Rattle.std.proofs.lemmas.Cmp.{nat_cmp_total, nat_list_cmp_total, tied_itself}
 use Rattle.std.proofs.lemmas.List.{take-append-drop, drop_more, take_at, get_or_at, take-take}
 use Rattle.std.specs.Prelude.{IsSome}
 use Rattle.std.specs.BTreeMap as tree
@@ -10,15 +10,17 @@ use Rattle.std.specs.BTreeMap.Range.{IsRangeOf}
 use Rattle.std.specs.declared.ops.Bound.TheVariants.{Included, Unbounded}
 use Rattle.std.specs.declared.cmp.Ordering.{Ordering}
 use Rattle.std.specs.declared.cmp.Ordering.TheVariants.{Less, Equal, Greater}
-use Rattle.std.specs.Ordering.{nat_cmp, is_gt, ordering_then}
+use Rattle.std.specs.Ordering.{nat_cmp, is_gt, ordering_then, eq_by_cmp}
 use Rattle.std.specs.Cmp.Lexicographic.{slice_cmp}
-use Rattle.std.specs.FinMap.{get, from_entries}
+use Rattle.std.specs.FinMap.{get, from_entries, insert, empty, get-insert, get-empty}
 use Rattle.std.specs.Option.{IfSome}
 use Rattle.std.specs.Prelude.{slice_get}
 use lib.Pointwise.{pointwise}
 use Rattle.base_types.proofs.NameMaps.{get-entries}
 use Rattle.git_object.specs.declared.object_id.ObjectId.{ObjectId}
-use Rattle.ref_store.specs.Refs.{Name, Refs, IsLe, IsLeastFrom, IsBelow, AreAtOdds, IsLeastAtOdds, HasNoneAtOdds}
+use Rattle.ref_store.specs.Refs.{Name, Refs, HasRefNames, IsLe, IsLeastFrom, IsBelow, AreAtOdds, IsLeastAtOdds, HasNoneAtOdds}
+use Rattle.std.specs.Cmp.Lexicographic.{texts_ties}
+use Rattle.ref_store.specs.RefName.{is_ref_name}
 use Rattle.ref_store.specs.Odds.{HasNoDirectory}
 use Rattle.ref_store.proofs.ObjectLemmas.{same_bytes}
 
@@ -133,3 +135,14 @@ below_none refs name front is none first = λ q some odds. elim odds [
     | inl w ↦ none_isnt (get refs q) some (first q (subst (IsLe front) (ap (λ l. l ++ w.0) is ∙ sym (behind_front name w.0) ∙ sym w.1) (prefix_le front w.0)))
     | inr w ↦ none q some w
   ]
+
+pub no_ref_names : HasRefNames empty
+no_ref_names q some = absurd (none_isnt (get empty q) some (get-empty {X = ObjectId} (slice_cmp nat_cmp) q))
+
+-- a ref more, whose name is one
+pub one_ref_more : (refs : Refs) (name : Name) (id : ObjectId) → is_ref_name name ≡ true → HasRefNames refs → HasRefNames (insert refs name id)
+one_ref_more refs name id good all q some = by_name (eq_by_cmp (slice_cmp nat_cmp) q name) refl (subst IsSome (get-insert nat_list_cmp_total refs name id q) some)
+  where
+    by_name : (b : Bool) → eq_by_cmp (slice_cmp nat_cmp) q name ≡ b → IsSome (cond b (Some id) (get refs q)) → is_ref_name q ≡ true
+    by_name true same here = ap is_ref_name (same_bytes q name (texts_ties q name ∙ same)) ∙ good
+    by_name false other here = all q here

@@ -1,11 +1,12 @@
 -- Refs, and which names can't stand beside one another.
-use Rattle.std.specs.Prelude.{◌≡◌, ℕ, false, List, ◌∷◌, ◌++◌, ◌⊎◌, Option, None, Some, IsSome, replicate}
+use Rattle.std.specs.Prelude.{◌≡◌, ℕ, true, false, List, ◌∷◌, ◌++◌, ◌⊎◌, Option, None, Some, IsSome, replicate}
 use Rattle.std.specs.FinMap.{get}
 use Rattle.std.specs.Option.{unwrap_or}
 use Rattle.std.specs.Ordering.{nat_cmp, is_gt}
 use Rattle.std.specs.Cmp.Lexicographic.{slice_cmp}
 use Rattle.base_types.specs.Names.{ByName}
 use Rattle.git_object.specs.declared.object_id.ObjectId.{ObjectId}
+use Rattle.ref_store.specs.RefName.{is_ref_name}
 
 abbrev pub Name : Type 0
 Name = List ℕ
@@ -20,6 +21,10 @@ zero_id = record { bytes = replicate 20 0 }
 -- a ref's value, zero where it is absent
 abbrev pub value : Refs → Name → ObjectId
 value refs name = unwrap_or (get refs name) zero_id
+
+-- each ref has a name that a ref may have
+abbrev pub HasRefNames : Refs → Type 0
+HasRefNames refs = (q : Name) → IsSome (get refs q) → is_ref_name q ≡ true
 
 -- in byte order
 abbrev pub IsLe : Name → Name → Type 0

@@ -7,13 +7,18 @@ use Rattle.ref_store.specs.declared.repo.Added as added
 use Rattle.ref_store.specs.declared.repo.Added.TheVariants as told
 use Rattle.ref_store.specs.declared.repo.Applied as applied
 use Rattle.ref_store.specs.declared.repo.Applied.TheVariants as moving
-use Rattle.ref_store.specs.Refs.{Name, Refs, value, HasNoneAtOdds, IsLeastAtOdds}
-use Rattle.ref_store.specs.Objects.{with_pack, HasNoCollision, IsFirstCollision}
+use Rattle.ref_store.specs.Refs.{Name, Refs, value, HasRefNames, HasNoneAtOdds, IsLeastAtOdds}
+use Rattle.ref_store.specs.Objects.{with_pack, HasNamesOnce, HasNoCollision, IsFirstCollision}
 
 -- objects, in the order in which they came, and refs
 pub record Store : Type 0 where
   pub objects : List Content
   pub refs : Refs
+
+-- what a repository keeps: no two objects of one name, and only names that a ref may have
+pub record IsSound (store : Store) : Type 0 where
+  pub names : HasNamesOnce store.objects
+  pub refs : HasRefNames store.refs
 
 -- what is told of adding a pack's objects: where two objects of one name differ that is told; else, where there would be more than 4,294,967,295, how many there would be
 abbrev pub TellsOfAdding : List Content → List Content → added.Added → Type 0

@@ -24,3 +24,6 @@ pub use command::{Command, CommandList};
 pub use lens::Lens;
 pub use ref_name::RefName;
 pub use repo::{Added, Applied, Repo};
+
+#[cfg(test)]
+mod tests;

@@ -39,6 +39,14 @@ impl RefName {
         Ok(Some(RefName { text }))
     }
 
+    // The name whose text is known to keep the rule.
+    pub(crate) fn known(text: Text) -> RefName
+        requires { is_ref_name text ≡ true }
+        ensures { result ≡ text }
+    {
+        RefName { text }
+    }
+
     pub fn bytes(&self) -> &[u8]
         ensures bytes { result.now ≡ self.now }
         ensures rule { is_ref_name result.now ≡ true }

@@ -52,14 +52,13 @@ pub enum Applied {
     /// The ref has this value, and not the one that was thought of.
     Stale(ObjectId),
     /// This ref is a directory of the name or stands below it.
-    DirFile(Text),
+    DirFile(RefName),
     NoMemory,
 }
 
 impl Model for Repo {
     ghost use Rattle.std.specs.Arc.{arc_value};
-    ghost use Rattle.ref_store.specs.Objects.{HasNamesOnce};
-    ghost use Rattle.ref_store.specs.Store.{Store};
+    ghost use Rattle.ref_store.specs.Store.{IsSound, Store};
     ghost use Rattle.ref_store.specs.Codes.{coded_store};
 
     ghost Value = { Store };
@@ -68,7 +67,7 @@ impl Model for Repo {
 
     ghost view = { λ r. record { objects = arc_value r.objects; refs = r.refs } };
 
-    ghost invariant = { λ r. HasNamesOnce (arc_value r.objects) };
+    ghost invariant = { λ r. IsSound (record { objects = arc_value r.objects; refs = r.refs }) };
 }
 
 impl Repo {
@@ -153,17 +152,17 @@ impl Repo {
             return Applied::Stale(value);
         }
         match at_odds(self.alloc, &self.refs, name.bytes()) {
-            Ok(Some(other)) => return Applied::DirFile(other),
+            Ok(Some(other)) => return Applied::DirFile(RefName::known(other)),
             Ok(None) => {}
             Err(NoMemory) => return Applied::NoMemory,
         }
         let Ok(name) = name.text().clone() else {
             return Applied::NoMemory;
         };
-        match self.refs.insert(name, new) {
-            Ok(()) => Applied::Moved,
-            Err(NoMemory) => Applied::NoMemory,
-        }
+        let Ok(()) = self.refs.insert(name, new) else {
+            return Applied::NoMemory;
+        };
+        Applied::Moved
     }
 
     /// Adds the objects of a pack that are not there. Whoever has a copy doesn't see them.
