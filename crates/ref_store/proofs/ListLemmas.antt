@@ -1,5 +1,5 @@
 -- Lists of bytes.
-use Rattle.std.proofs.Common.{◌≡◌, ℕ, List, ◌∷◌, ◌<◌, ◌+◌, length, drop, get_or, ◌||◌, nat_eq, sym, ◌∙◌, ap}
+use Rattle.std.proofs.Common.{◌≡◌, ℕ, List, ◌<◌, ◌+◌, length, drop, ◌||◌, nat_eq, sym, ◌∙◌, ap}
 use Rattle.std.proofs.lemmas.List.{drop_more}
 use Rattle.std.specs.List.{starts_with}
 use Rattle.ref_store.specs.RefName.{occurs}

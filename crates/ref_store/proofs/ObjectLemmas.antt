@@ -211,6 +211,7 @@ before_behind k xs ys id is = by_place (place_of xs id) refl
   where
     none_among : within k (place_of xs id) ≡ None
     none_among = sym (place_take k xs id) ∙ is
+
     by_place : (p : Option ℕ) → place_of xs id ≡ p → place_of (take k (xs ++ ys)) id ≡ option_map (λ i. length xs + i) (place_of (take (k - length xs) ys) id)
     by_place None none =
         place_take k (xs ++ ys) id

@@ -132,8 +132,9 @@ so_far_differs kept pack fresh i p o b below is some there differ so_far =
 
 pub so_far_all : (kept pack fresh : List Content) (i : ℕ) → length pack ≤ i → SoFar kept pack fresh i → HasNoCollision (kept ++ pack) × (with_pack kept pack ≡ kept ++ fresh)
 so_far_all kept pack fresh i past so_far = (
-    subst HasNoCollision (ap (λ os. kept ++ os) (take_all i pack past)) so_far.apart,
-    sym so_far.added ∙ ap (with_pack (kept ++ fresh)) (drop_all i pack past))
+  subst HasNoCollision (ap (λ os. kept ++ os) (take_all i pack past)) so_far.apart,
+  sym so_far.added ∙ ap (with_pack (kept ++ fresh)) (drop_all i pack past),
+)
 
 -- where a name stands among what was gone through
 pub place_so_far : (lens kept pack : List Content) (n i : ℕ) (id : ObjectId) → lens ≡ kept ++ pack → n ≡ length kept + i → place_of (take n lens) id ≡ place_of (kept ++ take i pack) id

@@ -1,5 +1,5 @@
 -- Steps on the way to a ref that can't stand beside a name.
-use Rattle.std.specs.Prelude.{◌≡◌, ℕ, List, take, get_or, Option, None, Some, IsSome}
+use Rattle.std.specs.Prelude.{◌≡◌, ℕ, take, get_or, Option, None, Some, IsSome}
 use Rattle.std.specs.FinMap.{get}
 use Rattle.ref_store.specs.Refs.{Name, Refs, IsBelow, IsLeastAtOdds}
 

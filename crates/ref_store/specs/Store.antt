@@ -1,5 +1,5 @@
 -- What a repository stores, and what adding a pack's objects and creating a ref tell and leave.
-use Rattle.std.specs.Prelude.{◌≡◌, ℕ, ◌<◌, ◌≤◌, length, List, ◌++◌}
+use Rattle.std.specs.Prelude.{◌≡◌, ◌<◌, ◌≤◌, length, List, ◌++◌}
 use Rattle.std.specs.FinMap.{insert}
 use Rattle.git_object.specs.Content.{Content}
 use Rattle.git_object.specs.declared.object_id.ObjectId.{ObjectId}

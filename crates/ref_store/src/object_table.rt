@@ -73,13 +73,7 @@ impl ObjectTable {
         ensures { result ≡ place_of (take among self.now) id }
     {
         match self.places.get(&id) {
-            Some(at) => {
-                if *at < among {
-                    Some(*at)
-                } else {
-                    None
-                }
-            }
+            Some(at) => { if *at < among { Some(*at) } else { None } }
             None => None,
         }
     }

@@ -29,12 +29,7 @@ fn directory(alloc: Global, refs: &RefMap, name: &[u8]) -> Result<Option<Text>, 
 }
 
 // The directory that ends at this place, if it is a ref.
-fn dir_at(
-    alloc: Global,
-    refs: &RefMap,
-    name: &[u8],
-    i: usize,
-) -> Result<Option<Text>, NoMemory>
+fn dir_at(alloc: Global, refs: &RefMap, name: &[u8], i: usize) -> Result<Option<Text>, NoMemory>
     requires { i < length name.now }
     ensures { IfOk result (λ r. TellsOfPlace refs.now name.now i r) }
 {

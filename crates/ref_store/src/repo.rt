@@ -35,11 +35,7 @@ pub struct Repo {
 pub enum Added {
     Added,
     /// An object of the pack differs from one of its name before it. Places count the repository's objects and then the pack's.
-    Collision {
-        id: ObjectId,
-        kept: u64,
-        given: u64,
-    },
+    Collision { id: ObjectId, kept: u64, given: u64 },
     /// There would be this many objects.
     Full(u64),
     NoMemory,
@@ -200,11 +196,7 @@ fn same_id(a: ObjectId, b: ObjectId) -> bool
 }
 
 // A table of the objects of another, and of these behind them.
-fn grown(
-    alloc: Global,
-    kept: &ObjectTable,
-    fresh: &[Object],
-) -> Result<Arc<ObjectTable>, NoMemory>
+fn grown(alloc: Global, kept: &ObjectTable, fresh: &[Object]) -> Result<Arc<ObjectTable>, NoMemory>
     ensures { IfOk result (λ t. arc_value t ≡ kept.now ++ fresh.now) }
 {
     let mut table = ObjectTable::of(alloc, kept.objects())?;

@@ -20,7 +20,8 @@ fn blob(alloc: Global, body: &str) -> Result<Object, Fail> {
 
 #[test]
 fn names_that_keep_the_rule(rt: HostRuntime) -> Result<(), Fail> {
-    let texts = "refs/heads/main,refs/a/b/c,refs/heads/a.b,refs/heads/a.lockb,refs/heads/a.b.c,refs/heads/a@b{,refs/heads/@,refs/heads/\u{e9}";
+    let texts =
+        "refs/heads/main,refs/a/b/c,refs/heads/a.b,refs/heads/a.lockb,refs/heads/a.b.c,refs/heads/a@b{,refs/heads/@,refs/heads/\u{e9}";
     for text in texts.split(',') {
         assert!(rt; RefName::parse(rt.alloc(), text.as_bytes())?.is_some());
     }
@@ -29,7 +30,8 @@ fn names_that_keep_the_rule(rt: HostRuntime) -> Result<(), Fail> {
 
 #[test]
 fn names_that_break_one_clause_each(rt: HostRuntime) -> Result<(), Fail> {
-    let texts = "refs/heads,heads/main/a,refs/heads/,refs//main,refs/heads/.a,refs/heads/a.lock,refs/heads/a.lock/b,refs/heads/a b,refs/heads/a\u{7f},refs/heads/a\u{1f},refs/heads/a~,refs/heads/a^,refs/heads/a:b,refs/heads/a?,refs/heads/a*,refs/heads/a[,refs/heads/a\\b,refs/heads/a..b,refs/heads/a@{b,refs/heads/a.,";
+    let texts =
+        "refs/heads,heads/main/a,refs/heads/,refs//main,refs/heads/.a,refs/heads/a.lock,refs/heads/a.lock/b,refs/heads/a b,refs/heads/a\u{7f},refs/heads/a\u{1f},refs/heads/a~,refs/heads/a^,refs/heads/a:b,refs/heads/a?,refs/heads/a*,refs/heads/a[,refs/heads/a\\b,refs/heads/a..b,refs/heads/a@{b,refs/heads/a.,";
     for text in texts.split(',') {
         assert!(rt; RefName::parse(rt.alloc(), text.as_bytes())?.is_none());
     }

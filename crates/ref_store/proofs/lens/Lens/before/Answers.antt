@@ -1,4 +1,4 @@
-use Rattle.std.proofs.Common.{◌≡◌, ◌+◌, ◌-◌, ◌++◌, length, Some, take, sym, ◌∙◌, ap}
+use Rattle.std.proofs.Common.{◌+◌, ◌-◌, ◌++◌, length, Some, take, sym, ◌∙◌, ap}
 use Rattle.std.specs.Prelude.{slice_get}
 use Rattle.std.specs.Option.{option_map}
 use Rattle.ref_store.specs.Objects.{place_of}

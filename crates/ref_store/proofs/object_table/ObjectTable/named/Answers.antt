@@ -1,4 +1,4 @@
-use Rattle.std.proofs.Common.{◌≡◌, ◌<◌, Some, None, take, sym, ◌∙◌, ap}
+use Rattle.std.proofs.Common.{◌≡◌, Some, take, sym, ◌∙◌}
 use Rattle.ref_store.specs.Objects.{place_of}
 use Rattle.ref_store.proofs.ObjectLemmas.{first_none, first_there, place_within, slice_get_take}
 use Rattle.ref_store.proofs.object_table.ObjectTable.named.Goals as goal

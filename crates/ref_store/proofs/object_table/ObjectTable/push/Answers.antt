@@ -1,4 +1,4 @@
-use Rattle.std.proofs.Common.{rules, ◌≡◌, Some, sym, ◌∙◌, ap, cond, ◌∷◌, [], length}
+use Rattle.std.proofs.Common.{rules, ◌≡◌, Some, sym, ◌∙◌, ap, cond, length}
 use Rattle.std.specs.Map.{lookup}
 use Rattle.git_object.specs.Object.{object_name}
 use Rattle.ref_store.specs.Objects.{place_of, same_id}

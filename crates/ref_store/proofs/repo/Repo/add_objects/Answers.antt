@@ -11,7 +11,7 @@ invariant_of-self c =
     let kept = arc_value c.self.inside.objects in
     let pack = c.as_slice.result.now in
     let is : arc_value c.in-Ok.objects ≡ with_pack kept pack = cc (c.in-Ok.ensures, c.deref-3.ensures, c.deref-4.ensures.value, told.1, c.deref.ensures) in
-    record { names = subst HasNamesOnce (sym is) (once-with_pack kept pack c.self.invariant.names); refs = c.self.invariant.refs; }
+    record { names = subst HasNamesOnce (sym is) (once-with_pack kept pack c.self.invariant.names); refs = c.self.invariant.refs }
 
 pub returns-clause-told : goal.returns-clause-told
 returns-clause-told c =
