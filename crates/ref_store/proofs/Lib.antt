@@ -1,0 +1,4 @@
+pub mod ListLemmas
+pub mod ObjectLemmas
+pub mod PackLemmas
+pub mod RefLemmas

@@ -1,0 +1,9 @@
+pub mod RefName
+pub mod RefCodes
+pub mod Refs
+pub mod Odds
+pub mod Objects
+pub mod Table
+pub mod Lacking
+pub mod Store
+pub mod Codes

@@ -1,0 +1,17 @@
+-- Steps on the way to a ref that can't stand beside a name.
+use Rattle.std.specs.Prelude.{◌≡◌, ℕ, take, get_or, Option, None, Some, IsSome}
+use Rattle.std.specs.FinMap.{get}
+use Rattle.ref_store.specs.Refs.{Name, Refs, IsBelow, IsLeastAtOdds}
+
+-- no ref is a directory of the name
+abbrev pub HasNoDirectory : Refs → Name → Type 0
+HasNoDirectory refs name = (q : Name) → IsSome (get refs q) → ¬ IsBelow name q
+
+abbrev pub TellsOfDirectory : Refs → Name → Option Name → Type 0
+TellsOfDirectory refs name None = HasNoDirectory refs name
+TellsOfDirectory refs name (Some r) = IsLeastAtOdds refs name r
+
+-- whether a ref ends where the name has a slash
+abbrev pub TellsOfPlace : Refs → Name → ℕ → Option Name → Type 0
+TellsOfPlace refs name i None = get_or name i 0 ≡ 47 → get refs (take i name) ≡ None
+TellsOfPlace refs name i (Some r) = (get_or name i 0 ≡ 47) × (r ≡ take i name) × IsSome (get refs (take i name))

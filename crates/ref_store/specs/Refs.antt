@@ -1,0 +1,58 @@
+-- Refs, and which names can't stand beside one another.
+use Rattle.std.specs.Prelude.{◌≡◌, ℕ, true, false, List, ◌∷◌, ◌++◌, ◌⊎◌, Option, None, Some, IsSome, replicate}
+use Rattle.std.specs.FinMap.{get}
+use Rattle.std.specs.Option.{unwrap_or}
+use Rattle.std.specs.Ordering.{nat_cmp, is_gt}
+use Rattle.std.specs.Cmp.Lexicographic.{slice_cmp}
+use Rattle.base_types.specs.Names.{ByName}
+use Rattle.git_object.specs.declared.object_id.ObjectId.{ObjectId}
+use Rattle.ref_store.specs.RefName.{is_ref_name}
+
+abbrev pub Name : Type 0
+Name = List ℕ
+
+abbrev pub Refs : Type 0
+Refs = ByName ObjectId
+
+-- the id that stands for no object
+abbrev pub zero_id : ObjectId
+zero_id = record { bytes = replicate 20 0 }
+
+-- a ref's value, zero where it is absent
+abbrev pub value : Refs → Name → ObjectId
+value refs name = unwrap_or (get refs name) zero_id
+
+-- each ref has a name that a ref may have
+abbrev pub HasRefNames : Refs → Type 0
+HasRefNames refs = (q : Name) → IsSome (get refs q) → is_ref_name q ≡ true
+
+-- in byte order
+abbrev pub IsLe : Name → Name → Type 0
+IsLe a b = is_gt (slice_cmp nat_cmp a b) ≡ false
+
+-- the least name that is not before this one, or none
+abbrev pub IsLeastFrom : Refs → Name → Option Name → Type 0
+IsLeastFrom refs from None = (q : Name) → IsLe from q → get refs q ≡ None
+IsLeastFrom refs from (Some n) = IsSome (get refs n) × IsLe from n × ((q : Name) → IsLe from q → IsSome (get refs q) → IsLe n q)
+
+-- a name stands below another: it goes on behind it with a slash
+abbrev pub IsBelow : Name → Name → Type 0
+IsBelow name dir = (rest : Name) × (name ≡ dir ++ 47 ∷ rest)
+
+-- one is a directory of the other
+abbrev pub AreAtOdds : Name → Name → Type 0
+AreAtOdds a b = IsBelow a b ⊎ IsBelow b a
+
+-- the least ref, in byte order, that can't stand beside the name
+pub record IsLeastAtOdds (refs : Refs) (name r : Name) : Type 0 where
+  pub there : IsSome (get refs r)
+  pub at_odds : AreAtOdds r name
+  pub least : (q : Name) → IsSome (get refs q) → AreAtOdds q name → IsLe r q
+
+-- each ref can stand beside the name
+abbrev pub HasNoneAtOdds : Refs → Name → Type 0
+HasNoneAtOdds refs name = (q : Name) → IsSome (get refs q) → ¬ AreAtOdds q name
+
+abbrev pub TellsOfOdds : Refs → Name → Option Name → Type 0
+TellsOfOdds refs name None = HasNoneAtOdds refs name
+TellsOfOdds refs name (Some r) = IsLeastAtOdds refs name r

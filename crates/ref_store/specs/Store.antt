@@ -1,0 +1,45 @@
+-- What a repository stores, and what adding a pack's objects and creating a ref tell and leave.
+use Rattle.std.specs.Prelude.{◌≡◌, ◌<◌, ◌≤◌, length, List, ◌++◌}
+use Rattle.std.specs.FinMap.{insert}
+use Rattle.git_object.specs.Content.{Content}
+use Rattle.git_object.specs.declared.object_id.ObjectId.{ObjectId}
+use Rattle.ref_store.specs.declared.repo.Added as added
+use Rattle.ref_store.specs.declared.repo.Added.TheVariants as told
+use Rattle.ref_store.specs.declared.repo.Applied as applied
+use Rattle.ref_store.specs.declared.repo.Applied.TheVariants as moving
+use Rattle.ref_store.specs.Refs.{Name, Refs, value, HasRefNames, HasNoneAtOdds, IsLeastAtOdds}
+use Rattle.ref_store.specs.Objects.{with_pack, HasNamesOnce, HasNoCollision, IsFirstCollision}
+
+-- objects, in the order in which they came, and refs
+pub record Store : Type 0 where
+  pub objects : List Content
+  pub refs : Refs
+
+-- what a repository keeps: no two objects of one name, and only names that a ref may have
+pub record IsSound (store : Store) : Type 0 where
+  pub names : HasNamesOnce store.objects
+  pub refs : HasRefNames store.refs
+
+-- what is told of adding a pack's objects: where two objects of one name differ that is told; else, where there would be more than 4,294,967,295, how many there would be
+abbrev pub TellsOfAdding : List Content → List Content → added.Added → Type 0
+TellsOfAdding objects pack told.Added = HasNoCollision (objects ++ pack) × (length (with_pack objects pack) ≤ 4294967295)
+TellsOfAdding objects pack (told.Collision id kept given) = IsFirstCollision (objects ++ pack) id kept given
+TellsOfAdding objects pack (told.Full count) = HasNoCollision (objects ++ pack) × (count ≡ length (with_pack objects pack)) × (4294967295 < count)
+TellsOfAdding objects pack told.NoMemory = Unit {0}
+
+-- the repository afterwards: with the pack's objects, or as it was
+abbrev pub left_by : Store → List Content → added.Added → Store
+left_by store pack told.Added = record store { objects = with_pack store.objects pack }
+left_by store pack _ = store
+
+-- what is told of creating a ref: another value than the one that was thought of, or the least ref that the name can't stand beside
+abbrev pub TellsOfMove : Refs → Name → ObjectId → applied.Applied → Type 0
+TellsOfMove refs name old moving.Moved = (value refs name ≡ old) × HasNoneAtOdds refs name
+TellsOfMove refs name old (moving.Stale is) = (is ≡ value refs name) × ¬ (is ≡ old)
+TellsOfMove refs name old (moving.DirFile r) = (value refs name ≡ old) × IsLeastAtOdds refs name r
+TellsOfMove refs name old moving.NoMemory = Unit {0}
+
+-- the repository afterwards: with the ref, or as it was
+abbrev pub moved_by : Store → Name → ObjectId → applied.Applied → Store
+moved_by store name new moving.Moved = record store { refs = insert store.refs name new }
+moved_by store name new _ = store

@@ -1,0 +1,68 @@
+// What a pack holds that a repository lacks.
+ghost use Rattle.std.specs.Prelude.{◌≡◌, ◌++◌, ◌↔◌, IfOk, IsTrue};
+ghost use Rattle.ref_store.specs.Objects.{HasNamesOnce};
+ghost use Rattle.ref_store.specs.Lacking.{TellsOfPack};
+
+use crate::lens::Lens;
+use crate::object_table::ObjectTable;
+use base_types::NoMemory;
+use git_object::{Object, ObjectId};
+use std::alloc::Global;
+
+/// The objects to add, or two that differ and have one name.
+#[derive(Drop)]
+pub enum Lacking {
+    Fresh(Vec<Object>),
+    Differs {
+        id: ObjectId,
+        kept: usize,
+        given: usize,
+    },
+}
+
+/// Goes through a pack beside the objects that are there.
+pub fn compare(alloc: Global, kept: &ObjectTable, pack: &[Object]) -> Result<Lacking, NoMemory>
+    requires { HasNamesOnce kept.now }
+    ensures { IfOk result (λ l. TellsOfPack kept.now pack.now l) }
+{
+    let lens = Lens::over(alloc, kept, pack)?;
+    walk(alloc, &lens, kept, pack)
+}
+
+// The objects of the pack in order, each beside the first of its name.
+fn walk(
+    alloc: Global,
+    lens: &Lens<'_>,
+    kept: &ObjectTable,
+    pack: &[Object],
+) -> Result<Lacking, NoMemory>
+    requires names { HasNamesOnce kept.now }
+    requires lens { lens.now ≡ kept.now ++ pack.now }
+    ensures { IfOk result (λ l. TellsOfPack kept.now pack.now l) }
+{
+    let mut fresh = Vec::new(alloc);
+    for i in 0..pack.len() {
+        let object = &pack[i];
+        let id = object.name();
+        let given = kept.len() + i;
+        let Some((first, before)) = lens.before(id, given) else {
+            fresh.push(object.clone()?)?;
+            continue;
+        };
+        if same_object(object, before) {
+            continue;
+        }
+        return Ok(Lacking::Differs {
+            id,
+            kept: first,
+            given,
+        });
+    }
+    Ok(Lacking::Fresh(fresh))
+}
+
+fn same_object(a: &Object, b: &Object) -> bool
+    ensures { IsTrue result ↔ (a.now ≡ b.now) }
+{
+    a.kind() == b.kind() && a.body() == b.body()
+}

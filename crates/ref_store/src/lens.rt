@@ -1,0 +1,73 @@
+// The objects of a repository with those of a pack.
+ghost use Rattle.std.specs.Prelude.{◌≡◌, ◌++◌, IfOk, IfSome, slice_get, Some, take};
+ghost use Rattle.std.specs.Option.{option_copied, option_map};
+ghost use Rattle.ref_store.specs.Objects.{first_named, place_of};
+
+use crate::object_table::ObjectTable;
+use crate::repo::Repo;
+use base_types::NoMemory;
+use git_object::{Object, ObjectId, ObjectList};
+use std::alloc::Global;
+use std::marker::Model;
+
+/// The objects of a repository, and behind them those of a pack that isn't added.
+#[derive(Drop)]
+pub struct Lens<'a> {
+    kept: &'a ObjectTable,
+    pack: ObjectTable,
+}
+
+impl<'a> Model for Lens<'a> {
+    ghost use Rattle.std.specs.Prelude.{List, ◌++◌};
+    ghost use Rattle.git_object.specs.Content.{Content};
+
+    ghost Value = { List Content };
+
+    ghost view = { λ l. l.kept.now ++ l.pack };
+}
+
+impl<'a> Lens<'a> {
+    /// Holds handles of the pack's objects; their bodies are shared.
+    pub fn new(alloc: Global, repo: &'a Repo, pack: &ObjectList) -> Result<Lens<'a>, NoMemory>
+        ensures { IfOk result (λ l. l ≡ repo.now.objects ++ pack.now) }
+    {
+        Lens::over(alloc, repo.table(), pack.as_slice())
+    }
+
+    pub(crate) fn over(
+        alloc: Global,
+        kept: &'a ObjectTable,
+        pack: &[Object],
+    ) -> Result<Lens<'a>, NoMemory>
+        ensures { IfOk result (λ l. l ≡ kept.now ++ pack.now) }
+    {
+        let pack = ObjectTable::of(alloc, pack)?;
+        Ok(Lens { kept, pack })
+    }
+
+    /// The object of the name that stands first: the repository's, if it has one.
+    pub fn get(&self, id: ObjectId) -> Option<&Object>
+        ensures { option_copied result ≡ first_named self.now id }
+    {
+        match self.kept.first(id) {
+            Some(object) => Some(object),
+            None => self.pack.first(id),
+        }
+    }
+
+    // The object of the name that stands first among the first so many, and its place.
+    pub(crate) fn before(&self, id: ObjectId, among: usize) -> Option<(usize, &Object)>
+        ensures place { option_map (λ p. p.0) result ≡ place_of (take among self.now) id }
+        ensures object { IfSome result (λ p. slice_get self.now p.0 ≡ Some p.1.now) }
+    {
+        if let Some((at, object)) = self.kept.before(id, among) {
+            return Some((at, object));
+        }
+        let kept = self.kept.len();
+        let _pack = self.pack.len();
+        match self.pack.before(id, among.saturating_sub(kept)) {
+            Some((at, object)) => Some((kept + at, object)),
+            None => None,
+        }
+    }
+}

@@ -1,0 +1,29 @@
+//! What a repository stores: objects, found by their names, and refs.
+//!
+//! - `ref_name`: the names that a ref may have;
+//! - `command`: what a push asks for;
+//! - `ref_map`: refs in the byte order of their names;
+//! - `odds`: which ref can't stand beside a name;
+//! - `object_table`: objects in order, found by their names;
+//! - `lens`: the objects of a repository with those of a pack;
+//! - `lacking`: what a pack holds that a repository lacks;
+//! - `repo`: a repository.
+#![tactic(auto)]
+
+mod command;
+mod lacking;
+mod lens;
+mod object_table;
+mod odds;
+mod ref_map;
+mod ref_name;
+mod repo;
+
+pub use base_types::{ItemList, NoMemory, Text};
+pub use command::{Command, CommandList};
+pub use lens::Lens;
+pub use ref_name::RefName;
+pub use repo::{Added, Applied, Repo};
+
+#[cfg(test)]
+mod tests;

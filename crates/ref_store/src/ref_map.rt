@@ -1,0 +1,82 @@
+// Refs in the byte order of their names.
+ghost use Rattle.std.specs.Prelude.{◌≡◌, IfOk, IfSome, None, OnErr, OnOk};
+ghost use Rattle.std.specs.FinMap as map;
+ghost use Rattle.std.specs.Option.{option_copied, option_map};
+ghost use Rattle.ref_store.specs.Refs.{IsLeastFrom};
+
+use base_types::{NoMemory, Text};
+use git_object::ObjectId;
+use std::alloc::Global;
+use std::collections::BTreeMap;
+use std::collections::btree_map::Iter;
+use std::marker::Model;
+
+/// Refs in the byte order of their names. Beside the map of `base_types` it finds the next name behind one.
+#[derive(Drop)]
+pub struct RefMap {
+    entries: BTreeMap<Text, ObjectId>,
+}
+
+impl Model for RefMap {
+    ghost use Rattle.std.specs.Coded.{coded_list, coded_ℕ};
+    ghost use Rattle.std.specs.FinMap as map;
+    ghost use Rattle.base_types.specs.Names.{ByName};
+    ghost use Rattle.git_object.specs.declared.object_id.ObjectId.{ObjectId};
+    ghost use Rattle.ref_store.specs.RefCodes.{coded_id};
+
+    ghost Value = { ByName ObjectId };
+
+    ghost coded = { map.code (coded_list coded_ℕ) coded_id };
+
+    ghost view = { λ m. map.from_entries m.entries.entries };
+}
+
+impl RefMap {
+    pub fn new(alloc: Global) -> RefMap
+        ensures { result ≡ map.empty }
+    {
+        RefMap {
+            entries: BTreeMap::new(alloc),
+        }
+    }
+
+    pub fn get(&self, name: &Text) -> Option<&ObjectId>
+        ensures { option_copied result ≡ map.get self.now name.now }
+    {
+        self.entries.get(name)
+    }
+
+    pub fn insert(&mut self, name: Text, id: ObjectId) -> Result<(), NoMemory>
+        ensures ok { OnOk result (self.new ≡ map.insert self.old name id) }
+        ensures err { OnErr result (self.new ≡ self.old) }
+    {
+        self.entries.insert(name, id)?;
+        Ok(())
+    }
+
+    pub fn iter(&self) -> Iter<'_, Text, ObjectId>
+        ensures { result ≡ map.entries self.now }
+    {
+        self.entries.iter()
+    }
+
+    pub fn copy(&self) -> Result<RefMap, NoMemory>
+        ensures { IfOk result (λ m. m ≡ self.now) }
+    {
+        let entries = self.entries.clone()?;
+        // A length tells that the names of its map ascend.
+        let _ascend = (self.entries.len(), entries.len());
+        Ok(RefMap { entries })
+    }
+
+    /// The least name that is not before this one.
+    pub fn first_from(&self, from: Text) -> Option<&Text>
+        ensures { IsLeastFrom self.now from (option_map (λ n. n.now) result) }
+    {
+        let mut names = self.entries.range(from..);
+        match names.next() {
+            Some((name, _)) => Some(name),
+            None => None,
+        }
+    }
+}

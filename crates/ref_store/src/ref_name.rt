@@ -1,0 +1,123 @@
+// Names of refs.
+ghost use Rattle.std.specs.Prelude.{◌≡◌, ◌==◌, IfOk, if◌then◌else◌, length, nat_le, None, Some, true};
+ghost use Rattle.std.specs.List.{count_by, list_all};
+ghost use Rattle.ref_store.specs.RefName.{is_piece, is_ref_byte, is_ref_name, occurs, pieces};
+
+use base_types::{NoMemory, Text};
+use std::alloc::{AllocError, Global};
+use std::marker::Model;
+
+/// How many bytes a ref's name has at most.
+const MAX_NAME: usize = 1024;
+
+/// The name of a ref. It is compared as its bytes are.
+#[derive(Drop)]
+pub struct RefName {
+    text: Text,
+}
+
+impl Model for RefName {
+    ghost use Rattle.std.specs.Prelude.{List, ℕ, ◌≡◌, true};
+    ghost use Rattle.ref_store.specs.RefName.{is_ref_name};
+
+    ghost Value = { List ℕ };
+
+    ghost view = { λ n. n.text };
+
+    ghost invariant = { λ n. is_ref_name n.text ≡ true };
+}
+
+impl RefName {
+    /// The name of these bytes, which are copied, or none where they break a rule.
+    pub fn parse(alloc: Global, text: &[u8]) -> Result<Option<RefName>, NoMemory>
+        ensures { IfOk result (λ r. r ≡ (if is_ref_name text.now then Some text.now else None)) }
+    {
+        if !is_ref_name(text) {
+            return Ok(None);
+        }
+        let text = Text::of(alloc, text)?;
+        Ok(Some(RefName { text }))
+    }
+
+    // The name whose text is known to keep the rule.
+    pub(crate) fn known(text: Text) -> RefName
+        requires { is_ref_name text ≡ true }
+        ensures { result ≡ text }
+    {
+        RefName { text }
+    }
+
+    pub fn bytes(&self) -> &[u8]
+        ensures bytes { result.now ≡ self.now }
+        ensures rule { is_ref_name result.now ≡ true }
+    {
+        self.text.bytes()
+    }
+
+    pub(crate) fn text(&self) -> &Text
+        ensures { result.now ≡ self.now }
+    {
+        &self.text
+    }
+}
+
+fn is_ref_name(text: &[u8]) -> bool
+    ensures { result ≡ is_ref_name text.now }
+{
+    if text.len() > MAX_NAME || !text.starts_with(b"refs/") {
+        return false;
+    }
+    if !has_three_pieces(text) || !all_pieces(text) || !all_ref_bytes(text) {
+        return false;
+    }
+    !occurs(b"..", text) && !occurs(b"@{", text) && !text.ends_with(b".")
+}
+
+fn all_ref_bytes(text: &[u8]) -> bool
+    ensures { result ≡ list_all is_ref_byte text.now }
+{
+    text.iter().all(|c| is_ref_byte(*c))
+}
+
+fn is_ref_byte(c: u8) -> bool
+    ensures { result ≡ is_ref_byte c }
+{
+    c > 32 && c != 127 && !b"~^:?*[\\".contains(&c)
+}
+
+// As many pieces as slashes, and one more.
+fn has_three_pieces(text: &[u8]) -> bool
+    ensures { result ≡ nat_le 3 (length (pieces text.now)) }
+{
+    slashes(text) >= 2
+}
+
+fn slashes(text: &[u8]) -> usize
+    ensures { result ≡ count_by (λ c. c == 47) text.now }
+{
+    text.iter().filter(|c| **c == b'/').count()
+}
+
+fn is_piece(piece: &[u8]) -> bool
+    ensures { result ≡ is_piece piece.now }
+{
+    !piece.is_empty() && !piece.starts_with(b".") && !piece.ends_with(b".lock")
+}
+
+fn all_pieces(text: &[u8]) -> bool
+    ensures { result ≡ list_all is_piece (pieces text.now) }
+{
+    text.split(|c| *c == b'/').all(|piece| is_piece(piece))
+}
+
+// Whether the part stands somewhere in the text.
+fn occurs(part: &[u8], text: &[u8]) -> bool
+    ensures { result ≡ occurs part.now text.now }
+{
+    for i in 0..text.len() {
+        if text.split_at(i).1.starts_with(part) {
+            return true;
+        }
+    }
+    false
+}

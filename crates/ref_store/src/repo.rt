@@ -1,0 +1,207 @@
+// A repository.
+ghost use Rattle.std.specs.Prelude.{◌≡◌, ◌++◌, ◌↔◌, [], IfOk, IsTrue, length, slice_get, take};
+ghost use Rattle.std.specs.Arc.{arc_value};
+ghost use Rattle.std.specs.FinMap as map;
+ghost use Rattle.std.specs.Option.{option_copied};
+ghost use Rattle.ref_store.specs.Objects.{first_named, HasNamesOnce};
+ghost use Rattle.ref_store.specs.Refs.{value, zero_id};
+ghost use Rattle.ref_store.specs.Store.{left_by, moved_by, TellsOfAdding, TellsOfMove};
+
+use crate::lacking::{Lacking, compare};
+use crate::object_table::ObjectTable;
+use crate::odds::at_odds;
+use crate::ref_map::RefMap;
+use crate::ref_name::RefName;
+use base_types::{NoMemory, Text};
+use git_object::{Object, ObjectId, ObjectList};
+use std::alloc::Global;
+use std::collections::btree_map::Iter;
+use std::marker::Model;
+use std::sync::Arc;
+
+/// How many objects a repository has at most.
+const MAX_OBJECTS: usize = 4_294_967_295;
+
+/// Objects, in the order in which they came, and refs. Copies share the objects.
+#[derive(Drop)]
+pub struct Repo {
+    alloc: Global,
+    objects: Arc<ObjectTable>,
+    refs: RefMap,
+}
+
+/// What came of adding a pack's objects.
+#[derive(Clone, Copy, Debug, PartialEq, Eq)]
+pub enum Added {
+    Added,
+    /// An object of the pack differs from one of its name before it. Places count the repository's objects and then the pack's.
+    Collision { id: ObjectId, kept: u64, given: u64 },
+    /// There would be this many objects.
+    Full(u64),
+    NoMemory,
+}
+
+/// What came of creating a ref.
+#[derive(Drop)]
+pub enum Applied {
+    Moved,
+    /// The ref has this value, and not the one that was thought of.
+    Stale(ObjectId),
+    /// This ref is a directory of the name or stands below it.
+    DirFile(RefName),
+    NoMemory,
+}
+
+impl Model for Repo {
+    ghost use Rattle.std.specs.Arc.{arc_value};
+    ghost use Rattle.ref_store.specs.Store.{IsSound, Store};
+    ghost use Rattle.ref_store.specs.Codes.{coded_store};
+
+    ghost Value = { Store };
+
+    ghost coded = { coded_store };
+
+    ghost view = { λ r. record { objects = arc_value r.objects; refs = r.refs } };
+
+    ghost invariant = { λ r. IsSound (record { objects = arc_value r.objects; refs = r.refs }) };
+}
+
+impl Repo {
+    pub fn empty(alloc: Global) -> Result<Repo, NoMemory>
+        ensures objects { IfOk result (λ r. r.objects ≡ []) }
+        ensures refs { IfOk result (λ r. r.refs ≡ map.empty) }
+    {
+        Ok(Repo {
+            alloc,
+            objects: Arc::new(alloc, ObjectTable::new(alloc))?,
+            refs: RefMap::new(alloc),
+        })
+    }
+
+    /// A copy with the same objects and refs. It costs the refs, and no object.
+    pub fn copy(&self) -> Result<Repo, NoMemory>
+        ensures { IfOk result (λ r. r ≡ self.now) }
+    {
+        let refs = self.refs.copy()?;
+        let objects = Arc::try_clone(&self.objects)?;
+        Ok(Repo {
+            alloc: self.alloc,
+            objects,
+            refs,
+        })
+    }
+
+    /// The refs with their values, in the byte order of their names.
+    pub fn refs(&self) -> Iter<'_, Text, ObjectId>
+        ensures { result ≡ map.entries self.now.refs }
+    {
+        self.refs.iter()
+    }
+
+    /// A ref's value, zero where it is absent.
+    pub fn value(&self, name: &Text) -> ObjectId
+        ensures { result ≡ value self.now.refs name.now }
+    {
+        match self.refs.get(name) {
+            Some(id) => *id,
+            None => ObjectId::zero(),
+        }
+    }
+
+    pub(crate) fn table(&self) -> &ObjectTable
+        ensures { result.now ≡ self.now.objects }
+    {
+        &self.objects
+    }
+
+    /// How many objects there are, of which no two have one name.
+    pub fn count(&self) -> usize
+        ensures count { result ≡ length self.now.objects }
+        ensures names { HasNamesOnce self.now.objects }
+    {
+        self.objects.len()
+    }
+
+    /// The object at a place, counted from 0 in the order in which they came.
+    pub fn nth(&self, at: usize) -> Option<&Object>
+        ensures { option_copied result ≡ slice_get self.now.objects at }
+    {
+        self.objects.get(at)
+    }
+
+    /// The object of this name, among the first so many.
+    pub fn object(&self, id: ObjectId, first_k: usize) -> Option<&Object>
+        ensures { option_copied result ≡ first_named (take first_k self.now.objects) id }
+    {
+        self.objects.named(id, first_k)
+    }
+
+    /// Creates a ref. It looks at no more refs than the name has directories, and at one behind them.
+    pub fn apply(&mut self, name: &RefName, old: ObjectId, new: ObjectId) -> Applied
+        requires old { old ≡ zero_id }
+        requires new { ¬ (new ≡ zero_id) }
+        ensures told { TellsOfMove self.old.refs name.now old result }
+        ensures repo { self.new ≡ moved_by self.old name.now new result }
+    {
+        let value = self.value(name.text());
+        if !same_id(value, old) {
+            return Applied::Stale(value);
+        }
+        match at_odds(self.alloc, &self.refs, name.bytes()) {
+            Ok(Some(other)) => return Applied::DirFile(RefName::known(other)),
+            Ok(None) => {}
+            Err(NoMemory) => return Applied::NoMemory,
+        }
+        let Ok(name) = name.text().clone() else {
+            return Applied::NoMemory;
+        };
+        let Ok(()) = self.refs.insert(name, new) else {
+            return Applied::NoMemory;
+        };
+        Applied::Moved
+    }
+
+    /// Adds the objects of a pack that are not there. Whoever has a copy doesn't see them.
+    pub fn add_objects(&mut self, pack: &ObjectList) -> Added
+        ensures told { TellsOfAdding self.old.objects pack.now result }
+        ensures repo { self.new ≡ left_by self.old pack.now result }
+    {
+        let fresh = match compare(self.alloc, &self.objects, pack.as_slice()) {
+            Ok(Lacking::Fresh(fresh)) => fresh,
+            Ok(Lacking::Differs { id, kept, given }) => {
+                return Added::Collision {
+                    id,
+                    kept: kept as u64,
+                    given: given as u64,
+                };
+            }
+            Err(NoMemory) => return Added::NoMemory,
+        };
+        let count = self.objects.len() + fresh.len();
+        if count > MAX_OBJECTS {
+            return Added::Full(count as u64);
+        }
+        let Ok(objects) = grown(self.alloc, &self.objects, &fresh) else {
+            return Added::NoMemory;
+        };
+        self.objects = objects;
+        Added::Added
+    }
+}
+
+fn same_id(a: ObjectId, b: ObjectId) -> bool
+    ensures { IsTrue result ↔ (a ≡ b) }
+{
+    a == b
+}
+
+// A table of the objects of another, and of these behind them.
+fn grown(alloc: Global, kept: &ObjectTable, fresh: &[Object]) -> Result<Arc<ObjectTable>, NoMemory>
+    ensures { IfOk result (λ t. arc_value t ≡ kept.now ++ fresh.now) }
+{
+    let mut table = ObjectTable::of(alloc, kept.objects())?;
+    for object in fresh {
+        table.push(object.clone()?)?;
+    }
+    Ok(Arc::new(alloc, table)?)
+}

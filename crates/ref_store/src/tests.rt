@@ -1,0 +1,106 @@
+use super::*;
+use git_object::{Kind, Object, ObjectId, ObjectList};
+use std::alloc::Global;
+use std::test::Fail;
+
+fn blobs(alloc: Global, bodies: &[&str]) -> Result<ObjectList, Fail> {
+    let mut list = ObjectList::new(alloc);
+    for body in bodies {
+        list.push(blob(alloc, body)?)?;
+    }
+    Ok(list)
+}
+
+fn blob(alloc: Global, body: &str) -> Result<Object, Fail> {
+    if body.len() > 100 {
+        return Err(Fail::from("a short body"));
+    }
+    Ok(Object::parse(alloc, Kind::Blob, body.as_bytes()).map_err(|_| "a blob")?)
+}
+
+#[test]
+fn names_that_keep_the_rule(rt: HostRuntime) -> Result<(), Fail> {
+    let texts =
+        "refs/heads/main,refs/a/b/c,refs/heads/a.b,refs/heads/a.lockb,refs/heads/a.b.c,refs/heads/a@b{,refs/heads/@,refs/heads/\u{e9}";
+    for text in texts.split(',') {
+        assert!(rt; RefName::parse(rt.alloc(), text.as_bytes())?.is_some());
+    }
+    Ok(())
+}
+
+#[test]
+fn names_that_break_one_clause_each(rt: HostRuntime) -> Result<(), Fail> {
+    let texts =
+        "refs/heads,heads/main/a,refs/heads/,refs//main,refs/heads/.a,refs/heads/a.lock,refs/heads/a.lock/b,refs/heads/a b,refs/heads/a\u{7f},refs/heads/a\u{1f},refs/heads/a~,refs/heads/a^,refs/heads/a:b,refs/heads/a?,refs/heads/a*,refs/heads/a[,refs/heads/a\\b,refs/heads/a..b,refs/heads/a@{b,refs/heads/a.,";
+    for text in texts.split(',') {
+        assert!(rt; RefName::parse(rt.alloc(), text.as_bytes())?.is_none());
+    }
+    Ok(())
+}
+
+#[test]
+fn a_ref_name_has_1024_bytes_at_most(rt: HostRuntime) -> Result<(), Fail> {
+    let mut text = b"refs/heads/".to_vec(rt.alloc())?;
+    for _ in 0..1013 {
+        text.push(b'a')?;
+    }
+    let name = RefName::parse(rt.alloc(), &text)?.ok_or("a name")?;
+    assert!(rt; name.bytes() == text.as_slice());
+    text.push(b'a')?;
+    assert!(rt; RefName::parse(rt.alloc(), &text)?.is_none());
+    Ok(())
+}
+
+// Creates the first, and tells what the second can't stand beside.
+fn beside(alloc: Global, first: &str, second: &str) -> Result<Option<RefName>, Fail> {
+    let id = ObjectId { bytes: [7; 20] };
+    let mut repo = Repo::empty(alloc)?;
+    let first = RefName::parse(alloc, first.as_bytes())?.ok_or("a name")?;
+    let second = RefName::parse(alloc, second.as_bytes())?.ok_or("a name")?;
+    let Applied::Moved = repo.apply(&first, ObjectId::zero(), id) else {
+        return Err(Fail::from("a first ref"));
+    };
+    match repo.apply(&second, ObjectId::zero(), id) {
+        Applied::Moved => Ok(None),
+        Applied::DirFile(other) => Ok(Some(other)),
+        Applied::Stale(_) => Err(Fail::from("stale")),
+        Applied::NoMemory => Err(Fail::from("memory")),
+    }
+}
+
+#[test]
+fn a_ref_cannot_stand_beside_its_directory(rt: HostRuntime) -> Result<(), Fail> {
+    for (first, second, told) in [
+        ("refs/heads/a", "refs/heads/a/b", "refs/heads/a"),
+        ("refs/heads/a/b", "refs/heads/a", "refs/heads/a/b"),
+        ("refs/heads/a", "refs/heads/ab", ""),
+        ("refs/heads/a-b", "refs/heads/a", ""),
+        ("refs/heads/a/b/c/d", "refs/heads/a", "refs/heads/a/b/c/d"),
+    ] {
+        match beside(rt.alloc(), first, second)? {
+            Some(other) => assert!(rt; other.bytes() == told.as_bytes(), "{first} {second}"),
+            None => assert!(rt; told.is_empty(), "{first} {second}"),
+        }
+    }
+    Ok(())
+}
+
+#[test]
+fn objects_are_added_once_and_copies_do_not_see_them(rt: HostRuntime) -> Result<(), Fail> {
+    let alloc = rt.alloc();
+    let mut repo = Repo::empty(alloc)?;
+    assert!(rt; repo.add_objects(&blobs(alloc, &["a", "b", "a"])?) == Added::Added);
+    let copy = repo.copy()?;
+    let pack = blobs(alloc, &["b", "c", "c"])?;
+    let lens = Lens::new(alloc, &copy, &pack)?;
+    let c = blob(alloc, "c")?.name();
+    assert!(rt; lens.get(c).is_some() && lens.get(ObjectId::zero()).is_none());
+    assert!(rt; repo.add_objects(&pack) == Added::Added);
+    assert_eq!(rt; repo.count(), 3);
+    assert_eq!(rt; copy.count(), 2);
+    assert!(rt; repo.object(c, 3).is_some() && repo.object(c, 2).is_none());
+    assert!(rt; copy.object(c, 3).is_none());
+    assert!(rt; repo.nth(2).is_some() && repo.nth(3).is_none());
+    assert_eq!(rt; repo.refs().count(), 0);
+    Ok(())
+}
