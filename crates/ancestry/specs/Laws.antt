@@ -20,8 +20,10 @@ IsMissing objects root kind id = (wanted : Option Kind) × IsMet objects root ki
 abbrev pub IsWrong : List Content → ObjectId → Option Kind → ObjectId → Type 0
 IsWrong objects root kind id = (wanted : Option Kind) × IsMet objects root kind (id, wanted) × (is_wrong objects (id, wanted) ≡ true)
 
+-- what is told missing is the least that any walk shows to be missing, and none where no walk does
 abbrev pub MissingIsLeast : Type 0
 MissingIsLeast = (objects : List Content) (root : ObjectId) (kind : Option Kind) → IsLeast (IsMissing objects root kind) (missing objects root kind)
 
+-- what is told wrong is the least that any walk shows to be wrong, and none where no walk does
 abbrev pub WrongIsLeast : Type 0
 WrongIsLeast = (objects : List Content) (root : ObjectId) (kind : Option Kind) → IsLeast (IsWrong objects root kind) (wrong objects root kind)

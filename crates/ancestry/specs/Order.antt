@@ -5,9 +5,11 @@ use Rattle.std.specs.Ordering.{nat_cmp, is_lt}
 use Rattle.std.specs.Cmp.Lexicographic.{slice_cmp}
 use Rattle.git_object.specs.declared.object_id.ObjectId.{ObjectId}
 
+-- the first comes before the second
 abbrev pub is_below : ObjectId → ObjectId → Bool
 is_below a b = is_lt (slice_cmp nat_cmp a.bytes b.bytes)
 
+-- the one that comes first
 abbrev pub lesser : ObjectId → ObjectId → ObjectId
 lesser a b = if is_below a b then a else b
 

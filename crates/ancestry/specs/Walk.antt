@@ -27,15 +27,16 @@ pub data IsMet (objects : List Content) (root : ObjectId) (kind : Option Kind) :
   Root : IsMet objects root kind (root, kind)
   Link : (from to : Want) → IsMet objects root kind from → Contains (links_at objects from.0) to → IsMet objects root kind to
 
--- what is met by walks of so many links
+-- what is met by walks of at most so many links
 abbrev pub met_within : List Content → ObjectId → Option Kind → ℕ → List Want
 met_within objects root kind zero = (root, kind) ∷ []
 met_within objects root kind (suc n) = met_within objects root kind n ++ flat_map (λ m. links_at objects m.0) (met_within objects root kind n)
 
--- all that is met: whatever a walk meets, it can be met without coming twice to one object
+-- all that is met: whatever a walk meets is met by one that goes on from no object twice, and so has no more links than there are objects
 abbrev pub met : List Content → ObjectId → Option Kind → List Want
 met objects root kind = met_within objects root kind (length objects)
 
+-- two kinds are one
 abbrev pub same_kind : Kind → Kind → Bool
 same_kind Commit Commit = true
 same_kind Tree Tree = true
@@ -43,6 +44,7 @@ same_kind Blob Blob = true
 same_kind Tag Tag = true
 same_kind _ _ = false
 
+-- an object of this kind is what is wanted
 abbrev pub suits : Option Kind → Kind → Bool
 suits None kind = true
 suits (Some wanted) kind = same_kind wanted kind

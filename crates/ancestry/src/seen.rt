@@ -40,6 +40,7 @@ impl Seen {
         self.known.len()
     }
 
+    // The id at a place.
     fn nth(&self, at: usize) -> Option<ObjectId>
         ensures id { result ≡ slice_get self.now.known.keys at }
         ensures within { IfSome result (λ _. at < length self.now.known.keys) }
@@ -129,6 +130,7 @@ impl Seen {
     }
 }
 
+// The least so far, with an id more.
 fn lesser_of(least: Option<ObjectId>, id: ObjectId) -> ObjectId
     ensures { result ≡ option_map_or (lesser id) least id }
 {
@@ -138,6 +140,7 @@ fn lesser_of(least: Option<ObjectId>, id: ObjectId) -> ObjectId
     }
 }
 
+// Whether an object of this kind is what is wanted.
 fn suits(wanted: Option<Kind>, kind: Kind) -> bool
     ensures { result ≡ suits wanted kind }
 {
