@@ -4,7 +4,6 @@ use Rattle.std.proofs.lemmas.List.Elements.{Contains-push_cases}
 use Rattle.std.proofs.lemmas.List.{take_more, take_all, take-append-le, take_at}
 use Rattle.std.proofs.lemmas.Option.{get_or_from_slice_get}
 use Rattle.std.specs.Prelude.{slice_get}
-use Rattle.std.specs.List.{list_any}
 use Rattle.std.specs.Option.{option_map_or}
 use Rattle.git_object.specs.Content.{Content}
 use Rattle.git_object.specs.Object.{links_of}
@@ -21,7 +20,7 @@ use Rattle.ancestry.specs.Seen.{knows, IsUpTo, IsNoted, AddsTo, Notes, IsWholeSo
 use Rattle.ancestry.proofs.ListLemmas.{contains_here, contains_one, any_contains, contains_any}
 use Rattle.ancestry.proofs.OrderLemmas.{one_least}
 use Rattle.ancestry.proofs.WalkLemmas.{linked_there, least_met}
-use Rattle.ancestry.proofs.SeenLemmas.{has, no_both, adds_both, knows_more, noted_more}
+use Rattle.ancestry.proofs.SeenLemmas.{no_both, adds_both, knows_more, noted_more}
 
 -- the first so many that are known were entered
 pub record Walking (objects : List Content) (root : ObjectId) (kind : Option Kind) (old now : Seen) (next : ℕ) : Type 0 where
@@ -190,36 +189,6 @@ walked_missing objects root kind old now walked = one_least (IsMissing objects r
 
 pub walked_wrong : (objects : List Content) (root : ObjectId) (kind : Option Kind) (old now : Seen) → IsWalked objects root kind old now → wrong objects root kind ≡ now.wrong
 walked_wrong objects root kind old now walked = one_least (IsWrong objects root kind) (wrong objects root kind) now.wrong (least_met objects root kind (is_wrong objects)) walked.wrong
-
--- the same ids, with nothing amiss, are whole so far as before
-pub still_whole : (objects : List Content) (old new : Seen) → IsWholeSoFar objects old → new.known.keys ≡ old.known.keys → new.missing ≡ None → new.wrong ≡ None → IsWholeSoFar objects new
-still_whole objects old new whole same none right =
-    let before = λ (id : ObjectId) (is : knows new id ≡ true). ap (λ ids. has ids id) (sym same) ∙ is in
-    record {
-      no_missing = none;
-      no_wrong = right;
-      there = λ id is. whole.there id (before id is);
-      known = λ id want is link. ap (λ ids. has ids want.0) same ∙ whole.known id want (before id is) link;
-      kinds = λ id want is link. whole.kinds id want (before id is) link;
-    }
-
-pub forgotten : (objects : List Content) (old now new : Seen) (before : ℕ) → IsWholeSoFar objects old → AddsTo old now → before ≡ length old.known.keys → new.known.keys ≡ take before now.known.keys → new.missing ≡ None → new.wrong ≡ None
-    → IsWholeSoFar objects new
-forgotten objects old now new before whole adds before_is kept none right =
-    still_whole objects old new whole (kept ∙ ap (take before) adds.1 ∙ take_at old.known.keys adds.0 before (sym before_is)) none right
-
--- nothing was met yet
-pub nothing_known : (objects : List Content) (seen : Seen) → seen.known.keys ≡ [] → seen.missing ≡ None → seen.wrong ≡ None → IsWholeSoFar objects seen
-nothing_known objects seen empty none right = record {
-  no_missing = none;
-  no_wrong = right;
-  there = λ id is. absurd (no_one id is);
-  known = λ id want is link. absurd (no_one id is);
-  kinds = λ id want is link. absurd (no_one id is);
-}
-  where
-    no_one : (id : ObjectId) → knows seen id ≡ true → ⊥
-    no_one id is = let isnt : list_any (same_id id) seen.known.keys ≡ false = ap (list_any (same_id id)) empty in no_both (knows seen id) is isnt
 
 -- each known id has an object
 pub nth_there : (objects : List Content) (seen : Seen) (at : ℕ) (id : ObjectId) → (knows seen id ≡ true → is_missing objects (id, None) ≡ false) → slice_get seen.known.keys at ≡ Some id → at < length seen.known.keys → first_named objects id ≡ None → ⊥
