@@ -1,0 +1,5 @@
+pub mod ListLemmas
+pub mod OrderLemmas
+pub mod WalkLemmas
+pub mod SeenLemmas
+pub mod WalkedLemmas

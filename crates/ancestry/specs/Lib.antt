@@ -1,0 +1,5 @@
+pub mod Order
+pub mod Walk
+pub mod Wholeness
+pub mod Laws
+pub mod Seen
