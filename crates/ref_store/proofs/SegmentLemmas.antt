@@ -260,6 +260,10 @@ pub all_large : (ss : Segs) → AreHalving ss → 2 ^ length ss ≤ length (all_
 all_large [] halving = omega arith
 all_large (s ∷ ss) halving = omega (arith, pow-succ' 2 (length ss), head_large s ss halving, all_large ss (halving_rest s ss halving), length-append s (all_of ss))
 
+pub none_of_none : (ss : Segs) → length ss ≡ 0 → all_of ss ≡ []
+none_of_none [] is = refl
+none_of_none (s ∷ ss) is = absurd (omega (arith, is))
+
 pub at_most_32 : (n : ℕ) → 2 ^ n ≤ 4294967296 → n ≤ 32
 at_most_32 n bound = by_test (nat_lt 32 n) refl
   where

@@ -111,6 +111,7 @@ impl Repo {
     pub fn segments(&self) -> usize
         ensures few { result ≤ 32 }
         ensures halving { 2 ^ result ≤ length self.now.objects + 1 }
+        ensures none { result ≡ 0 → self.now.objects ≡ [] }
     {
         self.objects.number()
     }

@@ -89,6 +89,7 @@ impl Segments {
         ensures number { result ≡ length self.now }
         ensures few { result ≤ 32 }
         ensures halving { 2 ^ result ≤ length (all_of self.now) + 1 }
+        ensures none { result ≡ 0 → all_of self.now ≡ [] }
     {
         let _count = self.count;
         self.segments.len()
