@@ -181,3 +181,21 @@ fn a_lens_reaches_older_segments(rt: HostRuntime) -> Result<(), Fail> {
     assert!(rt; lens.get(blob(alloc, "y")?.name()).is_none());
     Ok(())
 }
+
+#[test]
+fn the_first_so_many_may_end_inside_an_older_segment(rt: HostRuntime) -> Result<(), Fail> {
+    let alloc = rt.alloc();
+    let bodies = ["a", "b", "c", "d", "e", "f", "g"];
+    let mut repo = Repo::empty(alloc)?;
+    assert_eq!(rt; segments_of(&mut repo, alloc, &bodies)?, 3);
+    for (at, body) in bodies.iter().enumerate() {
+        let id = blob(alloc, body)?.name();
+        for first_k in 0..9 {
+            assert!(rt;
+                repo.object(id, first_k).is_some() == (at < first_k),
+                "{body} {first_k}"
+            );
+        }
+    }
+    Ok(())
+}
