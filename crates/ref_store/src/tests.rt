@@ -159,7 +159,8 @@ fn copies_keep_what_they_had_while_segments_are_joined(rt: HostRuntime) -> Resul
     }
     copies.push(repo)?;
     for (count, copy) in copies.iter().enumerate() {
-        assert!(rt; holds(copy, alloc, &bodies[..count])?, "{count}");
+        let had = bodies.get(..count).ok_or("bodies")?;
+        assert!(rt; holds(copy, alloc, had)?, "{count}");
     }
     Ok(())
 }
