@@ -1,4 +1,5 @@
 pub mod ListLemmas
 pub mod ObjectLemmas
 pub mod PackLemmas
+pub mod SegmentLemmas
 pub mod RefLemmas

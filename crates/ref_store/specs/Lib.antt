@@ -4,6 +4,7 @@ pub mod Refs
 pub mod Odds
 pub mod Objects
 pub mod Table
+pub mod Segments
 pub mod Lacking
 pub mod Store
 pub mod Codes

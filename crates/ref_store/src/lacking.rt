@@ -2,9 +2,10 @@
 ghost use Rattle.std.specs.Prelude.{◌≡◌, ◌++◌, ◌↔◌, IfOk, IsTrue};
 ghost use Rattle.ref_store.specs.Objects.{HasNamesOnce};
 ghost use Rattle.ref_store.specs.Lacking.{TellsOfPack};
+ghost use Rattle.ref_store.specs.Segments.{all_of};
 
 use crate::lens::Lens;
-use crate::object_table::ObjectTable;
+use crate::segments::Segments;
 use base_types::NoMemory;
 use git_object::{Object, ObjectId};
 use std::alloc::Global;
@@ -21,9 +22,9 @@ pub enum Lacking {
 }
 
 /// Goes through a pack beside the objects that are there.
-pub fn compare(alloc: Global, kept: &ObjectTable, pack: &[Object]) -> Result<Lacking, NoMemory>
-    requires { HasNamesOnce kept.now }
-    ensures { IfOk result (λ l. TellsOfPack kept.now pack.now l) }
+pub fn compare(alloc: Global, kept: &Segments, pack: &[Object]) -> Result<Lacking, NoMemory>
+    requires { HasNamesOnce (all_of kept.now) }
+    ensures { IfOk result (λ l. TellsOfPack (all_of kept.now) pack.now l) }
 {
     let lens = Lens::over(alloc, kept, pack)?;
     walk(alloc, &lens, kept, pack)
@@ -33,12 +34,12 @@ pub fn compare(alloc: Global, kept: &ObjectTable, pack: &[Object]) -> Result<Lac
 fn walk(
     alloc: Global,
     lens: &Lens<'_>,
-    kept: &ObjectTable,
+    kept: &Segments,
     pack: &[Object],
 ) -> Result<Lacking, NoMemory>
-    requires names { HasNamesOnce kept.now }
-    requires lens { lens.now ≡ kept.now ++ pack.now }
-    ensures { IfOk result (λ l. TellsOfPack kept.now pack.now l) }
+    requires names { HasNamesOnce (all_of kept.now) }
+    requires lens { lens.now ≡ all_of kept.now ++ pack.now }
+    ensures { IfOk result (λ l. TellsOfPack (all_of kept.now) pack.now l) }
 {
     let mut fresh = Vec::new(alloc);
     for i in 0..pack.len() {

@@ -2,9 +2,11 @@
 ghost use Rattle.std.specs.Prelude.{◌≡◌, ◌++◌, IfOk, IfSome, slice_get, Some, take};
 ghost use Rattle.std.specs.Option.{option_copied, option_map};
 ghost use Rattle.ref_store.specs.Objects.{first_named, place_of};
+ghost use Rattle.ref_store.specs.Segments.{all_of};
 
 use crate::object_table::ObjectTable;
 use crate::repo::Repo;
+use crate::segments::Segments;
 use base_types::NoMemory;
 use git_object::{Object, ObjectId, ObjectList};
 use std::alloc::Global;
@@ -13,17 +15,18 @@ use std::marker::Model;
 /// The objects of a repository, and behind them those of a pack that isn't added.
 #[derive(Drop)]
 pub struct Lens<'a> {
-    kept: &'a ObjectTable,
+    kept: &'a Segments,
     pack: ObjectTable,
 }
 
 impl<'a> Model for Lens<'a> {
     ghost use Rattle.std.specs.Prelude.{List, ◌++◌};
     ghost use Rattle.git_object.specs.Content.{Content};
+    ghost use Rattle.ref_store.specs.Segments.{all_of};
 
     ghost Value = { List Content };
 
-    ghost view = { λ l. l.kept.now ++ l.pack };
+    ghost view = { λ l. all_of l.kept.now ++ l.pack };
 }
 
 impl<'a> Lens<'a> {
@@ -31,15 +34,15 @@ impl<'a> Lens<'a> {
     pub fn new(alloc: Global, repo: &'a Repo, pack: &ObjectList) -> Result<Lens<'a>, NoMemory>
         ensures { IfOk result (λ l. l ≡ repo.now.objects ++ pack.now) }
     {
-        Lens::over(alloc, repo.table(), pack.as_slice())
+        Lens::over(alloc, repo.kept(), pack.as_slice())
     }
 
     pub(crate) fn over(
         alloc: Global,
-        kept: &'a ObjectTable,
+        kept: &'a Segments,
         pack: &[Object],
     ) -> Result<Lens<'a>, NoMemory>
-        ensures { IfOk result (λ l. l ≡ kept.now ++ pack.now) }
+        ensures { IfOk result (λ l. l ≡ all_of kept.now ++ pack.now) }
     {
         let pack = ObjectTable::of(alloc, pack)?;
         Ok(Lens { kept, pack })

@@ -5,6 +5,7 @@
 //! - `ref_map`: refs in the byte order of their names;
 //! - `odds`: which ref can't stand beside a name;
 //! - `object_table`: objects in order, found by their names;
+//! - `segments`: the objects of a repository in shared segments;
 //! - `lens`: the objects of a repository with those of a pack;
 //! - `lacking`: what a pack holds that a repository lacks;
 //! - `repo`: a repository.
@@ -18,6 +19,7 @@ mod odds;
 mod ref_map;
 mod ref_name;
 mod repo;
+mod segments;
 
 pub use base_types::{ItemList, NoMemory, Text};
 pub use command::{Command, CommandList};

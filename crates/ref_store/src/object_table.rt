@@ -42,7 +42,14 @@ impl ObjectTable {
     pub fn of(alloc: Global, objects: &[Object]) -> Result<ObjectTable, NoMemory>
         ensures { IfOk result (λ t. t ≡ objects.now) }
     {
-        let mut table = ObjectTable::new(alloc);
+        ObjectTable::new(alloc).followed_by(objects)
+    }
+
+    /// The table with these objects at its end, whose bodies are shared.
+    pub fn followed_by(self, objects: &[Object]) -> Result<ObjectTable, NoMemory>
+        ensures { IfOk result (λ t. t ≡ self ++ objects.now) }
+    {
+        let mut table = self;
         for object in objects {
             table.push(object.clone()?)?;
         }

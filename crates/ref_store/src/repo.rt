@@ -1,23 +1,22 @@
 // A repository.
-ghost use Rattle.std.specs.Prelude.{◌≡◌, ◌++◌, ◌↔◌, [], IfOk, IsTrue, length, slice_get, take};
-ghost use Rattle.std.specs.Arc.{arc_value};
+ghost use Rattle.std.specs.Prelude.{◌≡◌, ◌+◌, ◌↔◌, ◌≤◌, ◌^◌, [], IfOk, IsTrue, length, slice_get, take};
 ghost use Rattle.std.specs.FinMap as map;
 ghost use Rattle.std.specs.Option.{option_copied};
 ghost use Rattle.ref_store.specs.Objects.{first_named, HasNamesOnce};
 ghost use Rattle.ref_store.specs.Refs.{value, zero_id};
+ghost use Rattle.ref_store.specs.Segments.{all_of};
 ghost use Rattle.ref_store.specs.Store.{left_by, moved_by, TellsOfAdding, TellsOfMove};
 
 use crate::lacking::{Lacking, compare};
-use crate::object_table::ObjectTable;
 use crate::odds::at_odds;
 use crate::ref_map::RefMap;
 use crate::ref_name::RefName;
+use crate::segments::Segments;
 use base_types::{NoMemory, Text};
 use git_object::{Object, ObjectId, ObjectList};
 use std::alloc::Global;
 use std::collections::btree_map::Iter;
 use std::marker::Model;
-use std::sync::Arc;
 
 /// How many objects a repository has at most.
 const MAX_OBJECTS: usize = 4_294_967_295;
@@ -26,7 +25,7 @@ const MAX_OBJECTS: usize = 4_294_967_295;
 #[derive(Drop)]
 pub struct Repo {
     alloc: Global,
-    objects: Arc<ObjectTable>,
+    objects: Segments,
     refs: RefMap,
 }
 
@@ -53,7 +52,7 @@ pub enum Applied {
 }
 
 impl Model for Repo {
-    ghost use Rattle.std.specs.Arc.{arc_value};
+    ghost use Rattle.ref_store.specs.Segments.{all_of};
     ghost use Rattle.ref_store.specs.Store.{IsSound, Store};
     ghost use Rattle.ref_store.specs.Codes.{coded_store};
 
@@ -61,9 +60,9 @@ impl Model for Repo {
 
     ghost coded = { coded_store };
 
-    ghost view = { λ r. record { objects = arc_value r.objects; refs = r.refs } };
+    ghost view = { λ r. record { objects = all_of r.objects; refs = r.refs } };
 
-    ghost invariant = { λ r. IsSound (record { objects = arc_value r.objects; refs = r.refs }) };
+    ghost invariant = { λ r. IsSound (record { objects = all_of r.objects; refs = r.refs }) };
 }
 
 impl Repo {
@@ -73,7 +72,7 @@ impl Repo {
     {
         Ok(Repo {
             alloc,
-            objects: Arc::new(alloc, ObjectTable::new(alloc))?,
+            objects: Segments::new(alloc),
             refs: RefMap::new(alloc),
         })
     }
@@ -83,7 +82,7 @@ impl Repo {
         ensures { IfOk result (λ r. r ≡ self.now) }
     {
         let refs = self.refs.copy()?;
-        let objects = Arc::try_clone(&self.objects)?;
+        let objects = self.objects.copy()?;
         Ok(Repo {
             alloc: self.alloc,
             objects,
@@ -108,8 +107,17 @@ impl Repo {
         }
     }
 
-    pub(crate) fn table(&self) -> &ObjectTable
-        ensures { result.now ≡ self.now.objects }
+    /// How many shared segments the objects lie in.
+    pub fn segments(&self) -> usize
+        ensures few { result ≤ 32 }
+        ensures halving { 2 ^ result ≤ length self.now.objects + 1 }
+        ensures none { result ≡ 0 → self.now.objects ≡ [] }
+    {
+        self.objects.number()
+    }
+
+    pub(crate) fn kept(&self) -> &Segments
+        ensures { all_of result.now ≡ self.now.objects }
     {
         &self.objects
     }
@@ -181,7 +189,7 @@ impl Repo {
         if count > MAX_OBJECTS {
             return Added::Full(count as u64);
         }
-        let Ok(objects) = grown(self.alloc, &self.objects, &fresh) else {
+        let Ok(objects) = self.objects.with(self.alloc, &fresh) else {
             return Added::NoMemory;
         };
         self.objects = objects;
@@ -193,15 +201,4 @@ fn same_id(a: ObjectId, b: ObjectId) -> bool
     ensures { IsTrue result ↔ (a ≡ b) }
 {
     a == b
-}
-
-// A table of the objects of another, and of these behind them.
-fn grown(alloc: Global, kept: &ObjectTable, fresh: &[Object]) -> Result<Arc<ObjectTable>, NoMemory>
-    ensures { IfOk result (λ t. arc_value t ≡ kept.now ++ fresh.now) }
-{
-    let mut table = ObjectTable::of(alloc, kept.objects())?;
-    for object in fresh {
-        table.push(object.clone()?)?;
-    }
-    Ok(Arc::new(alloc, table)?)
 }

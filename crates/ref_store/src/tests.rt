@@ -104,3 +104,99 @@ fn objects_are_added_once_and_copies_do_not_see_them(rt: HostRuntime) -> Result<
     assert_eq!(rt; repo.refs().count(), 0);
     Ok(())
 }
+
+// How many segments there are after each of so many adds of one object.
+fn segments_of(repo: &mut Repo, alloc: Global, bodies: &[&str]) -> Result<usize, Fail> {
+    for body in bodies {
+        let Added::Added = repo.add_objects(&blobs(alloc, &[body])?) else {
+            return Err(Fail::from("an add"));
+        };
+    }
+    Ok(repo.segments())
+}
+
+#[test]
+fn segments_are_joined_while_the_one_before_has_fewer_than_twice_as_many(
+    rt: HostRuntime,
+) -> Result<(), Fail> {
+    let alloc = rt.alloc();
+    let mut repo = Repo::empty(alloc)?;
+    assert_eq!(rt; repo.segments(), 0);
+    for (body, segments) in [("a", 1), ("b", 1), ("c", 2), ("d", 1)] {
+        assert_eq!(rt; segments_of(&mut repo, alloc, &[body])?, segments, "{body}");
+    }
+    assert!(rt; repo.add_objects(&blobs(alloc, &["d", "a"])?) == Added::Added);
+    assert_eq!(rt; (repo.count(), repo.segments()), (4, 1));
+    assert_eq!(rt; segments_of(&mut repo, alloc, &["e", "f"])?, 2);
+    assert_eq!(rt; segments_of(&mut repo, alloc, &["g"])?, 3);
+    assert!(rt; repo.add_objects(&blobs(alloc, &["h", "i"])?) == Added::Added);
+    assert_eq!(rt; (repo.count(), repo.segments()), (9, 1));
+    Ok(())
+}
+
+// Whether the objects are these, in order, and each is found from just behind its place on.
+fn holds(repo: &Repo, alloc: Global, bodies: &[&str]) -> Result<bool, Fail> {
+    for (at, body) in bodies.iter().enumerate() {
+        let id = blob(alloc, body)?.name();
+        let object = repo.nth(at).ok_or("an object")?;
+        let found = repo.object(id, at + 1).ok_or("a name")?;
+        if object.name() != id || found.body() != body.as_bytes() || repo.object(id, at).is_some() {
+            return Ok(false);
+        }
+    }
+    Ok(repo.count() == bodies.len() && repo.nth(bodies.len()).is_none())
+}
+
+#[test]
+fn copies_keep_what_they_had_while_segments_are_joined(rt: HostRuntime) -> Result<(), Fail> {
+    let alloc = rt.alloc();
+    let bodies = ["a", "b", "c", "d", "e", "f", "g"];
+    let mut repo = Repo::empty(alloc)?;
+    let mut copies = Vec::new(alloc);
+    for body in bodies {
+        copies.push(repo.copy()?)?;
+        assert!(rt; repo.add_objects(&blobs(alloc, &[body])?) == Added::Added);
+    }
+    copies.push(repo)?;
+    for (count, copy) in copies.iter().enumerate() {
+        let had = bodies.get(..count).ok_or("bodies")?;
+        assert!(rt; holds(copy, alloc, had)?, "{count}");
+    }
+    Ok(())
+}
+
+#[test]
+fn a_lens_reaches_older_segments(rt: HostRuntime) -> Result<(), Fail> {
+    let alloc = rt.alloc();
+    let mut repo = Repo::empty(alloc)?;
+    assert_eq!(rt;
+        segments_of(&mut repo, alloc, &["a", "b", "c", "d", "e", "f", "g"])?,
+        3
+    );
+    let pack = blobs(alloc, &["x"])?;
+    let lens = Lens::new(alloc, &repo, &pack)?;
+    for body in ["a", "d", "e", "f", "g", "x"] {
+        let object = lens.get(blob(alloc, body)?.name()).ok_or("an object")?;
+        assert!(rt; object.body() == body.as_bytes(), "{body}");
+    }
+    assert!(rt; lens.get(blob(alloc, "y")?.name()).is_none());
+    Ok(())
+}
+
+#[test]
+fn the_first_so_many_may_end_inside_an_older_segment(rt: HostRuntime) -> Result<(), Fail> {
+    let alloc = rt.alloc();
+    let bodies = ["a", "b", "c", "d", "e", "f", "g"];
+    let mut repo = Repo::empty(alloc)?;
+    assert_eq!(rt; segments_of(&mut repo, alloc, &bodies)?, 3);
+    for (at, body) in bodies.iter().enumerate() {
+        let id = blob(alloc, body)?.name();
+        for first_k in 0..9 {
+            assert!(rt;
+                repo.object(id, first_k).is_some() == (at < first_k),
+                "{body} {first_k}"
+            );
+        }
+    }
+    Ok(())
+}

@@ -4,12 +4,13 @@ use Rattle.git_object.specs.Content.{Content}
 use Rattle.git_object.specs.Object.{object_name}
 use Rattle.git_object.specs.declared.object_id.ObjectId.{ObjectId}
 use Rattle.ref_store.specs.Objects.{place_of, IsFirstCollision}
+use Rattle.ref_store.specs.Segments.{all_of}
 use Rattle.ref_store.proofs.PackLemmas.{SoFar, so_far_new, so_far_old, so_far_differs, so_far_all, place_so_far}
 use Rattle.ref_store.proofs.lacking.walk.Goals as goal
 
 pub loop-i-preserved-in_default : goal.loop-i-preserved-in_default
 loop-i-preserved-in_default c =
-    let kept = c.args.kept.now in
+    let kept = all_of c.args.kept.now in
     let pack = c.args.pack.now in
     let o = c.index-pack-i.result in
     let found = place_so_far c.args.lens.now kept pack (c.len.result + c.loop-i.i) c.loop-i.i c.name-id.result c.requires.lens (ap (λ m. m + c.loop-i.i) c.len.ensures.len) in
@@ -19,7 +20,7 @@ loop-i-preserved-in_default c =
 
 pub loop-i-preserved : goal.loop-i-preserved
 loop-i-preserved c =
-    let kept = c.args.kept.now in
+    let kept = all_of c.args.kept.now in
     let pack = c.args.pack.now in
     let o = c.index-pack-i.result in
     let found = place_so_far c.args.lens.now kept pack (c.len.result + c.loop-i.i) c.loop-i.i c.name-id.result c.requires.lens (ap (λ m. m + c.loop-i.i) c.len.ensures.len) in
@@ -29,7 +30,7 @@ loop-i-preserved c =
 
 pub returns-in-loop-i : goal.returns-in-loop-i
 returns-in-loop-i c =
-    let kept = c.args.kept.now in
+    let kept = all_of c.args.kept.now in
     let pack = c.args.pack.now in
     let o = c.index-pack-i.result in
     let n_is = ap (λ m. m + c.loop-i.i) c.len.ensures.len in
@@ -41,4 +42,4 @@ returns-in-loop-i c =
     (subst (λ (n : ℕ). IsFirstCollision (kept ++ pack) (object_name o) c.in-Some.first n) (sym n_is) told)
 
 pub returns : goal.returns
-returns c = so_far_all c.args.kept.now c.args.pack.now c.loop-i.fresh.items c.loop-i.i c.loop-i-test.false c.loop-i.invariant
+returns c = so_far_all (all_of c.args.kept.now) c.args.pack.now c.loop-i.fresh.items c.loop-i.i c.loop-i-test.false c.loop-i.invariant
