@@ -7,8 +7,8 @@ use Rattle.git_object.specs.declared.object_id.ObjectId.{ObjectId}
 use Rattle.pktline_core.specs.LinkState.{LinkState}
 use Rattle.pktline_core.specs.Links.{KeepsReading}
 use Rattle.pktline_core.specs.Packets.{spelling, Flush}
-use Rattle.hub_core.specs.Name.{Name, zero_id}
-use Rattle.hub_core.specs.Store.{Refs}
+use Rattle.ref_store.specs.Refs.{Refs, zero_id}
+use Rattle.hub_core.specs.Name.{Name}
 use Rattle.gitolite_shell.specs.Texts.{advertisement, packet, advertised, advertised_lines, first_line, more_line}
 
 -- what is still to be written of an advertisement, with these refs left: the first line bears the capabilities

@@ -5,7 +5,7 @@ use Rattle.pktline_core.specs.Packets as packets
 use Rattle.pktline_core.specs.declared.packets.PktFault.{PktFault}
 use Rattle.raw_pack.specs.declared.fault.PackFault.{PackFault}
 use Rattle.git_object.specs.Content.{Content}
-use Rattle.hub_core.specs.declared.command.Command.{Command}
+use Rattle.ref_store.specs.declared.command.Command.{Command}
 use Rattle.hub_core.specs.declared.entry.EnterKept.{EnterKept}
 use Rattle.hub_core.specs.declared.entry.EnterKept.TheVariants as answer
 use Rattle.hub_core.specs.declared.verdict.Want.TheVariants.{Write}

@@ -7,7 +7,7 @@ use Rattle.raw_pack.specs.Packs.{pack_front}
 use Rattle.raw_pack.specs.Reading.{ReadsFront}
 use Rattle.raw_pack.specs.declared.fault.PackFault.{PackFault}
 use Rattle.raw_pack.specs.declared.fault.PackFault.TheVariants.{ReadFault, NoMemory}
-use Rattle.hub_core.specs.declared.command.Command.{Command}
+use Rattle.ref_store.specs.declared.command.Command.{Command}
 use Rattle.hub_core.specs.Desk.{DeskView}
 use Rattle.interaction_tree.specs.Wanted.{Pack, Reply}
 use Rattle.interaction_tree.specs.Interaction.{Interaction, gives, ◌>>=◌, write, read}

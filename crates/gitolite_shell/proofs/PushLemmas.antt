@@ -2,7 +2,7 @@
 use Rattle.std.proofs.Common.{◌≡◌, List, [], ◌∷◌, false, Option, None, Some, Result, sym, subst}
 use Rattle.git_object.specs.Content.{Content}
 use Rattle.pktline_core.specs.LinkState.{LinkState}
-use Rattle.hub_core.specs.declared.command.Command.{Command}
+use Rattle.ref_store.specs.declared.command.Command.{Command}
 use Rattle.hub_core.specs.declared.outcome.Outcome.{Outcome}
 use Rattle.hub_core.specs.declared.hub.Pushed.TheVariants.{Settled}
 use Rattle.hub_core.specs.Name.{Name}

@@ -2,7 +2,7 @@
 use Rattle.std.proofs.Common.{◌≡◌, ℕ, zero, suc, List, [], ◌∷◌, ◌++◌, cond, is_ok, Some, None, Result, Ok, Err, OnOk, refl, sym, ◌∙◌, ap, append_assoc}
 use Rattle.std.proofs.lemmas.List.{append-nil}
 use Rattle.std.specs.List.{flat_map, slice_get}
-use Rattle.hub_core.specs.declared.command.Command.{Command}
+use Rattle.ref_store.specs.declared.command.Command.{Command}
 use Rattle.hub_core.specs.declared.outcome.Outcome.{Outcome}
 use Rattle.gitolite_shell.specs.Texts.{packet, ref_at, status_lines, status_text}
 

@@ -8,9 +8,11 @@ use Rattle.git_object.specs.Object.{object_name, links_of}
 use Rattle.git_object.specs.declared.object_id.ObjectId.{ObjectId}
 use Rattle.git_object.specs.declared.kind.Kind.{Kind}
 use Rattle.git_object.specs.declared.kind.Kind.TheVariants.{Tree}
-use Rattle.hub_core.specs.declared.command.Command.{Command}
-use Rattle.hub_core.specs.Name.{Name, same_id, same_name, zero_id}
-use Rattle.hub_core.specs.Store.{kind_number, same_object}
+use Rattle.ref_store.specs.declared.command.Command.{Command}
+use Rattle.ref_store.specs.Objects.{same_id}
+use Rattle.ref_store.specs.Refs.{zero_id}
+use Rattle.hub_core.specs.Name.{Name, same_name}
+use Rattle.hub_core.specs.Collision.{kind_number, same_object}
 use Rattle.gitolite_shell.specs.FirstPacket.{is_letter, word, at_end}
 
 -- a create, unless the new value is zero

@@ -6,13 +6,13 @@ use Rattle.std.specs.FinMap.{entries}
 use Rattle.git_object.specs.declared.object_id.ObjectId.{ObjectId}
 use Rattle.git_object.specs.ObjectId.{hex_of}
 use Rattle.pktline_core.specs.Packets.{spelling, Line, Flush}
-use Rattle.hub_core.specs.declared.command.Command.{Command}
+use Rattle.ref_store.specs.declared.command.Command.{Command}
 use Rattle.hub_core.specs.declared.outcome.Outcome.{Outcome}
-use Rattle.hub_core.specs.declared.outcome.Outcome.TheVariants.{Done, NotAdvertised, Stale, AtomicOther, Collided, Full}
+use Rattle.hub_core.specs.declared.outcome.Outcome.TheVariants.{Done, BadName, NotAdvertised, Stale, DirFile, AtomicOther, Collided, Full}
 use Rattle.hub_core.specs.declared.verdict.Verdict.{Verdict}
 use Rattle.hub_core.specs.declared.verdict.Verdict.TheVariants.{Allowed, DeniedBy, Fallthru}
-use Rattle.hub_core.specs.Name.{Name, zero_id}
-use Rattle.hub_core.specs.Store.{Refs}
+use Rattle.ref_store.specs.Refs.{Refs, zero_id}
+use Rattle.hub_core.specs.Name.{Name}
 
 -- a packet of a line with this payload
 abbrev pub packet : List ℕ → List ℕ
@@ -67,8 +67,10 @@ ref_at commands place = option_map_or (λ (c : Command). c.name) (slice_get comm
 -- why a command isn't done
 abbrev pub reason : List Command → Outcome → List ℕ
 reason commands Done = []
+reason commands BadName = codes "bad ref name"
 reason commands (NotAdvertised id) = codes "not advertised, it was " ++ hex_of id
 reason commands (Stale id) = codes "stale, it is " ++ hex_of id
+reason commands (DirFile ref) = codes "conflicts with " ++ ref
 reason commands (AtomicOther place) = codes "atomic push refused with " ++ ref_at commands place
 reason commands (Collided id) = codes "name collision " ++ hex_of id
 reason commands (Full count) = codes "repository would have " ++ decimal count ++ codes " objects"

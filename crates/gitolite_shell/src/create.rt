@@ -3,8 +3,8 @@ ghost use Rattle.std.specs.Prelude.{◌≡◌, ◌≤◌, ◌++◌, length, code
 ghost use Rattle.std.specs.Option.{option_map};
 ghost use Rattle.git_object.specs.Object.{links_of, object_name};
 ghost use Rattle.git_object.specs.ObjectId.{hex_id};
-ghost use Rattle.hub_core.specs.Name.{zero_id};
-ghost use Rattle.hub_core.specs.Store.{same_object};
+ghost use Rattle.ref_store.specs.Refs.{zero_id};
+ghost use Rattle.hub_core.specs.Collision.{same_object};
 ghost use Rattle.gitolite_shell.specs.Create.{command_at, create_in, empty_tree, HasShortName, is_first_commit, is_first_pack, links_to_empty_tree};
 
 use crate::first_packet::{at_end, letters, literal};

@@ -172,7 +172,7 @@ fn a_push_is_printed_and_logged_and_a_second_one_is_told(rt: HostRuntime) -> Res
     assert!(rt; printed == due);
     assert_eq!(rt; ended.log.len(), 4);
     assert!(rt; is_granted(&ended.log, 0) && is_granted(&ended.log, 2));
-    assert!(rt; told(&ended.log, 1) == Some(Outcome::Done));
+    assert!(rt; told(&ended.log, 1) == Some(&Outcome::Done));
     assert!(rt; matches!(told(&ended.log, 3), Some(Outcome::NotAdvertised(_))));
     Ok(())
 }
@@ -214,7 +214,7 @@ fn is_begun(alloc: Global) -> Result<bool, NoMemory> {
     if log.len() > 0 && !is_granted(&log, 0) {
         return Ok(false);
     }
-    if log.len() > 1 && told(&log, 1) != Some(Outcome::Done) {
+    if log.len() > 1 && told(&log, 1) != Some(&Outcome::Done) {
         return Ok(false);
     }
     match status {

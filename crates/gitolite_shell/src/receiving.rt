@@ -3,8 +3,8 @@ ghost use Rattle.std.specs.Prelude.{◌≡◌, ◌≤◌, ◌++◌, ◌∷◌, [
 ghost use Rattle.std.specs.List.{flat_map};
 ghost use Rattle.pktline_core.specs.Links.{KeepsReading};
 ghost use Rattle.pktline_core.specs.Packets.{spelling, Flush};
-ghost use Rattle.hub_core.specs.Name.{zero_id};
-ghost use Rattle.hub_core.specs.Store.{HasShortNames};
+ghost use Rattle.ref_store.specs.Refs.{zero_id};
+ghost use Rattle.hub_core.specs.State.{HasShortNames};
 ghost use Rattle.hub_core.specs.Hub.{Stands};
 ghost use Rattle.hub_core.specs.Desk.{DeskView, known};
 ghost use Rattle.interaction_tree.specs.Interaction.{write};
@@ -104,7 +104,7 @@ fn report_status<L: Link>(
     let Some(outcome) = outcomes.get(0) else {
         return Ok(());
     };
-    let Ok(line) = status_line(alloc, command, *outcome) else {
+    let Ok(line) = status_line(alloc, command, outcome) else {
         return Err(SessionEnd::NoMemory);
     };
     say(link, &line)
@@ -223,7 +223,7 @@ fn advertise<L: Link>(alloc: Global, link: &mut L, repo: &Repo) -> Result<(), Se
     ensures reading { KeepsReading (L.state link.old) (L.state link.new) }
 {
     let mut first = true;
-    for (name, id) in repo.refs().iter() {
+    for (name, id) in repo.refs() {
         advertise_ref(alloc, link, name.bytes(), *id, first)?;
         first = false;
     }

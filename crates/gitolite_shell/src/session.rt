@@ -1,7 +1,7 @@
 // One session.
 ghost use Rattle.std.specs.Prelude.{◌≡◌, ◌++◌, List, codes, OnOk, IfOk};
 ghost use Rattle.pktline_core.specs.Links.{IsLater};
-ghost use Rattle.hub_core.specs.Store.{HasShortNames};
+ghost use Rattle.hub_core.specs.State.{HasShortNames};
 ghost use Rattle.hub_core.specs.Hub.{Stands};
 ghost use Rattle.hub_core.specs.Desk.{DeskView, known};
 ghost use Rattle.interaction_tree.specs.Runs.{Runs};

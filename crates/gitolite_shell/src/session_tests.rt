@@ -67,11 +67,11 @@ pub fn is_granted(log: &EntryList, place: usize) -> bool {
 }
 
 // What the one command of the push at a place of the log was told.
-pub fn told(log: &EntryList, place: usize) -> Option<Outcome> {
+pub fn told(log: &EntryList, place: usize) -> Option<&Outcome> {
     let entry = log.get(place)?;
     match &entry.event {
         Event::Entered { .. } => None,
-        Event::Pushed { outcomes, .. } => outcomes.get(0).copied(),
+        Event::Pushed { outcomes, .. } => outcomes.get(0),
     }
 }
 
@@ -110,7 +110,7 @@ fn a_first_push_is_done_and_a_second_is_told(rt: HostRuntime) -> Result<(), Fail
     let log = desk.into_hub().into_log();
     assert_eq!(rt; log.len(), 4);
     assert!(rt; is_granted(&log, 0) && is_granted(&log, 2));
-    assert!(rt; told(&log, 1) == Some(Outcome::Done));
+    assert!(rt; told(&log, 1) == Some(&Outcome::Done));
     assert!(rt; matches!(told(&log, 3), Some(Outcome::NotAdvertised(_))));
     Ok(())
 }

@@ -4,7 +4,7 @@ ghost use Rattle.git_object.specs.ObjectId.{hex_of};
 ghost use Rattle.gitolite_shell.specs.Texts.{denial, denier, first_line, more_line, reason, status_text};
 
 use git_object::ObjectId;
-use hub_core::{Command, Outcome, RepoName, UserName, Verdict};
+use hub_core::{Command, Outcome, RefName, RepoName, UserName, Verdict};
 use itoa::Buffer;
 use std::alloc::{AllocError, Global};
 
@@ -56,6 +56,13 @@ fn push_id(text: &mut Vec<u8>, id: ObjectId) -> Result<(), AllocError>
     text.extend_from_slice(&id.hex())
 }
 
+fn push_ref(text: &mut Vec<u8>, name: &RefName) -> Result<(), AllocError>
+    ensures text { OnOk result (text.new.items ≡ text.old.items ++ name.now) }
+    ensures size { OnOk result (length text.new.items ≤ length text.old.items + 1024) }
+{
+    text.extend_from_slice(name.bytes())
+}
+
 /// The line of a ref in an advertisement. The first line bears the capabilities.
 pub fn ref_line(
     alloc: Global,
@@ -82,10 +89,10 @@ pub fn ref_line(
 pub fn status_line(
     alloc: Global,
     command: &Command,
-    outcome: Outcome,
+    outcome: &Outcome,
 ) -> Result<Vec<u8>, AllocError>
-    ensures text { IfOk result (λ v. v.items ≡ status_text (command.now ∷ []) command.now.name outcome) }
-    ensures size { IfOk result (λ v. length v.items ≤ 2 * length command.now.name + 100) }
+    ensures text { IfOk result (λ v. v.items ≡ status_text (command.now ∷ []) command.now.name outcome.now) }
+    ensures size { IfOk result (λ v. length v.items ≤ 2 * length command.now.name + 1200) }
 {
     if outcome.is_done() {
         let mut text = Vec::from_slice(alloc, b"ok ")?;
@@ -102,34 +109,39 @@ pub fn status_line(
 }
 
 // Why the one command of a push isn't done.
-fn push_reason(text: &mut Vec<u8>, command: &Command, outcome: Outcome) -> Result<(), AllocError>
-    ensures text { OnOk result (text.new.items ≡ text.old.items ++ reason (command.now ∷ []) outcome) }
-    ensures size { OnOk result (length text.new.items ≤ length text.old.items + length command.now.name + 70) }
+fn push_reason(text: &mut Vec<u8>, command: &Command, outcome: &Outcome) -> Result<(), AllocError>
+    ensures text { OnOk result (text.new.items ≡ text.old.items ++ reason (command.now ∷ []) outcome.now) }
+    ensures size { OnOk result (length text.new.items ≤ length text.old.items + length command.now.name + 1100) }
 {
     match outcome {
         Outcome::Done => Ok(()),
+        Outcome::BadName => text.extend_from_slice(b"bad ref name"),
         Outcome::NotAdvertised(id) => {
             text.extend_from_slice(b"not advertised, it was ")?;
-            push_id(text, id)
+            push_id(text, *id)
         }
         Outcome::Stale(id) => {
             text.extend_from_slice(b"stale, it is ")?;
-            push_id(text, id)
+            push_id(text, *id)
+        }
+        Outcome::DirFile(other) => {
+            text.extend_from_slice(b"conflicts with ")?;
+            push_ref(text, other)
         }
         Outcome::AtomicOther(place) => {
             text.extend_from_slice(b"atomic push refused with ")?;
-            if place == 0 {
+            if *place == 0 {
                 return text.extend_from_slice(command.name.bytes());
             }
             Ok(())
         }
         Outcome::Collided(id) => {
             text.extend_from_slice(b"name collision ")?;
-            push_id(text, id)
+            push_id(text, *id)
         }
         Outcome::Full(count) => {
             text.extend_from_slice(b"repository would have ")?;
-            push_number(text, count)?;
+            push_number(text, *count)?;
             text.extend_from_slice(b" objects")
         }
     }

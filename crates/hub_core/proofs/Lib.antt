@@ -2,9 +2,11 @@ pub mod ListLemmas
 pub mod NameLemmas
 pub mod HistoryLemmas
 pub mod ObjectLemmas
+pub mod CollisionLemmas
 pub mod OpeningLemmas
 pub mod ShortNames
 pub mod PinLemmas
 pub mod PushLemmas
+pub mod RunningLemmas
 pub mod DeskLemmas
 pub mod RunLemmas

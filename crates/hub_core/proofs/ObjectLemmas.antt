@@ -1,5 +1,5 @@
 -- Each object has its name once.
-use Rattle.std.proofs.Common.{◌≡◌, List, [], ◌∷◌, ◌++◌, refl, sym, ◌∙◌, ap, subst, Bool, true, false, ◌||◌, cond}
+use Rattle.std.proofs.Common.{◌≡◌, List, [], ◌∷◌, ◌++◌, refl, sym, ◌∙◌, ap, subst, arith, Bool, true, false, cond}
 use Rattle.std.specs.Prelude.{Option, Some, None, if◌then◌else◌}
 use Rattle.std.specs.List.{list_any, AllByRecursion}
 use Rattle.std.specs.Option.{unwrap_or}
@@ -8,47 +8,25 @@ use Rattle.std.specs.Cmp.Lexicographic.{slice_cmp, nat_list_cmp_total}
 use Rattle.std.specs.FinMap.{get, insert, empty, get-insert, get-empty}
 use Rattle.base_types.specs.Names.{ByName}
 use Rattle.git_object.specs.Content.{Content}
-use Rattle.git_object.specs.Object.{object_name}
 use Rattle.hub_core.specs.declared.name_table.Named.{Named}
-use Rattle.hub_core.specs.declared.command.Command.{Command}
+use Rattle.ref_store.specs.declared.command.Command.{Command}
 use Rattle.hub_core.specs.declared.outcome.Outcome.{Outcome}
 use Rattle.hub_core.specs.declared.entry.Entry.{Entry}
 use Rattle.hub_core.specs.declared.entry.EnterKept.{EnterKept}
 use Rattle.hub_core.specs.declared.entry.EnterKept.TheVariants.{Granted, Created, Denied, NoRepo}
 use Rattle.hub_core.specs.declared.entry.Event.{Event}
 use Rattle.hub_core.specs.declared.entry.Event.TheVariants.{Entered, Pushed}
-use Rattle.hub_core.specs.Name.{Name, same_id, placed_in}
-use Rattle.hub_core.specs.Store.{has_object, with_pack, HasNamesOnce}
+use Rattle.ref_store.specs.Objects.{with_pack, HasNamesOnce}
+use Rattle.ref_store.proofs.PackLemmas.{once-with_pack}
+use Rattle.hub_core.specs.Name.{Name, placed_in}
 use Rattle.hub_core.specs.State.{Repository, State, start, changed, repository_at, empty_repository, put_in_place}
 use Rattle.hub_core.specs.Pin.{Pinned, answer_to, made_by}
 use Rattle.hub_core.specs.Push.{is_done, refs_left}
 use Rattle.hub_core.specs.History.{History, new_history, after, after_push, opening_at, outcomes_at, push_change, IsDue, IsLegal, replay}
 use Rattle.hub_core.proofs.HistoryLemmas.{history-keeps}
 
-none_of_two : (a b : Bool) → (a || b) ≡ false → (a ≡ false) × (b ≡ false)
-none_of_two true b is = cc
-none_of_two false b is = (refl, is)
-
-any_more : (p : Content → Bool) (objects : List Content) (o : Content) → list_any p objects ≡ false → p o ≡ false → list_any p (objects ++ o ∷ []) ≡ false
-any_more p [] o none here = ap (λ b. b || false) here
-any_more p (x ∷ xs) o none here =
-    let parts = none_of_two (p x) (list_any p xs) none in
-    ap (λ b. b || list_any p (xs ++ o ∷ [])) parts.0 ∙ any_more p xs o parts.1 here
-
-once_more : (objects : List Content) (o : Content) → HasNamesOnce objects → has_object objects (object_name o) ≡ false → HasNamesOnce (objects ++ o ∷ [])
-once_more [] o once absent = (refl, tt)
-once_more (x ∷ xs) o once absent =
-    let apart = none_of_two (same_id (object_name x) (object_name o)) (has_object xs (object_name o)) absent in
-    (any_more (λ later. same_id (object_name x) (object_name later)) xs o once.0 apart.0, once_more xs o once.1 apart.1)
-
-once-with_pack : (objects pack : List Content) → HasNamesOnce objects → HasNamesOnce (with_pack objects pack)
-once-with_pack objects [] once = once
-once-with_pack objects (o ∷ os) once =
-    once-with_pack (if has_object objects (object_name o) then objects else objects ++ o ∷ []) os (chosen (has_object objects (object_name o)) refl)
-  where
-    chosen : (b : Bool) → has_object objects (object_name o) ≡ b → HasNamesOnce (if b then objects else objects ++ o ∷ [])
-    chosen true is = once
-    chosen false is = once_more objects o once is
+none_there : HasNamesOnce []
+none_there i j d lt bound same = absurd (omega (arith, bound))
 
 abbrev EachOnce : ByName Repository → Type 0
 EachOnce known = (name : Name) (repository : Repository) → get known name ≡ Some repository → HasNamesOnce repository.objects
@@ -75,12 +53,12 @@ once_at : (state : State) → EachOnce state.repositories → (name : Name) → 
 once_at state each name = by_get (get state.repositories name) refl
   where
     by_get : (o : Option Repository) → get state.repositories name ≡ o → HasNamesOnce (unwrap_or o (empty_repository None)).objects
-    by_get None is = tt
+    by_get None is = none_there
     by_get (Some repository) is = each name repository is
 
 once-opening : (state : State) (user repo : Name) (answer : EnterKept) → EachOnce state.repositories → EachOnce (changed state (made_by user repo answer)).repositories
 once-opening state user repo Granted each = each
-once-opening state user repo Created each = once-insert state.repositories repo (empty_repository (Some user)) tt each
+once-opening state user repo Created each = once-insert state.repositories repo (empty_repository (Some user)) none_there each
 once-opening state user repo (Denied verdict) each = each
 once-opening state user repo NoRepo each = each
 
@@ -102,7 +80,7 @@ once-after h (Pushed place pack commands atomic outcomes) due each = by_opening 
     by_opening (Some pinned) = once-push h.state pinned pack commands (outcomes_at h.state pinned pack commands atomic) each
 
 once-start : (admin : Name) → EachOnce (start admin).repositories
-once-start admin = once-insert _ _ (empty_repository None) tt (once-insert empty _ (empty_repository None) tt once-empty)
+once-start admin = once-insert _ _ (empty_repository None) none_there (once-insert empty _ (empty_repository None) none_there once-empty)
 
 pub names_once : (admin : Name) (log : List Entry) → IsLegal admin log → EachOnce (replay admin log).repositories
 names_once admin log legal = history-keeps (λ (h : History). EachOnce h.state.repositories) once-after (new_history admin) log legal (once-start admin)

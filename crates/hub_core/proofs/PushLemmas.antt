@@ -1,14 +1,19 @@
 -- Outcomes of pushes, and what they leave.
-use Rattle.std.proofs.Common.{◌≡◌, List, ℕ, [], ◌∷◌, refl, sym, ◌∙◌, ap, Bool, true, false, map, not, ◌||◌, length, arith, subst, T}
+use Rattle.std.proofs.Common.{◌≡◌, List, ℕ, [], ◌∷◌, refl, sym, ◌∙◌, ap, ◌++◌, ◌<◌, ◌≤◌, nat_lt, Bool, true, false, map, not, ◌||◌, length, arith, subst, T}
 use Rattle.std.specs.Prelude.{if◌then◌else◌, Option, Some, None}
 use Rattle.std.specs.List.{list_any, position}
 use Rattle.git_object.specs.Content.{Content}
-use Rattle.hub_core.specs.declared.command.Command.{Command}
+use Rattle.ref_store.specs.declared.command.Command.{Command}
 use Rattle.hub_core.specs.declared.outcome.Outcome.{Outcome}
-use Rattle.hub_core.specs.declared.outcome.Outcome.TheVariants.{Done, NotAdvertised, Stale, AtomicOther, Collided, Full}
-use Rattle.hub_core.specs.Store.{Refs, Store, with_pack}
+use Rattle.hub_core.specs.declared.outcome.Outcome.TheVariants.{Done, BadName, NotAdvertised, Stale, DirFile, AtomicOther, Collided, Full}
+use Rattle.ref_store.specs.Objects.{with_pack, HasNamesOnce, HasNoCollision, IsFirstCollision}
+use Rattle.ref_store.specs.Refs.{Refs}
+use Rattle.ref_store.specs.Store.{Store}
 use Rattle.hub_core.specs.State.{Repository}
-use Rattle.hub_core.specs.Push.{landed, refs_left, is_done, beside, beside_first, together, in_order, by_refs, refs_after}
+use Rattle.hub_core.specs.Push.{landed, refs_left, is_done, beside, beside_first, together, in_order, by_refs, refs_after, unless_collided, unless_full, outcomes_in}
+use Rattle.hub_core.proofs.CollisionLemmas.{collision_none, collision_some}
+use Rattle.std.proofs.lemmas.Bool.Decides.{nat_tests}
+use Rattle.git_object.specs.declared.object_id.ObjectId.{ObjectId}
 
 pub none_alike : (o : Outcome) → is_done o ≡ false → (cs : List Command) → list_any is_done (map (λ c. o) cs) ≡ false
 none_alike o is [] = refl
@@ -17,8 +22,10 @@ none_alike o is (c ∷ cs) = ap (λ b. b || list_any is_done (map (λ c. o) cs))
 none_beside : (first : ℕ) (os : List Outcome) → list_any is_done (map (beside first) os) ≡ false
 none_beside first [] = refl
 none_beside first (Done ∷ os) = none_beside first os
+none_beside first (BadName ∷ os) = none_beside first os
 none_beside first (NotAdvertised id ∷ os) = none_beside first os
 none_beside first (Stale id ∷ os) = none_beside first os
+none_beside first (DirFile r ∷ os) = none_beside first os
 none_beside first (AtomicOther i ∷ os) = none_beside first os
 none_beside first (Collided id ∷ os) = none_beside first os
 none_beside first (Full n ∷ os) = none_beside first os
@@ -56,3 +63,24 @@ landed_some now pack cs atomic ran os store next told stored is = is ∙ by_done
         let same : os ≡ ran = told ∙ done_together atomic ran (ap (list_any is_done) (sym told) ∙ some) in
         ap (λ s. Some (with_store now s)) stored ∙ ap (λ o. Some (record now { objects = with_pack now.objects pack; refs = refs_left now.refs cs o })) (sym same)
     by_done false none = refl
+
+-- the outcomes of a push by what the repository tells of its pack
+pub all_collided : (now : Repository) (pack : List Content) (cs : List Command) (atomic : Bool) (js : List (Option Outcome)) (id : ObjectId) (kept given : ℕ)
+    → HasNamesOnce now.objects → IsFirstCollision (now.objects ++ pack) id kept given → map (λ c. Collided id) cs ≡ outcomes_in now pack cs atomic js
+all_collided now pack cs atomic js id kept given once first =
+    ap (λ (o : Option ObjectId). unless_collided o cs (unless_full (length (with_pack now.objects pack)) cs (together atomic (in_order now.refs cs js)))) (sym (collision_some now.objects pack id kept given once first))
+
+pub all_full : (now : Repository) (pack : List Content) (cs : List Command) (atomic : Bool) (js : List (Option Outcome)) (count : ℕ)
+    → HasNoCollision (now.objects ++ pack) → count ≡ length (with_pack now.objects pack) → 4294967295 < count → map (λ c. Full count) cs ≡ outcomes_in now pack cs atomic js
+all_full now pack cs atomic js count apart is past =
+    let full : nat_lt 4294967295 count ≡ true = grind (arith, nat_tests) in
+    ap (λ (b : Bool). if b then map (λ c. Full count) cs else together atomic (in_order now.refs cs js)) (sym full)
+    ∙ ap (λ (n : ℕ). unless_full n cs (together atomic (in_order now.refs cs js))) is
+    ∙ ap (λ (o : Option ObjectId). unless_collided o cs (unless_full (length (with_pack now.objects pack)) cs (together atomic (in_order now.refs cs js)))) (sym (collision_none now.objects pack apart))
+
+pub as_in_order : (now : Repository) (pack : List Content) (cs : List Command) (atomic : Bool) (js : List (Option Outcome))
+    → HasNoCollision (now.objects ++ pack) → length (with_pack now.objects pack) ≤ 4294967295 → together atomic (in_order now.refs cs js) ≡ outcomes_in now pack cs atomic js
+as_in_order now pack cs atomic js apart few =
+    let not_full : nat_lt 4294967295 (length (with_pack now.objects pack)) ≡ false = grind (arith, nat_tests) in
+    ap (λ (b : Bool). if b then map (λ c. Full (length (with_pack now.objects pack))) cs else together atomic (in_order now.refs cs js)) (sym not_full)
+    ∙ ap (λ (o : Option ObjectId). unless_collided o cs (unless_full (length (with_pack now.objects pack)) cs (together atomic (in_order now.refs cs js)))) (sym (collision_none now.objects pack apart))

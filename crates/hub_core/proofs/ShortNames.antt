@@ -12,16 +12,17 @@ use Rattle.std.proofs.lemmas.List.Elements.{All-from_recursion}
 use Rattle.base_types.specs.Names.{ByName}
 use Rattle.git_object.specs.Content.{Content}
 use Rattle.git_object.specs.declared.object_id.ObjectId.{ObjectId}
-use Rattle.hub_core.specs.declared.command.Command.{Command}
+use Rattle.ref_store.specs.declared.command.Command.{Command}
 use Rattle.hub_core.specs.declared.outcome.Outcome.{Outcome}
 use Rattle.hub_core.specs.declared.entry.Entry.{Entry}
 use Rattle.hub_core.specs.declared.entry.EnterKept.{EnterKept}
 use Rattle.hub_core.specs.declared.entry.EnterKept.TheVariants.{Granted, Created, Denied, NoRepo}
 use Rattle.hub_core.specs.declared.entry.Event.{Event}
 use Rattle.hub_core.specs.declared.entry.Event.TheVariants.{Entered, Pushed}
-use Rattle.hub_core.specs.Name.{Name, same_name, same_id, zero_id, placed_in}
-use Rattle.hub_core.specs.Store.{Refs, moved, with_pack, HasShortNames}
-use Rattle.hub_core.specs.State.{Repository, State, start, changed, repository_at, empty_repository, put_in_place}
+use Rattle.ref_store.specs.Objects.{same_id, with_pack}
+use Rattle.ref_store.specs.Refs.{Refs, zero_id, moved}
+use Rattle.hub_core.specs.Name.{Name, same_name, placed_in}
+use Rattle.hub_core.specs.State.{HasShortNames, Repository, State, start, changed, repository_at, empty_repository, put_in_place}
 use Rattle.hub_core.specs.Pin.{Opening, Pinned, answer_to, made_by}
 use Rattle.hub_core.specs.Push.{is_done, refs_after, refs_left}
 use Rattle.hub_core.specs.Hub.{Stands}

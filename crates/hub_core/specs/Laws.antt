@@ -3,7 +3,7 @@ use Rattle.std.specs.Prelude.{◌≡◌, ◌↔◌, ◌⊎◌, ℕ, ◌+◌, ◌
 use Rattle.std.specs.List.{slice_get}
 use Rattle.std.specs.FinMap.{get}
 use Rattle.git_object.specs.Content.{Content}
-use Rattle.hub_core.specs.declared.command.Command.{Command}
+use Rattle.ref_store.specs.declared.command.Command.{Command}
 use Rattle.hub_core.specs.declared.outcome.Outcome.{Outcome}
 use Rattle.hub_core.specs.declared.verdict.Want.TheVariants.{Write}
 use Rattle.hub_core.specs.declared.entry.Entry.{Entry}
@@ -11,8 +11,8 @@ use Rattle.hub_core.specs.declared.entry.EnterKept.{EnterKept}
 use Rattle.hub_core.specs.declared.entry.EnterKept.TheVariants.{Granted, Created}
 use Rattle.hub_core.specs.declared.entry.Event.TheVariants.{Entered, Pushed}
 use Rattle.hub_core.specs.Name.{Name}
-use Rattle.hub_core.specs.Store.{HasNamesOnce, HasShortNames}
-use Rattle.hub_core.specs.State.{Repository}
+use Rattle.ref_store.specs.Objects.{HasNamesOnce}
+use Rattle.hub_core.specs.State.{Repository, HasShortNames}
 use Rattle.hub_core.specs.Pin.{Opening, Pinned, pinned_in}
 use Rattle.hub_core.specs.Push.{AreWithinLimits}
 use Rattle.hub_core.specs.History.{history, replay, opening_at, pinned_by, outcomes_at, IsDue, IsLegal}

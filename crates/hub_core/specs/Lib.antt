@@ -1,9 +1,10 @@
 pub mod Name
 pub mod Rule
-pub mod Store
+pub mod Collision
 pub mod State
 pub mod Pin
 pub mod Push
+pub mod Running
 pub mod History
 pub mod Hub
 pub mod Answer

@@ -1,9 +1,8 @@
 -- Names compared, and values by their names.
-use Rattle.std.specs.Prelude.{ℕ, Bool, List, [], ◌∷◌, nat_eq, replicate}
+use Rattle.std.specs.Prelude.{ℕ, Bool, List, [], ◌∷◌, nat_eq}
 use Rattle.std.specs.FinMap.{from_entries, insert}
 use lib.Pointwise.{pointwise}
 use Rattle.base_types.specs.Names.{ByName}
-use Rattle.git_object.specs.declared.object_id.ObjectId.{ObjectId}
 use Rattle.hub_core.specs.declared.name_table.Named.{Named}
 
 -- bytes: the name of a user, of a repository, of a ref
@@ -12,13 +11,6 @@ Name = List ℕ
 
 abbrev pub same_name : Name → Name → Bool
 same_name a b = pointwise nat_eq a b
-
-abbrev pub same_id : ObjectId → ObjectId → Bool
-same_id a b = pointwise nat_eq a.bytes b.bytes
-
--- the id that stands for no object
-abbrev pub zero_id : ObjectId
-zero_id = record { bytes = replicate 20 0 }
 
 -- the map of names with their values; of two with one name the first counts
 abbrev pub map_of : {X : Type 0} → List (Name × X) → ByName X

@@ -3,11 +3,13 @@ use Rattle.std.specs.Prelude.{ℕ, ◌<◌, ◌≤◌, Bool, true, false, not, n
 use Rattle.std.specs.List.{list_any, position, AllByRecursion}
 use Rattle.git_object.specs.Content.{Content}
 use Rattle.git_object.specs.declared.object_id.ObjectId.{ObjectId}
-use Rattle.hub_core.specs.declared.command.Command.{Command}
+use Rattle.ref_store.specs.declared.command.Command.{Command}
 use Rattle.hub_core.specs.declared.outcome.Outcome.{Outcome}
-use Rattle.hub_core.specs.declared.outcome.Outcome.TheVariants.{Done, NotAdvertised, Stale, AtomicOther, Collided, Full}
-use Rattle.hub_core.specs.Name.{same_id}
-use Rattle.hub_core.specs.Store.{Refs, value, moved, collision, with_pack}
+use Rattle.hub_core.specs.declared.outcome.Outcome.TheVariants.{Done, BadName, NotAdvertised, Stale, DirFile, AtomicOther, Collided, Full}
+use Rattle.ref_store.specs.Objects.{same_id, with_pack}
+use Rattle.ref_store.specs.RefName.{is_ref_name}
+use Rattle.ref_store.specs.Refs.{Name, Refs, zero_id, value, moved, first_at_odds}
+use Rattle.hub_core.specs.Collision.{collision}
 use Rattle.hub_core.specs.State.{Repository}
 use Rattle.hub_core.specs.Pin.{Pinned}
 
@@ -22,7 +24,8 @@ pub record AreWithinLimits (commands : List Command) : Type 0 where
 -- the outcome of a command by what the opening pinned, or none
 abbrev pub judged : Pinned → List Content → List Command → Command → Option Outcome
 judged pinned pack commands command =
-    if same_id (value pinned.repository.refs command.name) command.old then None
+    if not (is_ref_name command.name) then Some BadName
+    else if same_id (value pinned.repository.refs command.name) command.old then None
     else Some (NotAdvertised (value pinned.repository.refs command.name))
 
 abbrev pub judgement : Pinned → List Content → List Command → List (Option Outcome)
@@ -30,11 +33,17 @@ judgement pinned pack commands = map (judged pinned pack commands) commands
 
 -- II. By the refs just before, as the push's earlier commands leave them
 
+-- a create beside a ref that is a directory of it or stands below it
+abbrev pub by_directory : Option Name → Outcome
+by_directory None = Done
+by_directory (Some r) = DirFile r
+
 abbrev pub by_refs : Refs → Command → Option Outcome → Outcome
 by_refs refs command (Some outcome) = outcome
 by_refs refs command None =
-    if same_id (value refs command.name) command.old then Done
-    else Stale (value refs command.name)
+    if not (same_id (value refs command.name) command.old) then Stale (value refs command.name)
+    else if same_id command.old zero_id then by_directory (first_at_odds refs command.name)
+    else Done
 
 abbrev pub is_done : Outcome → Bool
 is_done Done = true
@@ -43,8 +52,10 @@ is_done _ = false
 -- the number by which an outcome is known, whatever it holds
 abbrev pub outcome_number : Outcome → ℕ
 outcome_number Done = 1
+outcome_number BadName = 2
 outcome_number (NotAdvertised id) = 5
 outcome_number (Stale id) = 11
+outcome_number (DirFile r) = 12
 outcome_number (AtomicOther place) = 13
 outcome_number (Collided id) = 14
 outcome_number (Full count) = 17

@@ -1,7 +1,7 @@
 -- Calls of a hub, one after the other, of any callers.
 use Rattle.std.specs.Prelude.{◌≡◌, ℕ, Bool, List, [], ◌∷◌}
 use Rattle.git_object.specs.Content.{Content}
-use Rattle.hub_core.specs.declared.command.Command.{Command}
+use Rattle.ref_store.specs.declared.command.Command.{Command}
 use Rattle.hub_core.specs.declared.verdict.Want.{Want}
 use Rattle.hub_core.specs.declared.verdict.Want.TheVariants.{Write}
 use Rattle.hub_core.specs.declared.hub.Entered.{Entered}

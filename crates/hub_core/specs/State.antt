@@ -1,14 +1,16 @@
 -- The state of a hub: repositories by their names, and the conf in force.
-use Rattle.std.specs.Prelude.{ℕ, List, [], ◌∷◌, Option, None, Some, codes}
-use Rattle.std.specs.List.{sum_by}
+use Rattle.std.specs.Prelude.{ℕ, ◌≤◌, length, List, [], ◌∷◌, Option, None, Some, codes}
+use Rattle.std.specs.List.{sum_by, All}
 use Rattle.std.specs.Option.{unwrap_or}
 use Rattle.std.specs.FinMap.{empty, entries, get, insert, len}
 use Rattle.base_types.specs.Names.{ByName}
 use Rattle.git_object.specs.Content.{Content}
+use Rattle.git_object.specs.declared.object_id.ObjectId.{ObjectId}
 use Rattle.hub_core.specs.declared.name_table.Named.{Named}
 use Rattle.hub_core.specs.declared.rule.Rule.{Rule}
 use Rattle.hub_core.specs.Name.{Name, placed_in}
-use Rattle.hub_core.specs.Store.{Refs, Store}
+use Rattle.ref_store.specs.Refs.{Refs}
+use Rattle.ref_store.specs.Store.{Store}
 use Rattle.hub_core.specs.Rule.{setup_rules}
 
 -- a repository: its objects in the order in which they came, its refs, who created it, and its roles, each a role and a user
@@ -20,6 +22,10 @@ pub record Repository : Type 0 where
 
 abbrev pub store_of : Repository → Store
 store_of repository = record { objects = repository.objects; refs = repository.refs }
+
+-- no ref's name has more than 1,024 bytes
+abbrev pub HasShortNames : Refs → Type 0
+HasShortNames refs = All (λ (ref : Name × ObjectId). length ref.0 ≤ 1024) (entries refs)
 
 abbrev pub empty_repository : Option Name → Repository
 empty_repository creator = record { objects = []; refs = empty; creator = creator; roles = [] }

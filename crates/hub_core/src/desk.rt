@@ -4,13 +4,13 @@ ghost use Rattle.hub_core.specs.Hub.{Stands};
 ghost use Rattle.hub_core.specs.Push.{AreWithinLimits, judgement};
 ghost use Rattle.hub_core.specs.Desk.{DeskView, Enters, KeepsPins, known, Pushes};
 
-use crate::command::CommandList;
 use crate::hub::{Entered, Hub, Pushed};
 use crate::judging::Judged;
 use crate::name::{RepoName, UserName};
 use crate::pin::Pin;
 use crate::verdict::Want;
 use git_object::ObjectList;
+use ref_store::CommandList;
 use std::alloc::Global;
 
 /// One caller of a hub, of which there may be others.

@@ -1,10 +1,10 @@
 // The log.
-use crate::command::CommandList;
 use crate::name::{RepoName, UserName};
 use crate::outcome::OutcomeList;
 use crate::verdict::{Verdict, Want};
 use base_types::ItemList;
 use git_object::ObjectList;
+use ref_store::CommandList;
 
 /// What the log keeps of the answer to an opening.
 #[derive(Clone, Copy, Debug, PartialEq, Eq)]

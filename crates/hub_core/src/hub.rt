@@ -10,7 +10,6 @@ ghost use Rattle.hub_core.specs.History.{history, IsDue, IsLegal, outcomes_at, r
 ghost use Rattle.hub_core.specs.Hub.{logged, Logs, Stands};
 ghost use Rattle.hub_core.specs.Answer.{AnswersOpening, AnswersPush, IsPinOf, kept, opened, pin_of, settled};
 
-use crate::command::CommandList;
 use crate::entry::{EnterKept, Entry, EntryList, Event};
 use crate::judging::Judged;
 use crate::name::{RepoName, UserName};
@@ -20,10 +19,10 @@ use crate::pin::Pin;
 use crate::push::{Decided, decide};
 use crate::rule::Policy;
 use crate::state::HostedRepo;
-use crate::store::Repo;
 use crate::verdict::{Verdict, Want};
 use base_types::{NoMemory, Text};
 use git_object::ObjectList;
+use ref_store::{CommandList, Repo};
 use std::alloc::Global;
 use std::marker::Model;
 
@@ -118,7 +117,7 @@ impl Hub {
     {
         let mut count: u64 = 0;
         for (_, hosted) in self.repositories.entries.iter() {
-            count = count.saturating_add(hosted.repo().refs().len() as u64);
+            count = count.saturating_add(hosted.repo().ref_count() as u64);
         }
         count
     }
@@ -195,7 +194,7 @@ impl Hub {
                 Ok(Entered::Granted(pin))
             }
             EnterKept::Created => {
-                let hosted = HostedRepo::new(alloc, Repo::empty(alloc), Some(user.clone()?))?;
+                let hosted = HostedRepo::new(alloc, Repo::empty(alloc)?, Some(user.clone()?))?;
                 let pin = self.pin(user, repo, want, hosted.clone()?)?;
                 self.commit(caller, event, in_place(alloc, repo, Some(hosted))?, None)?;
                 Ok(Entered::Created(pin))
@@ -314,7 +313,7 @@ impl Hub {
     {
         match self.repositories.get(name) {
             Some(hosted) => Ok(hosted.clone()?),
-            None => HostedRepo::new(alloc, Repo::empty(alloc), None),
+            None => HostedRepo::new(alloc, Repo::empty(alloc)?, None),
         }
     }
 
@@ -373,7 +372,7 @@ fn add_empty(
 ) -> Result<(), NoMemory>
     ensures { OnOk result (map_of repositories.new.entries.entries ≡ map.insert (map_of repositories.old.entries.entries) name.now (empty_repository None)) }
 {
-    let hosted = HostedRepo::new(alloc, Repo::empty(alloc), None)?;
+    let hosted = HostedRepo::new(alloc, Repo::empty(alloc)?, None)?;
     let name = Text::of(alloc, name)?;
     repositories.reserve(1)?;
     repositories.put(name, hosted);

@@ -2,11 +2,11 @@
 ghost use Rattle.std.specs.Prelude.{◌≡◌, IfOk};
 ghost use Rattle.hub_core.specs.Push.{judged, judgement};
 
-use crate::command::{Command, CommandList};
 use crate::outcome::Outcome;
 use crate::pin::Pin;
 use base_types::NoMemory;
 use git_object::ObjectList;
+use ref_store::{Command, CommandList, RefName};
 use std::alloc::Global;
 use std::marker::Model;
 
@@ -57,6 +57,9 @@ fn judge_one(
 ) -> Option<Outcome>
     ensures { result ≡ judged pin.now.pinned pack.now commands.now command.now }
 {
+    if !RefName::is_name(command.name.bytes()) {
+        return Some(Outcome::BadName);
+    }
     let value = pin.repo().value(&command.name);
     if value == command.old {
         return None;

@@ -1,10 +1,10 @@
 //! The hub: openings and pushes, the log of their answers, and the state that the log leads to.
 //!
-//! - `name`: names of users, of repositories and of refs;
+//! - `name`: names of users and of repositories;
 //! - `verdict`, `rule`: what is wanted, and what the rules in force say of it;
 //! - `name_table`: values by their names;
-//! - `store`, `state`: what a repository stores, and a repository as the hub hosts it;
-//! - `command`, `outcome`: what a push asks for, and what it is told;
+//! - `state`: a repository as the hub hosts it;
+//! - `outcome`: what the commands of a push are told;
 //! - `entry`: the log;
 //! - `pin`: what held at an opening;
 //! - `judging`, `push`: the outcomes of a push, by its opening alone, and then by what is there just before it;
@@ -13,7 +13,6 @@
 //! - `laws`: laws of the definitions.
 #![tactic(auto)]
 
-mod command;
 mod desk;
 mod entry;
 mod hub;
@@ -26,11 +25,9 @@ mod pin;
 mod push;
 mod rule;
 mod state;
-mod store;
 mod verdict;
 
 pub use base_types::{ItemList, NoMemory, Text};
-pub use command::{Command, CommandList};
 pub use desk::{Desk, LoneDesk};
 pub use entry::{EnterKept, Entry, EntryList, Event};
 pub use hub::{Entered, Hub, Pushed};
@@ -39,8 +36,8 @@ pub use laws::hold_laws;
 pub use name::{RepoName, UserName};
 pub use outcome::{Outcome, OutcomeList};
 pub use pin::Pin;
+pub use ref_store::{Command, CommandList, RefName, Repo};
 pub use rule::{Policy, Rule};
-pub use store::Repo;
 pub use verdict::{Base, Letter, Verdict, Want};
 
 #[cfg(test)]

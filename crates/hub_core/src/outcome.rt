@@ -4,17 +4,22 @@ ghost use Rattle.hub_core.specs.Push.{is_done, outcome_number};
 
 use base_types::ItemList;
 use git_object::ObjectId;
+use ref_store::RefName;
 use std::alloc::AllocError;
 
 /// What became of a command.
-#[derive(Copy, Debug, PartialEq, Eq)]
+#[derive(Drop, PartialEq, Eq)]
 pub enum Outcome {
     /// The ref has moved.
     Done,
+    /// The ref's name isn't one that a ref may have.
+    BadName,
     /// The ref's value at the opening, which isn't the command's old value.
     NotAdvertised(ObjectId),
     /// The ref's value just before, which isn't the command's old value.
     Stale(ObjectId),
+    /// A create, and this ref is a directory of its ref or stands below it. Of several it is the least.
+    DirFile(RefName),
     /// The push is atomic, and the command of this place, counted from 0, is the first that was refused.
     AtomicOther(u32),
     /// The pack holds another object of this name.
@@ -30,25 +35,36 @@ impl Clone for Outcome {
     ghost is_clone = { λ outcome copy. copy ≡ outcome };
 
     fn clone(&self) -> Result<Outcome, AllocError> {
-        Ok(*self)
+        Ok(match self {
+            Outcome::Done => Outcome::Done,
+            Outcome::BadName => Outcome::BadName,
+            Outcome::NotAdvertised(id) => Outcome::NotAdvertised(*id),
+            Outcome::Stale(id) => Outcome::Stale(*id),
+            Outcome::DirFile(name) => Outcome::DirFile(name.clone()?),
+            Outcome::AtomicOther(first) => Outcome::AtomicOther(*first),
+            Outcome::Collided(id) => Outcome::Collided(*id),
+            Outcome::Full(count) => Outcome::Full(*count),
+        })
     }
 }
 
 impl Outcome {
-    pub fn is_done(self) -> bool
-        ensures { result ≡ is_done self }
+    pub fn is_done(&self) -> bool
+        ensures { result ≡ is_done self.now }
     {
         matches!(self, Outcome::Done)
     }
 
     /// The number by which the outcome is known, whatever it holds. A variant with a field can't bear it itself.
-    pub fn number(self) -> u8
-        ensures { result ≡ outcome_number self }
+    pub fn number(&self) -> u8
+        ensures { result ≡ outcome_number self.now }
     {
         match self {
             Outcome::Done => 1,
+            Outcome::BadName => 2,
             Outcome::NotAdvertised(_) => 5,
             Outcome::Stale(_) => 11,
+            Outcome::DirFile(_) => 12,
             Outcome::AtomicOther(_) => 13,
             Outcome::Collided(_) => 14,
             Outcome::Full(_) => 17,

@@ -5,8 +5,8 @@ ghost use Rattle.hub_core.specs.State.{store_of, rules_of};
 use crate::name::{RepoName, UserName};
 use crate::rule::Policy;
 use crate::state::HostedRepo;
-use crate::store::Repo;
 use crate::verdict::Want;
+use ref_store::Repo;
 use std::marker::Model;
 
 /// What held at an opening that was granted: who opened which repository to do what, the rules, and the repository.

@@ -1,18 +1,16 @@
 // What a push does to a repository.
-ghost use Rattle.std.specs.Prelude.{◌≡◌, ◌<◌, ◌≤◌, ◌^◌, if◌then◌else◌, IfOk, IfSome, length, map, None, not, OnOk, Some};
+ghost use Rattle.std.specs.Prelude.{◌≡◌, ◌<◌, ◌≤◌, ◌^◌, if◌then◌else◌, IfOk, IfSome, length, map, None, not, OnOk, Some, true};
 ghost use Rattle.std.specs.List.{list_any, position};
-ghost use Rattle.hub_core.specs.Push.{beside, by_refs, in_order, is_done, landed, outcomes_in, refs_left, together};
+ghost use Rattle.ref_store.specs.RefName.{is_ref_name};
+ghost use Rattle.hub_core.specs.Push.{beside, by_refs, in_order, is_done, landed, outcomes_in, refs_after, refs_left, together};
+ghost use Rattle.hub_core.specs.Running.{FitCommands, FitsCommand};
 
-use crate::command::{Command, CommandList};
 use crate::outcome::{Outcome, OutcomeList};
 use crate::state::HostedRepo;
-use crate::store::{Repo, collision, with_pack};
 use base_types::NoMemory;
 use git_object::ObjectList;
+use ref_store::{Added, Applied, Command, CommandList, RefName, Repo};
 use std::alloc::Global;
-
-/// How many objects a repository has at most.
-const MAX_OBJECTS: u64 = 4_294_967_295;
 
 /// The outcomes of a push, and the repository that it leaves where a command is done.
 #[derive(Drop)]
@@ -32,25 +30,27 @@ pub fn decide(
 ) -> Result<Decided, NoMemory>
     requires alike { length judged.now ≡ length commands.now }
     requires few { length commands.now ≤ 10000 }
+    requires fit { FitCommands commands.now judged.now }
     ensures outcomes { IfOk result (λ d. d.outcomes ≡ outcomes_in now.now pack.now commands.now atomic judged.now) }
     ensures next { IfOk result (λ d. d.next ≡ landed now.now pack.now commands.now d.outcomes) }
 {
-    let objects = now.repo().objects();
-    if let Some(id) = collision(objects, pack) {
-        return Ok(Decided {
-            outcomes: alike(alloc, commands, Outcome::Collided(id))?,
-            next: None,
-        });
+    let mut repo = now.repo().copy()?;
+    // A count tells that no two objects have one name.
+    let _count = repo.count();
+    match repo.add_objects(pack) {
+        Added::Added => {}
+        Added::Collision { id, .. } => {
+            let outcomes = alike(alloc, commands, &Outcome::Collided(id))?;
+            let next = None;
+            return Ok(Decided { outcomes, next });
+        }
+        Added::Full(count) => {
+            let outcomes = alike(alloc, commands, &Outcome::Full(count))?;
+            let next = None;
+            return Ok(Decided { outcomes, next });
+        }
+        Added::NoMemory => return Err(NoMemory),
     }
-    let objects = with_pack(objects, pack)?;
-    let count = objects.len() as u64;
-    if count > MAX_OBJECTS {
-        return Ok(Decided {
-            outcomes: alike(alloc, commands, Outcome::Full(count))?,
-            next: None,
-        });
-    }
-    let mut repo = now.repo().with_objects(objects)?;
     let ran = run(alloc, &mut repo, judged, commands.as_slice())?;
     let outcomes = together(alloc, atomic, ran)?;
     let next = land(alloc, now, repo, &outcomes)?;
@@ -64,33 +64,49 @@ fn run(
     judged: &[Option<Outcome>],
     commands: &[Command],
 ) -> Result<OutcomeList, NoMemory>
-    requires { length judged.now ≡ length commands.now }
+    requires alike { length judged.now ≡ length commands.now }
+    requires fit { FitCommands commands.now judged.now }
     ensures outcomes { IfOk result (λ os. os ≡ in_order repo.old.refs commands.now judged.now) }
     ensures repo { OnOk result (repo.new ≡ record { objects = repo.old.objects; refs = refs_left repo.old.refs commands.now (in_order repo.old.refs commands.now judged.now) }) }
 {
     let mut list = OutcomeList::new(alloc);
     for i in 0..commands.len() {
-        let command = &commands[i];
-        let outcome = by_refs(repo, command, judged[i]);
-        if outcome.is_done() {
-            repo.apply(&command.name, command.new)?;
-        }
+        let outcome = run_one(alloc, repo, &commands[i], &judged[i])?;
         list.push(outcome)?;
     }
     Ok(list)
 }
 
-fn by_refs(repo: &Repo, command: &Command, judged: Option<Outcome>) -> Outcome
-    ensures { result ≡ by_refs repo.now.refs command.now judged }
+fn run_one(
+    alloc: Global,
+    repo: &mut Repo,
+    command: &Command,
+    judged: &Option<Outcome>,
+) -> Result<Outcome, NoMemory>
+    requires { FitsCommand command.now judged.now }
+    ensures outcome { IfOk result (λ o. o ≡ by_refs repo.old.refs command.now judged.now) }
+    ensures repo { OnOk result (repo.new ≡ record { objects = repo.old.objects; refs = refs_after repo.old.refs command.now (by_refs repo.old.refs command.now judged.now) }) }
 {
-    if let Some(outcome) = judged {
-        return outcome;
+    match judged {
+        Some(outcome) => Ok(outcome.clone()?),
+        None => move_one(alloc, repo, command),
     }
-    let value = repo.value(&command.name);
-    if value == command.old {
-        return Outcome::Done;
+}
+
+fn move_one(alloc: Global, repo: &mut Repo, command: &Command) -> Result<Outcome, NoMemory>
+    requires { is_ref_name command.now.name ≡ true }
+    ensures outcome { IfOk result (λ o. o ≡ by_refs repo.old.refs command.now None) }
+    ensures repo { OnOk result (repo.new ≡ record { objects = repo.old.objects; refs = refs_after repo.old.refs command.now (by_refs repo.old.refs command.now None) }) }
+{
+    let Some(name) = RefName::parse(alloc, command.name.bytes())? else {
+        unreachable!()
+    };
+    match repo.apply(&name, command.old, command.new) {
+        Applied::Moved => Ok(Outcome::Done),
+        Applied::Stale(value) => Ok(Outcome::Stale(value)),
+        Applied::DirFile(other) => Ok(Outcome::DirFile(other)),
+        Applied::NoMemory => Err(NoMemory),
     }
-    Outcome::Stale(value)
 }
 
 // In an atomic push that has a refusal, the other commands name the first.
@@ -119,27 +135,27 @@ fn beside_first(alloc: Global, first: u32, outcomes: &OutcomeList) -> Result<Out
 {
     let mut list = OutcomeList::new(alloc);
     for outcome in outcomes.as_slice() {
-        list.push(beside(first, *outcome))?;
+        list.push(beside(first, outcome)?)?;
     }
     Ok(list)
 }
 
-fn beside(first: u32, outcome: Outcome) -> Outcome
-    ensures { result ≡ beside first outcome }
+fn beside(first: u32, outcome: &Outcome) -> Result<Outcome, NoMemory>
+    ensures { IfOk result (λ o. o ≡ beside first outcome.now) }
 {
     if outcome.is_done() {
-        return Outcome::AtomicOther(first);
+        return Ok(Outcome::AtomicOther(first));
     }
-    outcome
+    Ok(outcome.clone()?)
 }
 
 // One outcome for every command.
-fn alike(alloc: Global, commands: &CommandList, outcome: Outcome) -> Result<OutcomeList, NoMemory>
-    ensures { IfOk result (λ os. os ≡ map (λ c. outcome) commands.now) }
+fn alike(alloc: Global, commands: &CommandList, outcome: &Outcome) -> Result<OutcomeList, NoMemory>
+    ensures { IfOk result (λ os. os ≡ map (λ c. outcome.now) commands.now) }
 {
     let mut list = OutcomeList::new(alloc);
     for _ in commands.as_slice() {
-        list.push(outcome)?;
+        list.push(outcome.clone()?)?;
     }
     Ok(list)
 }

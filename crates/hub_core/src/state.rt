@@ -3,8 +3,8 @@ ghost use Rattle.std.specs.Prelude.{◌≡◌, [], IfOk};
 ghost use Rattle.hub_core.specs.State.{store_of};
 
 use crate::name::UserName;
-use crate::store::Repo;
 use base_types::NoMemory;
+use ref_store::Repo;
 use std::alloc::{AllocError, Global};
 use std::marker::Model;
 use std::sync::Arc;

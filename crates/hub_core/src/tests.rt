@@ -93,26 +93,26 @@ fn testing_has(
 ) -> Result<bool, Fail> {
     let repo = hub.repo(&Text::of(alloc, b"testing")?).ok_or("testing")?;
     let branch = Text::of(alloc, branch)?;
-    Ok(repo.objects().len() == objects && repo.value(&branch) == value)
+    Ok(repo.count() == objects && repo.value(&branch) == value)
 }
 
 // Whether there is one outcome, and this one.
-fn is_told(outcomes: &OutcomeList, due: Outcome) -> bool {
+fn is_told(outcomes: &OutcomeList, due: &Outcome) -> bool {
     outcomes.len() == 1 && is_told_at(outcomes, 0, due)
 }
 
-fn is_told_at(outcomes: &OutcomeList, place: usize, due: Outcome) -> bool {
+fn is_told_at(outcomes: &OutcomeList, place: usize, due: &Outcome) -> bool {
     match outcomes.get(place) {
-        Some(outcome) => *outcome == due,
+        Some(outcome) => outcome == due,
         None => false,
     }
 }
 
 // Whether the first and the third of three outcomes are these, and the second is stale at A.
-fn is_overtaken(outcomes: &OutcomeList, others: Outcome) -> bool {
+fn is_overtaken(outcomes: &OutcomeList, others: &Outcome) -> bool {
     outcomes.len() == 3
         && is_told_at(outcomes, 0, others)
-        && is_told_at(outcomes, 1, Outcome::Stale(A))
+        && is_told_at(outcomes, 1, &Outcome::Stale(A))
         && is_told_at(outcomes, 2, others)
 }
 
@@ -189,9 +189,9 @@ fn a_create_is_judged_by_its_opening_and_then_by_the_refs(rt: HostRuntime) -> Re
     let alloc = rt.alloc();
     let mut desk = new_desk(alloc)?;
     let (done, stale, late) = create_thrice(alloc, &mut desk)?;
-    assert!(rt; is_told(&done, Outcome::Done));
-    assert!(rt; is_told(&stale, Outcome::Stale(A)));
-    assert!(rt; is_told(&late, Outcome::NotAdvertised(A)));
+    assert!(rt; is_told(&done, &Outcome::Done));
+    assert!(rt; is_told(&stale, &Outcome::Stale(A)));
+    assert!(rt; is_told(&late, &Outcome::NotAdvertised(A)));
     let hub = desk.into_hub();
     assert!(rt; testing_has(alloc, &hub, b"refs/heads/a", 1, A)?);
     assert_eq!(rt; hub.ref_count(), 1);
@@ -212,7 +212,7 @@ fn an_atomic_push_with_a_refusal_changes_nothing(rt: HostRuntime) -> Result<(), 
     let alloc = rt.alloc();
     let mut desk = new_desk(alloc)?;
     let told = overtaken(alloc, &mut desk, true)?;
-    assert!(rt; is_overtaken(&told, Outcome::AtomicOther(1)));
+    assert!(rt; is_overtaken(&told, &Outcome::AtomicOther(1)));
     let hub = desk.into_hub();
     assert!(rt; testing_has(alloc, &hub, b"refs/heads/a", 1, ObjectId::zero())?);
     Ok(())
@@ -223,11 +223,41 @@ fn another_push_does_what_is_not_refused(rt: HostRuntime) -> Result<(), Fail> {
     let alloc = rt.alloc();
     let mut desk = new_desk(alloc)?;
     let told = overtaken(alloc, &mut desk, false)?;
-    assert!(rt; is_overtaken(&told, Outcome::Done));
+    assert!(rt; is_overtaken(&told, &Outcome::Done));
     let hub = desk.into_hub();
     assert!(rt; testing_has(alloc, &hub, b"refs/heads/a", 2, B)?);
     assert!(rt; testing_has(alloc, &hub, b"refs/heads/b", 2, A)?);
     assert_eq!(rt; hub.ref_count(), 3);
+    Ok(())
+}
+
+// One create of a ref with this text, by the pin.
+fn create_named<D: Desk>(alloc: Global, desk: &mut D, name: &[u8]) -> Result<OutcomeList, Fail>
+    requires { length name.now ≤ 1024 }
+{
+    let pin = open(alloc, desk, b"carol", b"testing")?.ok_or("a pin")?;
+    let mut commands = CommandList::new(alloc);
+    commands.push(Command {
+        old: ObjectId::zero(),
+        new: A,
+        name: Text::of(alloc, name)?,
+    })?;
+    Ok(push(alloc, desk, pin, pack(alloc, b"1")?, commands, false)?)
+}
+
+#[test]
+fn a_ref_needs_a_name_and_no_ref_in_its_way(rt: HostRuntime) -> Result<(), Fail> {
+    let alloc = rt.alloc();
+    let mut desk = new_desk(alloc)?;
+    let bad = create_named(alloc, &mut desk, b"refs/heads/a..b")?;
+    assert!(rt; is_told(&bad, &Outcome::BadName));
+    let done = create_named(alloc, &mut desk, b"refs/heads/a")?;
+    assert!(rt; is_told(&done, &Outcome::Done));
+    let below = create_named(alloc, &mut desk, b"refs/heads/a/b")?;
+    let first = RefName::parse(alloc, b"refs/heads/a")?.ok_or("a name")?;
+    assert!(rt; is_told(&below, &Outcome::DirFile(first)));
+    let hub = desk.into_hub();
+    assert_eq!(rt; hub.ref_count(), 1);
     Ok(())
 }
 

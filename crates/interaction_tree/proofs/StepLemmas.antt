@@ -13,7 +13,7 @@ use Rattle.raw_pack.specs.Packs.{pack_front}
 use Rattle.raw_pack.specs.Reading.{ReadsFront, DecidesFault, ShowsFault}
 use Rattle.raw_pack.specs.declared.fault.PackFault.{PackFault}
 use Rattle.raw_pack.specs.declared.fault.PackFault.TheVariants as pack
-use Rattle.hub_core.specs.declared.command.Command.{Command}
+use Rattle.ref_store.specs.declared.command.Command.{Command}
 use Rattle.hub_core.specs.declared.outcome.Outcome.{Outcome}
 use Rattle.hub_core.specs.declared.verdict.Want.{Want}
 use Rattle.hub_core.specs.declared.entry.Entry.{Entry}

@@ -3,3 +3,4 @@ pub mod ObjectLemmas
 pub mod PackLemmas
 pub mod SegmentLemmas
 pub mod RefLemmas
+pub mod OddsLemmas

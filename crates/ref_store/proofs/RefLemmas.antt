@@ -1,5 +1,5 @@
 -- Refs in the byte order of their names.
-use Rattle.std.proofs.Common.{◌≡◌, ℕ, ◌+◌, ◌<◌, ◌≤◌, Bool, true, false, ◌&&◌, cond, nat_eq, nat_lt, List, [], ◌∷◌, ◌++◌, take, drop, length, get_or, Option, None, Some, refl, sym, ◌∙◌, ap, subst, arith, inl, inr, length-append, append_assoc}
+use Rattle.std.proofs.Common.{◌≡◌, ℕ, ◌+◌, ◌<◌, ◌≤◌, Bool, true, false, ◌&&◌, cond, nat_eq, nat_le, nat_lt, List, [], ◌∷◌, ◌++◌, take, drop, length, get_or, Option, None, Some, refl, sym, ◌∙◌, ap, subst, arith, inl, inr, length-append, append_assoc}
 use Rattle.std.proofs.lemmas.Bool.Decides.{nat_tests}
 use Rattle.std.proofs.lemmas.Cmp.{nat_cmp_total, nat_list_cmp_total, tied_itself}
 use Rattle.std.proofs.lemmas.List.{take-append-drop, drop_more, take_at, get_or_at, take-take}
@@ -11,12 +11,13 @@ use Rattle.std.specs.declared.cmp.Ordering.{Ordering}
 use Rattle.std.specs.declared.cmp.Ordering.TheVariants.{Equal, Greater}
 use Rattle.std.specs.Ordering.{nat_cmp, is_gt, ordering_then, eq_by_cmp}
 use Rattle.std.specs.Cmp.Lexicographic.{slice_cmp}
-use Rattle.std.specs.FinMap.{get, from_entries, insert, empty, get-insert, get-empty}
+use Rattle.std.specs.FinMap.{get, from_entries, insert, remove, empty, get-insert, get-remove, get-empty}
 use lib.Pointwise.{pointwise}
 use Rattle.base_types.proofs.NameMaps.{get-entries}
 use Rattle.git_object.specs.declared.object_id.ObjectId.{ObjectId}
-use Rattle.ref_store.specs.Refs.{Name, Refs, HasRefNames, IsLe, IsLeastFrom, IsLeastAtOdds, HasNoneAtOdds}
+use Rattle.ref_store.specs.Refs.{Name, Refs, zero_id, moved, HasRefNames, IsLe, IsLeastFrom, IsLeastAtOdds, HasNoneAtOdds}
 use Rattle.std.specs.Cmp.Lexicographic.{texts_ties}
+use Rattle.ref_store.specs.Objects.{same_id}
 use Rattle.ref_store.specs.RefName.{is_ref_name}
 use Rattle.ref_store.specs.Odds.{HasNoDirectory}
 use Rattle.ref_store.proofs.ObjectLemmas.{same_bytes}
@@ -147,3 +148,26 @@ one_ref_more refs name id good all q some = by_name (eq_by_cmp (slice_cmp nat_cm
     by_name : (b : Bool) → eq_by_cmp (slice_cmp nat_cmp) q name ≡ b → IsSome (cond b (Some id) (get refs q)) → is_ref_name q ≡ true
     by_name true same here = ap is_ref_name (same_bytes q name (texts_ties q name ∙ same)) ∙ good
     by_name false other here = all q here
+
+pub one_ref_less : (refs : Refs) (name : Name) → HasRefNames refs → HasRefNames (remove refs name)
+one_ref_less refs name all q some = by_name (eq_by_cmp (slice_cmp nat_cmp) q name) (subst IsSome (get-remove nat_list_cmp_total refs name q) some)
+  where
+    by_name : (b : Bool) → IsSome (cond b None (get refs q)) → is_ref_name q ≡ true
+    by_name true here = let bad : false ≡ true = here in cc
+    by_name false here = all q here
+
+-- a value that isn't zero is put in place
+pub moved_some : (refs : Refs) (name : Name) (new : ObjectId) → same_id new zero_id ≡ false → insert refs name new ≡ moved refs name new
+moved_some refs name new other = sym (ap (λ b. cond b (remove refs name) (insert refs name new)) other)
+
+-- a name that a ref may have has 1,024 bytes at most
+pub name_short : (name : Name) → is_ref_name name ≡ true → length name ≤ 1024
+name_short name is = by_length (nat_le (length name) 1024) refl
+  where
+    first_true : (a b : Bool) → (a && b) ≡ true → a ≡ true
+    first_true true b both = refl
+    first_true false b both = cc
+
+    by_length : (b : Bool) → nat_le (length name) 1024 ≡ b → length name ≤ 1024
+    by_length true le = grind (arith, nat_tests)
+    by_length false le = let yes : nat_le (length name) 1024 ≡ true = first_true _ _ (first_true _ _ (first_true _ _ (first_true _ _ (first_true _ _ (first_true _ _ (first_true _ _ is)))))) in absurd (cc (yes, le))

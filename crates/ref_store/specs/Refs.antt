@@ -1,11 +1,13 @@
 -- Refs, and which names can't stand beside one another.
-use Rattle.std.specs.Prelude.{◌≡◌, ℕ, true, false, List, ◌∷◌, ◌++◌, ◌⊎◌, Option, None, Some, IsSome, replicate}
-use Rattle.std.specs.FinMap.{get}
+use Rattle.std.specs.Prelude.{◌≡◌, ℕ, Bool, true, false, ◌||◌, nat_eq, List, [], ◌∷◌, ◌++◌, ◌⊎◌, Option, None, Some, IsSome, replicate, if◌then◌else◌}
+use Rattle.std.specs.List.{find, starts_with}
+use Rattle.std.specs.FinMap.{get, insert, remove, keys}
 use Rattle.std.specs.Option.{unwrap_or}
 use Rattle.std.specs.Ordering.{nat_cmp, is_gt}
 use Rattle.std.specs.Cmp.Lexicographic.{slice_cmp}
 use Rattle.base_types.specs.Names.{ByName}
 use Rattle.git_object.specs.declared.object_id.ObjectId.{ObjectId}
+use Rattle.ref_store.specs.Objects.{same_id}
 use Rattle.ref_store.specs.RefName.{is_ref_name}
 
 abbrev pub Name : Type 0
@@ -21,6 +23,10 @@ zero_id = record { bytes = replicate 20 0 }
 -- a ref's value, zero where it is absent
 abbrev pub value : Refs → Name → ObjectId
 value refs name = unwrap_or (get refs name) zero_id
+
+-- a ref moved to a new value; zero deletes it
+abbrev pub moved : Refs → Name → ObjectId → Refs
+moved refs name new = if same_id new zero_id then remove refs name else insert refs name new
 
 -- each ref has a name that a ref may have
 abbrev pub HasRefNames : Refs → Type 0
@@ -56,3 +62,13 @@ HasNoneAtOdds refs name = (q : Name) → IsSome (get refs q) → ¬ AreAtOdds q 
 abbrev pub TellsOfOdds : Refs → Name → Option Name → Type 0
 TellsOfOdds refs name None = HasNoneAtOdds refs name
 TellsOfOdds refs name (Some r) = IsLeastAtOdds refs name r
+
+-- the same as tests: the first of the refs, in byte order, that can't stand beside the name
+abbrev pub is_below : Name → Name → Bool
+is_below name dir = starts_with nat_eq name (dir ++ 47 ∷ [])
+
+abbrev pub are_at_odds : Name → Name → Bool
+are_at_odds a b = is_below a b || is_below b a
+
+abbrev pub first_at_odds : Refs → Name → Option Name
+first_at_odds refs name = find (λ q. are_at_odds q name) (keys refs)

@@ -1,13 +1,12 @@
--- What a repository stores, and what adding a pack's objects and creating a ref tell and leave.
+-- What a repository stores, and what adding a pack's objects and moving a ref tell and leave.
 use Rattle.std.specs.Prelude.{◌≡◌, ◌<◌, ◌≤◌, length, List, ◌++◌}
-use Rattle.std.specs.FinMap.{insert}
 use Rattle.git_object.specs.Content.{Content}
 use Rattle.git_object.specs.declared.object_id.ObjectId.{ObjectId}
 use Rattle.ref_store.specs.declared.repo.Added as added
 use Rattle.ref_store.specs.declared.repo.Added.TheVariants as told
 use Rattle.ref_store.specs.declared.repo.Applied as applied
 use Rattle.ref_store.specs.declared.repo.Applied.TheVariants as moving
-use Rattle.ref_store.specs.Refs.{Name, Refs, value, HasRefNames, HasNoneAtOdds, IsLeastAtOdds}
+use Rattle.ref_store.specs.Refs.{Name, Refs, zero_id, value, moved, HasRefNames, HasNoneAtOdds, IsLeastAtOdds}
 use Rattle.ref_store.specs.Objects.{with_pack, HasNamesOnce, HasNoCollision, IsFirstCollision}
 
 -- objects, in the order in which they came, and refs
@@ -32,14 +31,14 @@ abbrev pub left_by : Store → List Content → added.Added → Store
 left_by store pack told.Added = record store { objects = with_pack store.objects pack }
 left_by store pack _ = store
 
--- what is told of creating a ref: another value than the one that was thought of, or the least ref that the name can't stand beside
+-- what is told of moving a ref: another value than the one that was thought of, or, of a create, the least ref that the name can't stand beside
 abbrev pub TellsOfMove : Refs → Name → ObjectId → applied.Applied → Type 0
-TellsOfMove refs name old moving.Moved = (value refs name ≡ old) × HasNoneAtOdds refs name
+TellsOfMove refs name old moving.Moved = (value refs name ≡ old) × (old ≡ zero_id → HasNoneAtOdds refs name)
 TellsOfMove refs name old (moving.Stale is) = (is ≡ value refs name) × ¬ (is ≡ old)
-TellsOfMove refs name old (moving.DirFile r) = (value refs name ≡ old) × IsLeastAtOdds refs name r
+TellsOfMove refs name old (moving.DirFile r) = (value refs name ≡ old) × (old ≡ zero_id) × IsLeastAtOdds refs name r
 TellsOfMove refs name old moving.NoMemory = Unit {0}
 
--- the repository afterwards: with the ref, or as it was
+-- the repository afterwards: with the ref at its new value, or as it was
 abbrev pub moved_by : Store → Name → ObjectId → applied.Applied → Store
-moved_by store name new moving.Moved = record store { refs = insert store.refs name new }
+moved_by store name new moving.Moved = record store { refs = moved store.refs name new }
 moved_by store name new _ = store

@@ -54,6 +54,18 @@ impl RefMap {
         Ok(())
     }
 
+    pub fn remove(&mut self, name: &Text)
+        ensures { self.new ≡ map.remove self.old name.now }
+    {
+        self.entries.remove(name);
+    }
+
+    pub fn len(&self) -> usize
+        ensures { result ≡ map.len self.now }
+    {
+        self.entries.len()
+    }
+
     pub fn iter(&self) -> Iter<'_, Text, ObjectId>
         ensures { result ≡ map.entries self.now }
     {

@@ -1,6 +1,9 @@
 // Names of refs.
-ghost use Rattle.std.specs.Prelude.{◌≡◌, ◌==◌, IfOk, if◌then◌else◌, length, nat_le, None, Some, true};
+ghost use Rattle.std.specs.Prelude.{◌≡◌, ◌==◌, IfOk, if◌then◌else◌, length, nat_eq, nat_le, None, Some, true};
 ghost use Rattle.std.specs.List.{count_by, list_all};
+ghost use Rattle.std.proofs.Common.{rules};
+ghost use Rattle.std.specs.Cmp.Rules.{comparing};
+ghost use lib.Pointwise.{pointwise};
 ghost use Rattle.ref_store.specs.RefName.{is_piece, is_ref_byte, is_ref_name, occurs, pieces};
 
 use base_types::{NoMemory, Text};
@@ -32,11 +35,18 @@ impl RefName {
     pub fn parse(alloc: Global, text: &[u8]) -> Result<Option<RefName>, NoMemory>
         ensures { IfOk result (λ r. r ≡ (if is_ref_name text.now then Some text.now else None)) }
     {
-        if !is_ref_name(text) {
+        if !RefName::is_name(text) {
             return Ok(None);
         }
         let text = Text::of(alloc, text)?;
         Ok(Some(RefName { text }))
+    }
+
+    /// Whether `parse` would give a name. It takes no memory.
+    pub fn is_name(text: &[u8]) -> bool
+        ensures { result ≡ is_ref_name text.now }
+    {
+        is_ref_name(text)
     }
 
     // The name whose text is known to keep the rule.
@@ -59,6 +69,30 @@ impl RefName {
     {
         &self.text
     }
+}
+
+impl Clone for RefName {
+    ghost is_clone = { λ name copy. copy ≡ name };
+
+    fn clone(&self) -> Result<RefName, AllocError> {
+        Ok(RefName {
+            text: self.text.clone()?,
+        })
+    }
+}
+
+impl PartialEq for RefName {
+    ghost eq = { pointwise nat_eq };
+
+    ghost laws = { Prim.search (comparing, rules) };
+
+    fn eq(&self, other: &RefName) -> bool {
+        self.bytes() == other.bytes()
+    }
+}
+
+impl Eq for RefName {
+    ghost laws = { Prim.search (comparing, rules) };
 }
 
 fn is_ref_name(text: &[u8]) -> bool

@@ -1,9 +1,9 @@
 // A repository.
-ghost use Rattle.std.specs.Prelude.{◌≡◌, ◌+◌, ◌↔◌, ◌≤◌, ◌^◌, [], IfOk, IsTrue, length, slice_get, take};
+ghost use Rattle.std.specs.Prelude.{◌≡◌, ◌+◌, ◌↔◌, ◌≤◌, ◌^◌, [], IfOk, IsTrue, length, OnErr, OnOk, slice_get, take};
 ghost use Rattle.std.specs.FinMap as map;
 ghost use Rattle.std.specs.Option.{option_copied};
-ghost use Rattle.ref_store.specs.Objects.{first_named, HasNamesOnce};
-ghost use Rattle.ref_store.specs.Refs.{value, zero_id};
+ghost use Rattle.ref_store.specs.Objects.{first_named, HasNamesOnce, same_id};
+ghost use Rattle.ref_store.specs.Refs.{moved, value};
 ghost use Rattle.ref_store.specs.Segments.{all_of};
 ghost use Rattle.ref_store.specs.Store.{left_by, moved_by, TellsOfAdding, TellsOfMove};
 
@@ -40,13 +40,13 @@ pub enum Added {
     NoMemory,
 }
 
-/// What came of creating a ref.
+/// What came of moving a ref.
 #[derive(Drop)]
 pub enum Applied {
     Moved,
     /// The ref has this value, and not the one that was thought of.
     Stale(ObjectId),
-    /// This ref is a directory of the name or stands below it.
+    /// A create, and this ref is a directory of the name or stands below it. Of several it is the least.
     DirFile(RefName),
     NoMemory,
 }
@@ -144,10 +144,15 @@ impl Repo {
         self.objects.named(id, first_k)
     }
 
-    /// Creates a ref. It looks at no more refs than the name has directories, and at one behind them.
+    /// How many refs there are.
+    pub fn ref_count(&self) -> usize
+        ensures { result ≡ map.len self.now.refs }
+    {
+        self.refs.len()
+    }
+
+    /// Moves a ref from its old value to a new one; zero stands for no value. A create looks at no more refs than the name has directories, and at one behind them.
     pub fn apply(&mut self, name: &RefName, old: ObjectId, new: ObjectId) -> Applied
-        requires old { old ≡ zero_id }
-        requires new { ¬ (new ≡ zero_id) }
         ensures told { TellsOfMove self.old.refs name.now old result }
         ensures repo { self.new ≡ moved_by self.old name.now new result }
     {
@@ -155,18 +160,32 @@ impl Repo {
         if !same_id(value, old) {
             return Applied::Stale(value);
         }
-        match at_odds(self.alloc, &self.refs, name.bytes()) {
-            Ok(Some(other)) => return Applied::DirFile(RefName::known(other)),
-            Ok(None) => {}
-            Err(NoMemory) => return Applied::NoMemory,
+        if same_id(old, ObjectId::zero()) {
+            match at_odds(self.alloc, &self.refs, name.bytes()) {
+                Ok(Some(other)) => return Applied::DirFile(RefName::known(other)),
+                Ok(None) => {}
+                Err(NoMemory) => return Applied::NoMemory,
+            }
         }
-        let Ok(name) = name.text().clone() else {
-            return Applied::NoMemory;
-        };
-        let Ok(()) = self.refs.insert(name, new) else {
-            return Applied::NoMemory;
-        };
-        Applied::Moved
+        match self.put(name, new) {
+            Ok(()) => Applied::Moved,
+            Err(NoMemory) => Applied::NoMemory,
+        }
+    }
+
+    // Gives a ref its value, or takes it away.
+    fn put(&mut self, name: &RefName, new: ObjectId) -> Result<(), NoMemory>
+        ensures ok { OnOk result (self.new ≡ record self.old { refs = moved self.old.refs name.now new }) }
+        ensures err { OnErr result (self.new ≡ self.old) }
+    {
+        if same_id(new, ObjectId::zero()) {
+            self.refs.remove(name.text());
+            return Ok(());
+        }
+        let _rule = name.bytes();
+        let name = name.text().clone()?;
+        self.refs.insert(name, new)?;
+        Ok(())
     }
 
     /// Adds the objects of a pack that are not there. Whoever has a copy doesn't see them.
@@ -198,7 +217,8 @@ impl Repo {
 }
 
 fn same_id(a: ObjectId, b: ObjectId) -> bool
-    ensures { IsTrue result ↔ (a ≡ b) }
+    ensures test { result ≡ same_id a b }
+    ensures same { IsTrue result ↔ (a ≡ b) }
 {
     a == b
 }

@@ -200,3 +200,20 @@ fn the_first_so_many_may_end_inside_an_older_segment(rt: HostRuntime) -> Result<
     }
     Ok(())
 }
+
+#[test]
+fn a_ref_moves_from_its_value_alone(rt: HostRuntime) -> Result<(), Fail> {
+    let alloc = rt.alloc();
+    let (a, b) = (ObjectId { bytes: [1; 20] }, ObjectId { bytes: [2; 20] });
+    let name = RefName::parse(alloc, b"refs/heads/a")?.ok_or("a name")?;
+    let mut repo = Repo::empty(alloc)?;
+    assert!(rt; matches!(repo.apply(&name, a, b), Applied::Stale(id) if id == ObjectId::zero()));
+    assert!(rt; matches!(repo.apply(&name, ObjectId::zero(), a), Applied::Moved));
+    assert!(rt; matches!(repo.apply(&name, ObjectId::zero(), b), Applied::Stale(id) if id == a));
+    assert!(rt; matches!(repo.apply(&name, a, b), Applied::Moved));
+    assert_eq!(rt; repo.ref_count(), 1);
+    assert!(rt; matches!(repo.apply(&name, b, ObjectId::zero()), Applied::Moved));
+    assert_eq!(rt; repo.ref_count(), 0);
+    assert!(rt; name.clone()? == name);
+    Ok(())
+}

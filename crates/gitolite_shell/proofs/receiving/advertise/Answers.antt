@@ -6,7 +6,7 @@ use Rattle.gitolite_shell.proofs.receiving.advertise.Goals as goal
 
 pub loop-name-init : goal.loop-name-init
 loop-name-init g c =
-    let all = rw c.refs.ensures at (c.into_iter-name-iterator.ensures.into_iter_gives ∙ c.iter-name-items.ensures) in
+    let all = c.into_iter-name-iterator.ensures.into_iter_gives ∙ c.refs-name-items.ensures in
     record {
       writes = λ c' desk out ran. rw all at ran;
       reading = keeps_same _;

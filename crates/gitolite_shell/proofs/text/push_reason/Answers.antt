@@ -15,6 +15,10 @@ pub returns-in_ok-extend_from_slice-in-Stale-clause-text : goal.returns-in_ok-ex
 returns-in_ok-extend_from_slice-in-Stale-clause-text c =
     rw c.in-Stale.is (on_ok_more c.push_id-in-Stale.result _ _ _ _ _ c.in_ok-extend_from_slice-in-Stale.ensures.items c.push_id-in-Stale.ensures.text)
 
+pub returns-in_ok-extend_from_slice-in-DirFile-clause-text : goal.returns-in_ok-extend_from_slice-in-DirFile-clause-text
+returns-in_ok-extend_from_slice-in-DirFile-clause-text c =
+    rw c.in-DirFile.is (on_ok_more c.push_ref.result _ _ _ _ _ c.in_ok-extend_from_slice-in-DirFile.ensures.items c.push_ref.ensures.text)
+
 pub returns-else-place-eq0-clause-text : goal.returns-else-place-eq0-clause-text
 returns-else-place-eq0-clause-text c =
     rw (c.in-AtomicOther.is, ref_past c.args.command.now c.in-AtomicOther.place c.if-place-eq0.false) c.in_ok-extend_from_slice-in-AtomicOther.ensures.items

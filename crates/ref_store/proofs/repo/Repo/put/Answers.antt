@@ -1,0 +1,30 @@
+use Rattle.std.proofs.Common.{◌≡◌, ℕ, List, true, false, sym, ◌∙◌, ap, subst}
+use Rattle.ref_store.specs.RefName.{is_ref_name}
+use Rattle.ref_store.specs.Objects.{same_id}
+use Rattle.ref_store.specs.Refs.{Refs, Name, zero_id, moved, HasRefNames}
+use Rattle.ref_store.specs.Segments.{all_of}
+use Rattle.ref_store.specs.Store.{Store}
+use Rattle.ref_store.proofs.RefLemmas.{one_ref_more, one_ref_less, moved_some}
+use Rattle.ref_store.proofs.repo.Repo.put.Goals as goal
+
+pub invariant_of-self : goal.invariant_of-self
+invariant_of-self c = record {
+  names = c.self.invariant.names;
+  refs = subst HasRefNames (sym c.remove.ensures) (one_ref_less c.self.inside.refs c.text.result.now c.self.invariant.refs);
+}
+
+pub invariant_of-self-2 : goal.invariant_of-self-2
+invariant_of-self-2 c =
+    let good : is_ref_name c.in_ok-name.name ≡ true = ap is_ref_name (c.in_ok-name.ensures.cases ∙ c.text-2.ensures ∙ sym c.bytes-rule.ensures.bytes) ∙ c.bytes-rule.ensures.rule in
+    record {
+      names = c.self.invariant.names;
+      refs = subst HasRefNames (sym c.in_ok-insert.ensures.ok) (one_ref_more c.self.inside.refs c.in_ok-name.name c.args.new good c.self.invariant.refs);
+    }
+
+pub returns-clause-ok : goal.returns-clause-ok
+returns-clause-ok c =
+    let other : same_id c.args.new zero_id ≡ false = ap (λ (b : List ℕ). same_id c.args.new (record { bytes = b })) (sym c.zero.ensures) ∙ sym c.same_id.ensures.test ∙ c.if-same_id.false in
+    let name : c.in_ok-name.name ≡ c.args.name.now = c.in_ok-name.ensures.cases ∙ c.text-2.ensures in
+    let refs : c.insert.new.self ≡ moved c.self.inside.refs c.args.name.now c.args.new =
+    c.in_ok-insert.ensures.ok ∙ moved_some c.self.inside.refs c.in_ok-name.name c.args.new other ∙ ap (λ (n : Name). moved c.self.inside.refs n c.args.new) name in
+    ap (λ (r : Refs). record { objects = all_of c.self.inside.objects; refs = r }) refs ∙ ap (λ (s : Store). record s { refs = moved s.refs c.args.name.now c.args.new }) c.self.view_is
