@@ -1,5 +1,5 @@
 -- What walks meet, by their lengths.
-use Rattle.std.proofs.Common.{◌≡◌, ℕ, zero, suc, ◌+◌, ◌<◌, ◌≤◌, nat_le, Bool, true, false, cond, List, [], ◌∷◌, length, map, Option, None, Some, Contains, filter, flat_map, refl, sym, ◌∙◌, ap, subst, arith, ◌⊎◌, inl, inr}
+use Rattle.std.proofs.Common.{◌≡◌, ℕ, zero, suc, ◌+◌, ◌<◌, ◌≤◌, nat_le, Bool, true, false, cond, List, [], ◌∷◌, ◌++◌, length, map, Option, None, Some, Contains, filter, flat_map, refl, sym, ◌∙◌, ap, subst, arith, ◌⊎◌, inl, inr}
 use Rattle.std.proofs.lemmas.List.Elements.{Contains-append_left, Contains-append_right, Contains-append_cases}
 use Rattle.std.proofs.lemmas.Bool.Decides.{nat_tests}
 use Rattle.std.specs.List.{list_any}
@@ -34,6 +34,17 @@ linked_there objects id to c = by_find (first_named objects id) refl c
     by_find : (f : Option Content) → first_named objects id ≡ f → Contains (option_map_or (λ o. wanted_by (links_of o.kind o.body)) f []) to → (o : Content) × (first_named objects id ≡ Some o)
     by_find None e c = absurd (contains_none to c)
     by_find (Some o) e c = (o, e)
+
+-- the links of an object, by its name
+pub links_there : (objects : List Content) (id : ObjectId) (o : Content) → first_named objects id ≡ Some o → links_at objects id ≡ wanted_by (links_of o.kind o.body)
+links_there objects id o is = ap (λ f. option_map_or (λ (o : Content). wanted_by (links_of o.kind o.body)) f []) is
+
+pub no_links : (objects : List Content) (id : ObjectId) → first_named objects id ≡ None → links_at objects id ≡ []
+no_links objects id none = ap (λ f. option_map_or (λ (o : Content). wanted_by (links_of o.kind o.body)) f []) none
+
+pub wanted_by-append : (xs ys : List (ObjectId × Kind)) → wanted_by (xs ++ ys) ≡ wanted_by xs ++ wanted_by ys
+wanted_by-append [] ys = refl
+wanted_by-append (x ∷ xs) ys = ap (λ wants. (x.0, Some x.1) ∷ wants) (wanted_by-append xs ys)
 
 module _ (objects : List Content) (root : ObjectId) (kind : Option Kind) where
   abbrev Within : ℕ → Want → Type 0
@@ -148,3 +159,12 @@ module _ (objects : List Content) (root : ObjectId) (kind : Option Kind) where
       (found.0.1, subst (λ (w : Want). IsMet objects root kind w) same (met_by_walk (length objects) found.0 among.0), ap test (sym same) ∙ among.1))
       (λ id found. contains_map (λ (w : Want). w.0) (filter test all) (id, found.0) (contains_filter test all (id, found.0) (met_early (id, found.0) found.1) found.2))
       (least_is_least (map (λ (w : Want). w.0) (filter test all)))
+
+  -- where the least is none nothing that is met passes the test
+  pub none_met : (test : Want → Bool) → least (map (λ want. want.0) (filter test (met objects root kind))) ≡ None → (want : Want) → IsMet objects root kind want → test want ≡ false
+  none_met test none want is = by_test (test want) refl
+    where
+      by_test : (b : Bool) → test want ≡ b → test want ≡ false
+      by_test true e =
+          absurd (subst (λ (o : Option ObjectId). IsLeast (λ id. (wanted : Option Kind) × IsMet objects root kind (id, wanted) × (test (id, wanted) ≡ true)) o) none (least_met test) want.0 (want.1, is, e))
+      by_test false e = e

@@ -1,4 +1,7 @@
 use super::*;
+use crate::seen;
+use crate::told::Told;
+use crate::verdict::Verdict;
 use git_object::{Kind, Object, ObjectId, ObjectList};
 use ref_store::{Added, Lens, Repo};
 use std::alloc::Global;
@@ -58,7 +61,17 @@ fn repo_of(alloc: Global, objects: &ObjectList) -> Result<Repo, Fail> {
     }
 }
 
-// The first row of the table of which something else is told: twice by one walker, or by a walker of its own.
+// What a plain walk tells.
+fn told_plainly(alloc: Global, lens: &Lens<'_>, id: ObjectId, kind: Option<Kind>) -> Wholeness {
+    match seen::walk(alloc, lens, id, kind) {
+        Ok(Verdict::Whole) => Wholeness::Whole,
+        Ok(Verdict::Missing(id)) => Wholeness::Missing(id),
+        Ok(Verdict::WrongKind(id)) => Wholeness::WrongKind(id),
+        Err(_) => Wholeness::NoMemory,
+    }
+}
+
+// The first row of the table of which something else is told: twice by one walker, by a walker of its own, or by a plain walk.
 fn told_otherwise(
     alloc: Global,
     lens: &Lens<'_>,
@@ -71,90 +84,138 @@ fn told_otherwise(
         if !by_one || whole(alloc, lens, id, kind) != told {
             return Some(i);
         }
+        if told_plainly(alloc, lens, id, kind) != told {
+            return Some(i);
+        }
     }
     None
 }
 
-#[test]
-fn what_is_missing_and_what_is_wrong(rt: HostRuntime) -> Result<(), Fail> {
-    let alloc = rt.alloc();
-    let blob = object(alloc, Kind::Blob, b"x")?.name();
-    let files = tree(alloc, &[("100644 a", blob)])?;
-    let first = commit(alloc, files.name(), &[])?;
-    let lacks_two = tree(alloc, &[("100644 a", absent(9)), ("100644 b", absent(5))])?;
-    let second = commit(alloc, lacks_two.name(), &[first.name()])?;
-    let blob_as_tree = tree(alloc, &[("40000 a", blob)])?;
-    let tree_as_blob = tree(alloc, &[("100644 a", files.name())])?;
-    let both_wrong = tree(alloc, &[("100644 a", files.name()), ("40000 b", blob)])?;
-    let wrong_and_missing = tree(alloc, &[("40000 a", blob), ("100644 b", absent(7))])?;
-    let submodule = tree(alloc, &[("160000 a", absent(7))])?;
-    let tag_of_tree = tag(alloc, files.name(), Kind::Commit)?;
-    let least_wrong = if blob < files.name() {
-        blob
-    } else {
-        files.name()
+// The first row of the table of which a walker that trusts an id tells something else.
+fn trusting_told_otherwise(
+    alloc: Global,
+    lens: &Lens<'_>,
+    trusted: ObjectId,
+    rows: &[(ObjectId, Option<Kind>, Wholeness)],
+) -> Result<Option<usize>, Fail> {
+    let Wholeness::Whole = whole(alloc, lens, trusted, None) else {
+        return Err(Fail::from("an id that is whole"));
     };
-    let rows = [
-        (first.name(), Some(Kind::Commit), Wholeness::Whole),
-        (first.name(), None, Wholeness::Whole),
-        (
-            files.name(),
-            Some(Kind::Commit),
-            Wholeness::WrongKind(files.name()),
-        ),
-        (
-            lacks_two.name(),
-            Some(Kind::Tree),
-            Wholeness::Missing(absent(5)),
-        ),
-        (
-            second.name(),
-            Some(Kind::Commit),
-            Wholeness::Missing(absent(5)),
-        ),
-        (
-            second.name(),
-            Some(Kind::Tree),
-            Wholeness::Missing(absent(5)),
-        ),
-        (blob_as_tree.name(), None, Wholeness::WrongKind(blob)),
-        (
-            tree_as_blob.name(),
-            None,
-            Wholeness::WrongKind(files.name()),
-        ),
-        (both_wrong.name(), None, Wholeness::WrongKind(least_wrong)),
-        (
-            wrong_and_missing.name(),
-            None,
-            Wholeness::Missing(absent(7)),
-        ),
-        (submodule.name(), Some(Kind::Tree), Wholeness::Whole),
-        (
-            tag_of_tree.name(),
-            Some(Kind::Tag),
-            Wholeness::WrongKind(files.name()),
-        ),
-        (absent(3), None, Wholeness::Missing(absent(3))),
-    ];
+    let mut walks = Walks::new(alloc, lens);
+    walks.trust(trusted).map_err(|_| "memory")?;
+    for i in 0..rows.len() {
+        let (id, kind, told) = rows[i];
+        if walks.whole(id, kind) != told {
+            return Ok(Some(i));
+        }
+    }
+    Ok(None)
+}
+
+// Puts an object into a list, and gives its name.
+fn put(objects: &mut ObjectList, object: Object) -> Result<ObjectId, Fail> {
+    let name = object.name();
+    objects.push(object)?;
+    Ok(name)
+}
+
+// The names of a first commit with a tree of its own and of commits onto it, each the parent of the next.
+fn chain(
+    alloc: Global,
+    objects: &mut ObjectList,
+    first_tree: ObjectId,
+    tree: ObjectId,
+) -> Result<Vec<ObjectId>, Fail> {
+    let mut last = put(objects, commit(alloc, first_tree, &[])?)?;
+    let mut names = Vec::new(alloc);
+    names.push(last)?;
+    for _ in 1..200 {
+        last = put(objects, commit(alloc, tree, &[last])?)?;
+        names.push(last)?;
+    }
+    Ok(names)
+}
+
+// Some of what is met stands in the repository, and some in the pack.
+#[test]
+fn what_is_missing(rt: HostRuntime) -> Result<(), Fail> {
+    let alloc = rt.alloc();
     let mut stored = ObjectList::new(alloc);
-    stored.push(object(alloc, Kind::Blob, b"x")?)?;
+    let blob = put(&mut stored, object(alloc, Kind::Blob, b"x")?)?;
+    let files = put(&mut stored, tree(alloc, &[("100644 a", blob)])?)?;
+    let submodule = put(&mut stored, tree(alloc, &[("160000 a", absent(7))])?)?;
     let mut pack = ObjectList::new(alloc);
-    // Halves of what is met stand in the repository and in the pack.
-    for object in [files, second, blob_as_tree, both_wrong, submodule] {
-        stored.push(object)?;
-    }
-    for object in [
-        first,
-        lacks_two,
-        tree_as_blob,
-        wrong_and_missing,
-        tag_of_tree,
-    ] {
-        pack.push(object)?;
-    }
+    let first = put(&mut pack, commit(alloc, files, &[])?)?;
+    let lacks_two = tree(alloc, &[("100644 a", absent(9)), ("100644 b", absent(5))])?;
+    let lacks_two = put(&mut pack, lacks_two)?;
+    let second = put(&mut stored, commit(alloc, lacks_two, &[first])?)?;
     let repo = repo_of(alloc, &stored)?;
     let lens = Lens::new(alloc, &repo, &pack)?;
+    let rows = [
+        (first, Some(Kind::Commit), Wholeness::Whole),
+        (first, None, Wholeness::Whole),
+        (lacks_two, Some(Kind::Tree), Wholeness::Missing(absent(5))),
+        (second, Some(Kind::Commit), Wholeness::Missing(absent(5))),
+        (second, Some(Kind::Tree), Wholeness::Missing(absent(5))),
+        (submodule, Some(Kind::Tree), Wholeness::Whole),
+        (absent(3), None, Wholeness::Missing(absent(3))),
+    ];
+    assert_eq!(rt; told_otherwise(alloc, &lens, &rows), None);
+    Ok(())
+}
+
+#[test]
+fn what_is_of_a_wrong_kind(rt: HostRuntime) -> Result<(), Fail> {
+    let alloc = rt.alloc();
+    let mut stored = ObjectList::new(alloc);
+    let blob = put(&mut stored, object(alloc, Kind::Blob, b"x")?)?;
+    let files = put(&mut stored, tree(alloc, &[("100644 a", blob)])?)?;
+    let blob_as_tree = put(&mut stored, tree(alloc, &[("40000 a", blob)])?)?;
+    let both = tree(alloc, &[("100644 a", files), ("40000 b", blob)])?;
+    let both = put(&mut stored, both)?;
+    let mut pack = ObjectList::new(alloc);
+    let tree_as_blob = put(&mut pack, tree(alloc, &[("100644 a", files)])?)?;
+    let lacks_one = tree(alloc, &[("40000 a", blob), ("100644 b", absent(7))])?;
+    let lacks_one = put(&mut pack, lacks_one)?;
+    let tag_of_tree = put(&mut pack, tag(alloc, files, Kind::Commit)?)?;
+    let least = if blob < files { blob } else { files };
+    let repo = repo_of(alloc, &stored)?;
+    let lens = Lens::new(alloc, &repo, &pack)?;
+    let rows = [
+        (files, Some(Kind::Commit), Wholeness::WrongKind(files)),
+        (blob_as_tree, None, Wholeness::WrongKind(blob)),
+        (tree_as_blob, None, Wholeness::WrongKind(files)),
+        (both, None, Wholeness::WrongKind(least)),
+        (lacks_one, None, Wholeness::Missing(absent(7))),
+        (tag_of_tree, Some(Kind::Tag), Wholeness::WrongKind(files)),
+    ];
+    assert_eq!(rt; told_otherwise(alloc, &lens, &rows), None);
+    Ok(())
+}
+
+#[test]
+fn what_lies_behind_a_failed_walk(rt: HostRuntime) -> Result<(), Fail> {
+    let alloc = rt.alloc();
+    let mut pack = ObjectList::new(alloc);
+    let blob = put(&mut pack, object(alloc, Kind::Blob, b"x")?)?;
+    let wrong = put(&mut pack, tree(alloc, &[("40000 a", blob)])?)?;
+    let lacks = put(&mut pack, tree(alloc, &[("100644 a", absent(5))])?)?;
+    let inner = put(
+        &mut pack,
+        tree(alloc, &[("40000 a", wrong), ("40000 b", lacks)])?,
+    )?;
+    let outer = put(
+        &mut pack,
+        tree(alloc, &[("40000 a", inner), ("100644 b", absent(3))])?,
+    )?;
+    let repo = Repo::empty(alloc)?;
+    let lens = Lens::new(alloc, &repo, &pack)?;
+    let rows = [
+        (outer, None, Wholeness::Missing(absent(3))),
+        (inner, None, Wholeness::Missing(absent(5))),
+        (wrong, None, Wholeness::WrongKind(blob)),
+        (blob, Some(Kind::Blob), Wholeness::Whole),
+    ];
     assert_eq!(rt; told_otherwise(alloc, &lens, &rows), None);
     Ok(())
 }
@@ -184,31 +245,96 @@ fn tags_of_tags_a_thousand_deep(rt: HostRuntime) -> Result<(), Fail> {
 #[test]
 fn each_commit_of_a_chain_is_asked_for(rt: HostRuntime) -> Result<(), Fail> {
     let alloc = rt.alloc();
-    let files = tree(alloc, &[])?;
-    let empty = files.name();
     let mut pack = ObjectList::new(alloc);
-    pack.push(files)?;
-    let mut parent = commit(alloc, empty, &[])?;
-    let mut tips = Vec::new(alloc);
-    for _ in 0..200 {
-        let next = commit(alloc, empty, &[parent.name()])?;
-        tips.push(next.name())?;
-        pack.push(parent)?;
-        parent = next;
-    }
-    // The last commit isn't there.
-    let last = parent.name();
+    let empty = put(&mut pack, tree(alloc, &[])?)?;
+    let whole = chain(alloc, &mut pack, empty, empty)?;
+    let lacks_tree = chain(alloc, &mut pack, absent(7), empty)?;
     let repo = Repo::empty(alloc)?;
     let lens = Lens::new(alloc, &repo, &pack)?;
     let mut walks = Walks::new(alloc, &lens);
-    for tip in &tips {
-        let told = walks.whole(*tip, Some(Kind::Commit));
-        let due = if *tip == last {
-            Wholeness::Missing(last)
-        } else {
-            Wholeness::Whole
-        };
-        assert!(rt; told == due);
+    for name in &whole {
+        assert!(rt; walks.whole(*name, Some(Kind::Commit)) == Wholeness::Whole);
     }
+    // The last is asked for first, and so fails for what lies behind all others.
+    for name in lacks_tree.iter().rev() {
+        assert!(rt; walks.whole(*name, Some(Kind::Commit)) == Wholeness::Missing(absent(7)));
+    }
+    assert!(rt; walks.whole(empty, Some(Kind::Tree)) == Wholeness::Whole);
+    Ok(())
+}
+
+#[test]
+fn all_that_a_settled_id_leads_to_is_settled(rt: HostRuntime) -> Result<(), Fail> {
+    let alloc = rt.alloc();
+    let mut pack = ObjectList::new(alloc);
+    let empty = put(&mut pack, tree(alloc, &[])?)?;
+    let names = chain(alloc, &mut pack, absent(7), empty)?;
+    let parent = names.last().copied().unwrap_or(empty);
+    let last = put(&mut pack, commit(alloc, absent(5), &[parent])?)?;
+    let repo = Repo::empty(alloc)?;
+    let lens = Lens::new(alloc, &repo, &pack)?;
+    let mut told = Told::new(alloc);
+    told.settle(alloc, &lens, last).map_err(|_| "memory")?;
+    assert!(rt; told.of(&lens, last, None) == Some(Verdict::Missing(absent(5))));
+    for name in &names {
+        assert!(rt; told.of(&lens, *name, None) == Some(Verdict::Missing(absent(7))));
+    }
+    assert!(rt; told.of(&lens, empty, None) == Some(Verdict::Whole));
+    Ok(())
+}
+
+#[test]
+fn a_push_onto_a_trusted_chain(rt: HostRuntime) -> Result<(), Fail> {
+    let alloc = rt.alloc();
+    let mut stored = ObjectList::new(alloc);
+    let empty = put(&mut stored, tree(alloc, &[])?)?;
+    let mut last = put(&mut stored, commit(alloc, empty, &[])?)?;
+    let mut trusted = last;
+    for _ in 1..200 {
+        trusted = last;
+        last = put(&mut stored, commit(alloc, empty, &[last])?)?;
+    }
+    let mut pack = ObjectList::new(alloc);
+    let onto = put(&mut pack, commit(alloc, empty, &[last])?)?;
+    let lacks_tree = put(&mut pack, commit(alloc, absent(7), &[last])?)?;
+    let commit_as_tree = put(&mut pack, commit(alloc, trusted, &[last])?)?;
+    let repo = repo_of(alloc, &stored)?;
+    let lens = Lens::new(alloc, &repo, &pack)?;
+    let rows = [
+        (onto, Some(Kind::Commit), Wholeness::Whole),
+        (lacks_tree, None, Wholeness::Missing(absent(7))),
+        (commit_as_tree, None, Wholeness::WrongKind(trusted)),
+        (trusted, Some(Kind::Commit), Wholeness::Whole),
+        (trusted, Some(Kind::Tag), Wholeness::WrongKind(trusted)),
+        (onto, None, Wholeness::Whole),
+    ];
+    assert_eq!(rt;
+        trusting_told_otherwise(alloc, &lens, trusted, &rows)?,
+        None
+    );
+    Ok(())
+}
+
+#[test]
+fn links_to_a_trusted_tree(rt: HostRuntime) -> Result<(), Fail> {
+    let alloc = rt.alloc();
+    let mut stored = ObjectList::new(alloc);
+    let blob = put(&mut stored, object(alloc, Kind::Blob, b"x")?)?;
+    let trusted = put(&mut stored, tree(alloc, &[("100644 a", blob)])?)?;
+    let mut pack = ObjectList::new(alloc);
+    let as_tree = put(&mut pack, tree(alloc, &[("40000 a", trusted)])?)?;
+    let as_blob = put(&mut pack, tree(alloc, &[("100644 a", trusted)])?)?;
+    let repo = repo_of(alloc, &stored)?;
+    let lens = Lens::new(alloc, &repo, &pack)?;
+    let rows = [
+        (as_blob, None, Wholeness::WrongKind(trusted)),
+        (as_tree, None, Wholeness::Whole),
+        (as_blob, None, Wholeness::WrongKind(trusted)),
+        (trusted, Some(Kind::Blob), Wholeness::WrongKind(trusted)),
+    ];
+    assert_eq!(rt;
+        trusting_told_otherwise(alloc, &lens, trusted, &rows)?,
+        None
+    );
     Ok(())
 }

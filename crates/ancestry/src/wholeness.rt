@@ -1,8 +1,12 @@
 // Whether all that an id leads to is there, and of the kind wanted.
-ghost use Rattle.std.specs.Prelude.{◌≡◌};
-ghost use Rattle.ancestry.specs.Wholeness.{TellsOfWholeness};
+ghost use Rattle.std.specs.Prelude.{◌≡◌, IfOk, None};
+ghost use Rattle.ancestry.specs.Verdict.{IsToldOf};
+ghost use Rattle.ancestry.specs.Wholeness.{TellsOfWholeness, missing, wrong};
 
-use crate::seen::Seen;
+use crate::seen;
+use crate::told::Told;
+use crate::verdict::Verdict;
+use base_types::NoMemory;
 use git_object::{Kind, ObjectId};
 use ref_store::Lens;
 use std::alloc::Global;
@@ -28,23 +32,25 @@ pub fn whole(alloc: Global, lens: &Lens<'_>, id: ObjectId, kind: Option<Kind>) -
     walks.whole(id, kind)
 }
 
-/// Walks among the same objects. An object from which all was found to be whole is not visited again.
+/// Walks among the same objects. Each object is entered once by a walker, whatever it is asked and whether all is whole or not, and the links of
+/// what is entered are looked at twice. Only where links lead in a circle does each question walk by itself, along all that it meets.
 #[derive(Drop)]
 pub struct Walks<'a> {
+    alloc: Global,
     lens: &'a Lens<'a>,
-    seen: Seen,
+    told: Told,
 }
 
 impl<'a> Model for Walks<'a> {
     ghost use Rattle.std.specs.Prelude.{List};
     ghost use Rattle.git_object.specs.Content.{Content};
-    ghost use Rattle.ancestry.specs.Seen.{IsWholeSoFar};
+    ghost use Rattle.ancestry.specs.Told.{IsSound};
 
     ghost Value = { List Content };
 
     ghost view = { λ w. w.lens.now };
 
-    ghost invariant = { λ w. IsWholeSoFar w.lens.now w.seen };
+    ghost invariant = { λ w. IsSound w.lens.now w.told };
 }
 
 impl<'a> Walks<'a> {
@@ -52,9 +58,21 @@ impl<'a> Walks<'a> {
         ensures { result ≡ lens.now }
     {
         Walks {
+            alloc,
             lens,
-            seen: Seen::new(alloc),
+            told: Told::new(alloc),
         }
+    }
+
+    /// Takes it as known that all that the id leads to is there and of the kind wanted, so that no walk enters it.
+    /// Its own kind is still compared wherever one is wanted of it. After `NoMemory` the walker is as it was.
+    pub fn trust(&mut self, id: ObjectId) -> Result<(), NoMemory>
+        requires missing { missing self.old id None ≡ None }
+        requires wrong { wrong self.old id None ≡ None }
+        ensures { self.new ≡ self.old }
+    {
+        self.told.put(self.lens, id, Verdict::Whole)?;
+        Ok(())
     }
 
     /// Whether all that an id leads to is there and of the kind wanted; of the id itself this kind is wanted, or any.
@@ -62,19 +80,25 @@ impl<'a> Walks<'a> {
         ensures told { TellsOfWholeness self.old id kind result }
         ensures lens { self.new ≡ self.old }
     {
-        let before = self.seen.count();
-        let Ok(()) = self.seen.walk(self.lens, id, kind) else {
-            self.seen.forget(before);
+        let Ok(verdict) = self.judge(id, kind) else {
             return Wholeness::NoMemory;
         };
-        if let Some(id) = self.seen.missing() {
-            self.seen.forget(before);
-            return Wholeness::Missing(id);
+        match verdict {
+            Verdict::Whole => Wholeness::Whole,
+            Verdict::Missing(id) => Wholeness::Missing(id),
+            Verdict::WrongKind(id) => Wholeness::WrongKind(id),
         }
-        if let Some(id) = self.seen.wrong() {
-            self.seen.forget(before);
-            return Wholeness::WrongKind(id);
+    }
+
+    // What is told of an id and all that it leads to. Where links lead in a circle it isn't settled, and is walked from plainly.
+    fn judge(&mut self, id: ObjectId, kind: Option<Kind>) -> Result<Verdict, NoMemory>
+        ensures told { IfOk result (λ v. IsToldOf self.old id kind v) }
+        ensures lens { self.new ≡ self.old }
+    {
+        self.told.settle(self.alloc, self.lens, id)?;
+        if let Some(verdict) = self.told.of(self.lens, id, kind) {
+            return Ok(verdict);
         }
-        Wholeness::Whole
+        seen::walk(self.alloc, self.lens, id, kind)
     }
 }

@@ -5,7 +5,8 @@ use Rattle.git_object.specs.declared.object_id.ObjectId.{ObjectId}
 use Rattle.git_object.specs.declared.kind.Kind.{Kind}
 use Rattle.ancestry.specs.Walk.{Want, wanted_by}
 use Rattle.ancestry.specs.Seen.{Notes}
-use Rattle.ancestry.proofs.SeenLemmas.{on_err, adds_both, notes_none, notes_both, wanted_by-append}
+use Rattle.ancestry.proofs.SeenLemmas.{notes_none, notes_both}
+use Rattle.ancestry.proofs.WalkLemmas.{wanted_by-append}
 use Rattle.ancestry.proofs.seen.Seen.enter.Goals as goal
 
 pub loop-to-init : goal.loop-to-init
@@ -20,15 +21,12 @@ loop-to-preserved c =
     record {
       notes =
           subst (λ (wants : List Want). Notes c.args.lens.now c.args.self.now c.note.new.self wants) (sym (wanted_by-append c.loop-to.yielded (link ∷ [])))
-          (notes_both c.args.lens.now c.args.self.now c.loop-to.self c.note.new.self (wanted_by c.loop-to.yielded) (wanted_by (link ∷ [])) c.loop-to.invariant.notes c.in_ok-note.ensures.ok);
+          (notes_both c.args.lens.now c.args.self.now c.loop-to.self c.note.new.self (wanted_by c.loop-to.yielded) (wanted_by (link ∷ [])) c.loop-to.invariant.notes c.in_ok-note.ensures);
       left = append_assoc c.loop-to.yielded (link ∷ []) c.next.new.self ∙ ap (λ (links : List (ObjectId × Kind)). c.loop-to.yielded ++ links) (sym c.in-Some.ensures.steps) ∙ c.loop-to.invariant.left;
     }
 
-pub returns-clause-ok : goal.returns-clause-ok
-returns-clause-ok c =
+pub returns : goal.returns
+returns c =
     let all : c.loop-to.yielded ≡ links_of c.args.object.now.kind c.args.object.now.body =
     sym (append-nil c.loop-to.yielded) ∙ ap (λ (links : List (ObjectId × Kind)). c.loop-to.yielded ++ links) (sym c.in-None.ensures.steps.0) ∙ c.loop-to.invariant.left in
     subst (λ (links : List (ObjectId × Kind)). Notes c.args.lens.now c.args.self.now c.loop-to.self (wanted_by links)) all c.loop-to.invariant.notes
-
-pub returns-in_err-note-clause-err : goal.returns-in_err-note-clause-err
-returns-in_err-note-clause-err c = on_err c.from_residual.result (adds_both c.args.self.now c.loop-to.self c.note.new.self c.loop-to.invariant.notes.adds c.in_err-note.ensures.err)

@@ -1,23 +1,20 @@
-use Rattle.std.proofs.Common.{sym, ◌∙◌, ap}
-use Rattle.ancestry.specs.Wholeness.{missing, wrong}
-use Rattle.ancestry.proofs.WalkedLemmas.{walked_missing, walked_wrong}
+use Rattle.std.proofs.Common.{subst}
+use Rattle.ancestry.specs.declared.verdict.Verdict.{Verdict}
+use Rattle.ancestry.specs.Wholeness.{TellsOfWholeness}
+use Rattle.ancestry.proofs.VerdictLemmas.{as_wholeness, told_as_defined}
 use Rattle.ancestry.proofs.wholeness.Walks.whole.Goals as goal
 
-pub returns-in-Some-clause-told : goal.returns-in-Some-clause-told
-returns-in-Some-clause-told c =
-    let objects = c.self.inside.lens.now in
-    ap (λ os. missing os c.args.id c.args.kind) (sym c.self.view_is) ∙ walked_missing objects c.args.id c.args.kind c.self.inside.seen c.walk.new.self c.in-Ok.ensures.ok ∙ sym c.in-Some.ensures
+pub returns-in-Whole-clause-told : goal.returns-in-Whole-clause-told
+returns-in-Whole-clause-told c =
+    let objects = c.args.self.now in
+    subst (λ (v : Verdict). TellsOfWholeness objects c.args.id c.args.kind (as_wholeness v)) c.in-Whole.is (told_as_defined objects c.args.id c.args.kind c.in-Ok.verdict c.in-Ok.ensures.told)
 
-pub returns-in-Some-wrong-clause-told : goal.returns-in-Some-wrong-clause-told
-returns-in-Some-wrong-clause-told c =
-    let objects = c.self.inside.lens.now in (
-      ap (λ os. missing os c.args.id c.args.kind) (sym c.self.view_is) ∙ walked_missing objects c.args.id c.args.kind c.self.inside.seen c.walk.new.self c.in-Ok.ensures.ok ∙ sym c.in_default-missing.ensures,
-      ap (λ os. wrong os c.args.id c.args.kind) (sym c.self.view_is) ∙ walked_wrong objects c.args.id c.args.kind c.self.inside.seen c.walk.new.self c.in-Ok.ensures.ok ∙ sym c.in-Some-wrong.ensures,
-    )
+pub returns-in-Missing-clause-told : goal.returns-in-Missing-clause-told
+returns-in-Missing-clause-told c =
+    let objects = c.args.self.now in
+    subst (λ (v : Verdict). TellsOfWholeness objects c.args.id c.args.kind (as_wholeness v)) c.in-Missing.is (told_as_defined objects c.args.id c.args.kind c.in-Ok.verdict c.in-Ok.ensures.told)
 
-pub returns-clause-told : goal.returns-clause-told
-returns-clause-told c =
-    let objects = c.self.inside.lens.now in (
-      ap (λ os. missing os c.args.id c.args.kind) (sym c.self.view_is) ∙ walked_missing objects c.args.id c.args.kind c.self.inside.seen c.walk.new.self c.in-Ok.ensures.ok ∙ sym c.in_default-missing.ensures,
-      ap (λ os. wrong os c.args.id c.args.kind) (sym c.self.view_is) ∙ walked_wrong objects c.args.id c.args.kind c.self.inside.seen c.walk.new.self c.in-Ok.ensures.ok ∙ sym c.in_default-wrong.ensures,
-    )
+pub returns-in-WrongKind-clause-told : goal.returns-in-WrongKind-clause-told
+returns-in-WrongKind-clause-told c =
+    let objects = c.args.self.now in
+    subst (λ (v : Verdict). TellsOfWholeness objects c.args.id c.args.kind (as_wholeness v)) c.in-WrongKind.is (told_as_defined objects c.args.id c.args.kind c.in-Ok.verdict c.in-Ok.ensures.told)
