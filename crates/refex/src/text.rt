@@ -120,19 +120,16 @@ fn bytes_of(member: Member) -> ByteSet
     }
 }
 
-/// A range; a kind begins none and ends none.
+/// A range; a kind ends none.
 #[tactic(auto, unfolding(crate::specs::Text::span))]
-fn span(at: u64, first: Member, last: Member) -> Result<ByteSet, Offence>
-    ensures { on_ok holds result ≡ span at (member_of first) (member_of last) }
+fn span(at: u64, first: u8, last: Member) -> Result<ByteSet, Offence>
+    ensures { on_ok holds result ≡ span at first (member_of last) }
 {
-    let Member::Byte(a) = first else {
+    let Member::Byte(last) = last else {
         return Err(Offence::Syntax(at));
     };
-    let Member::Byte(b) = last else {
-        return Err(Offence::Syntax(at));
-    };
-    if a <= b {
-        Ok(ByteSet::range(a, b))
+    if first <= last {
+        Ok(ByteSet::range(first, last))
     } else {
         Err(Offence::Syntax(at))
     }
@@ -150,7 +147,7 @@ fn is_dash(bytes: &[u8]) -> bool
 }
 
 /// The item of a class at the front, which began with the member.
-#[tactic(auto, unfolding(crate::specs::Text::ranged))]
+#[tactic(auto, unfolding(crate::specs::Text::ranged, crate::specs::Text::range_from))]
 fn ranged(at: u64, begins: Member, taken: usize, rest: &[u8]) -> Result<(ByteSet, usize), Offence>
     requires { at + taken + length rest.now < 2 ^ 63 }
     ensures value { on_ok (λ x. (holds x.0, x.1)) result ≡ ranged at (member_of begins) taken rest.now }
@@ -159,8 +156,12 @@ fn ranged(at: u64, begins: Member, taken: usize, rest: &[u8]) -> Result<(ByteSet
     if !is_dash(rest) {
         return Ok((bytes_of(begins), taken));
     }
+    // A kind begins no range, whatever ends it: that is the first offence.
+    let Member::Byte(first) = begins else {
+        return Err(Offence::Syntax(at));
+    };
     let (ends, more) = member_at(at + taken as u64 + 1, behind(rest, 1))?;
-    let set = span(at, begins, ends)?;
+    let set = span(at, first, ends)?;
     Ok((set, taken + 1 + more))
 }
 
