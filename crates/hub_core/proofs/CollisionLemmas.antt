@@ -48,7 +48,7 @@ both_true : (a b : Bool) → (a && b) ≡ true → (a ≡ true) × (b ≡ true)
 both_true true b is = (refl, is)
 both_true false b is = cc
 
-object_is : (a b : Content) → same_object a b ≡ true → a ≡ b
+pub object_is : (a b : Content) → same_object a b ≡ true → a ≡ b
 object_is a b is =
     let parts = both_true (nat_eq (kind_number a.kind) (kind_number b.kind)) (same_name a.body b.body) is in
     let kinds = kind_is a.kind b.kind parts.0 in

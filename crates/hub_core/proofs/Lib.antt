@@ -7,6 +7,10 @@ pub mod OpeningLemmas
 pub mod ShortNames
 pub mod PinLemmas
 pub mod PushLemmas
+pub mod EachRepository
+pub mod GrownObjects
+pub mod WholeRefs
+pub mod TrustLemmas
 pub mod RunningLemmas
 pub mod DeskLemmas
 pub mod RunLemmas

@@ -29,7 +29,7 @@ unfolding slots
 openings-slots h [] = sym (append-nil h.openings)
 openings-slots h (e ∷ log) = openings-slots (after h e.event) log ∙ append_assoc h.openings (pinned_by h.state (step h e.event) e.event ∷ []) (slots (after h e.event) log)
 
-some_same : {X : Type 0} {a b : X} → Some a ≡ Some b → a ≡ b
+pub some_same : {X : Type 0} {a b : X} → Some a ≡ Some b → a ≡ b
 some_same {X} {a} {b} same = cc
 
 -- where something is pinned an entry stands that pinned it
@@ -40,7 +40,7 @@ slot_entry h [] place p is = cc
 slot_entry h (x ∷ log) zero p is = (x, refl, is)
 slot_entry h (x ∷ log) (suc place) p is = slot_entry (after h x.event) log place p is
 
-pins_granted : (after : State) (user repo : Name) (want : Want) (answer : EnterKept) (p : Pinned) → pins after user repo want answer ≡ Some p
+pub pins_granted : (after : State) (user repo : Name) (want : Want) (answer : EnterKept) (p : Pinned) → pins after user repo want answer ≡ Some p
     → (p ≡ pinned_in after user repo want) × ((answer ≡ Granted) ⊎ (answer ≡ Created))
 pins_granted after user repo want Granted p is = (some_same (sym is), inl refl)
 pins_granted after user repo want Created p is = (some_same (sym is), inr refl)

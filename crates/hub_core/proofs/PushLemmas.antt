@@ -5,7 +5,7 @@ use Rattle.std.specs.List.{list_any, position}
 use Rattle.git_object.specs.Content.{Content}
 use Rattle.ref_store.specs.declared.command.Command.{Command}
 use Rattle.hub_core.specs.declared.outcome.Outcome.{Outcome}
-use Rattle.hub_core.specs.declared.outcome.Outcome.TheVariants.{Done, BadName, NotAdvertised, Stale, DirFile, AtomicOther, Collided, Full}
+use Rattle.hub_core.specs.declared.outcome.Outcome.TheVariants.{Done, BadName, Twice, NotAdvertised, Missing, WrongKind, Stale, DirFile, AtomicOther, Collided, Full}
 use Rattle.ref_store.specs.Objects.{with_pack, HasNamesOnce, HasNoCollision, IsFirstCollision}
 use Rattle.ref_store.specs.Refs.{Refs}
 use Rattle.ref_store.specs.Store.{Store}
@@ -23,7 +23,10 @@ none_beside : (first : ℕ) (os : List Outcome) → list_any is_done (map (besid
 none_beside first [] = refl
 none_beside first (Done ∷ os) = none_beside first os
 none_beside first (BadName ∷ os) = none_beside first os
+none_beside first (Twice ∷ os) = none_beside first os
 none_beside first (NotAdvertised id ∷ os) = none_beside first os
+none_beside first (Missing id ∷ os) = none_beside first os
+none_beside first (WrongKind id ∷ os) = none_beside first os
 none_beside first (Stale id ∷ os) = none_beside first os
 none_beside first (DirFile r ∷ os) = none_beside first os
 none_beside first (AtomicOther i ∷ os) = none_beside first os

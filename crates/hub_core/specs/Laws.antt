@@ -14,7 +14,7 @@ use Rattle.hub_core.specs.Name.{Name}
 use Rattle.ref_store.specs.Objects.{HasNamesOnce}
 use Rattle.hub_core.specs.State.{Repository, HasShortNames}
 use Rattle.hub_core.specs.Pin.{Opening, Pinned, pinned_in}
-use Rattle.hub_core.specs.Push.{AreWithinLimits}
+use Rattle.hub_core.specs.Push.{AreWithinLimits, HasWholeRefs}
 use Rattle.hub_core.specs.History.{history, replay, opening_at, pinned_by, outcomes_at, IsDue, IsLegal}
 use Rattle.hub_core.specs.Hub.{HubView, Stands}
 use Rattle.hub_core.specs.Run.{IsRun, at_end, new_hub}
@@ -81,3 +81,10 @@ NamesStayShort =
     (admin : Name) (log : List Entry) → IsLegal admin log
     → ((name : Name) (repository : Repository) → get (replay admin log).repositories name ≡ Some repository → HasShortNames repository.refs)
     × ((opening : Opening) → Stands opening (record { admin = admin; log = log }) → HasShortNames opening.pinned.repository.refs)
+
+-- in the state that a legal log leads to, and in what its openings pinned, each ref's value is whole in its repository's objects, and a branch is at a commit
+abbrev pub RefsStayWhole : Type 0
+RefsStayWhole =
+    (admin : Name) (log : List Entry) → IsLegal admin log
+    → ((name : Name) (repository : Repository) → get (replay admin log).repositories name ≡ Some repository → HasWholeRefs repository)
+    × ((opening : Opening) → Stands opening (record { admin = admin; log = log }) → HasWholeRefs opening.pinned.repository)

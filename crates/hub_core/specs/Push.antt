@@ -1,15 +1,20 @@
 -- A push: the outcome of each of its commands, and the repository that it leaves.
-use Rattle.std.specs.Prelude.{ℕ, ◌<◌, ◌≤◌, Bool, true, false, not, nat_lt, List, [], ◌∷◌, map, length, Option, None, Some, if◌then◌else◌}
-use Rattle.std.specs.List.{list_any, position, AllByRecursion}
+use Rattle.std.specs.Prelude.{◌≡◌, ℕ, ◌<◌, ◌≤◌, Bool, true, false, not, nat_eq, nat_le, nat_lt, List, [], ◌∷◌, ◌++◌, codes, map, length, Option, None, Some, if◌then◌else◌}
+use Rattle.std.specs.List.{count_by, list_any, position, starts_with, AllByRecursion}
+use Rattle.std.specs.FinMap.{get}
 use Rattle.git_object.specs.Content.{Content}
+use Rattle.git_object.specs.declared.kind.Kind.{Kind}
+use Rattle.git_object.specs.declared.kind.Kind.TheVariants.{Commit}
 use Rattle.git_object.specs.declared.object_id.ObjectId.{ObjectId}
+use Rattle.ancestry.specs.Wholeness.{missing, wrong}
 use Rattle.ref_store.specs.declared.command.Command.{Command}
 use Rattle.hub_core.specs.declared.outcome.Outcome.{Outcome}
-use Rattle.hub_core.specs.declared.outcome.Outcome.TheVariants.{Done, BadName, NotAdvertised, Stale, DirFile, AtomicOther, Collided, Full}
+use Rattle.hub_core.specs.declared.outcome.Outcome.TheVariants.{Done, BadName, Twice, NotAdvertised, Missing, WrongKind, Stale, DirFile, AtomicOther, Collided, Full}
 use Rattle.ref_store.specs.Objects.{same_id, with_pack}
 use Rattle.ref_store.specs.RefName.{is_ref_name}
 use Rattle.ref_store.specs.Refs.{Name, Refs, zero_id, value, moved, first_at_odds}
 use Rattle.hub_core.specs.Collision.{collision}
+use Rattle.hub_core.specs.Name.{same_name}
 use Rattle.hub_core.specs.State.{Repository}
 use Rattle.hub_core.specs.Pin.{Pinned}
 
@@ -21,12 +26,37 @@ pub record AreWithinLimits (commands : List Command) : Type 0 where
 
 -- I. By the opening, the pack and the commands alone
 
--- the outcome of a command by what the opening pinned, or none
-abbrev pub judged : Pinned → List Content → List Command → Command → Option Outcome
-judged pinned pack commands command =
+-- two commands or more are for this ref
+abbrev pub is_named_twice : List Command → Name → Bool
+is_named_twice commands name = nat_le 2 (count_by (λ (c : Command). same_name name c.name) commands)
+
+-- what a ref's value is to be: of a branch a commit
+abbrev pub kind_at : Name → Option Kind
+kind_at name = if starts_with nat_eq name (codes "refs/heads/") then Some Commit else None
+
+-- each ref's value leads only to objects that are there and of the kinds wanted; a branch is at a commit
+abbrev pub HasWholeRefs : Repository → Type 0
+HasWholeRefs repository =
+    (name : Name) (id : ObjectId) → get repository.refs name ≡ Some id
+    → (missing repository.objects id (kind_at name) ≡ None) × (wrong repository.objects id (kind_at name) ≡ None)
+
+-- the outcome where something is missing or of a wrong kind, or none
+abbrev pub by_walk : Option ObjectId → Option ObjectId → Option Outcome
+by_walk (Some id) wrong = Some (Missing id)
+by_walk None (Some id) = Some (WrongKind id)
+by_walk None None = None
+
+-- the outcome of a command by what the opening pinned, whether another command is for its ref, and the objects with the pack's; or none
+abbrev pub judged_by : Pinned → Bool → List Content → Command → Option Outcome
+judged_by pinned twice objects command =
     if not (is_ref_name command.name) then Some BadName
-    else if same_id (value pinned.repository.refs command.name) command.old then None
-    else Some (NotAdvertised (value pinned.repository.refs command.name))
+    else if twice then Some Twice
+    else if not (same_id (value pinned.repository.refs command.name) command.old) then Some (NotAdvertised (value pinned.repository.refs command.name))
+    else if same_id command.new zero_id then None
+    else by_walk (missing objects command.new (kind_at command.name)) (wrong objects command.new (kind_at command.name))
+
+abbrev pub judged : Pinned → List Content → List Command → Command → Option Outcome
+judged pinned pack commands command = judged_by pinned (is_named_twice commands command.name) (pinned.repository.objects ++ pack) command
 
 abbrev pub judgement : Pinned → List Content → List Command → List (Option Outcome)
 judgement pinned pack commands = map (judged pinned pack commands) commands
@@ -53,7 +83,10 @@ is_done _ = false
 abbrev pub outcome_number : Outcome → ℕ
 outcome_number Done = 1
 outcome_number BadName = 2
+outcome_number Twice = 3
 outcome_number (NotAdvertised id) = 5
+outcome_number (Missing id) = 6
+outcome_number (WrongKind id) = 7
 outcome_number (Stale id) = 11
 outcome_number (DirFile r) = 12
 outcome_number (AtomicOther place) = 13

@@ -1,8 +1,16 @@
--- What the running of a push's commands takes of their judgements.
-use Rattle.std.specs.Prelude.{◌≡◌, true, false, List, [], ◌∷◌, Option, None, Some}
+-- Steps of judging a push and of running its commands.
+use Rattle.std.specs.Prelude.{◌≡◌, ℕ, zero, suc, Bool, nat_lt, true, false, List, [], ◌∷◌, Option, None, Some}
+use Rattle.std.specs.List.{count_by}
+use Rattle.std.specs.FinMap.{get}
+use Rattle.base_types.specs.Names.{ByName}
+use Rattle.git_object.specs.Content.{Content}
+use Rattle.git_object.specs.declared.kind.Kind.{Kind}
+use Rattle.git_object.specs.declared.object_id.ObjectId.{ObjectId}
+use Rattle.ancestry.specs.Wholeness.{missing, wrong}
 use Rattle.ref_store.specs.RefName.{is_ref_name}
 use Rattle.ref_store.specs.declared.command.Command.{Command}
 use Rattle.hub_core.specs.declared.outcome.Outcome.{Outcome}
+use Rattle.hub_core.specs.Name.{Name, same_name}
 use Rattle.hub_core.specs.Push.{is_done}
 
 -- it refuses the command, or the command has a name that a ref may have
@@ -14,3 +22,16 @@ abbrev pub FitCommands : List Command → List (Option Outcome) → Type 0
 FitCommands [] judgements = Unit {0}
 FitCommands (c ∷ cs) [] = Unit {0}
 FitCommands (c ∷ cs) (j ∷ js) = FitsCommand c j × FitCommands cs js
+
+-- all that the id leads to is there and of the kinds wanted
+abbrev pub IsWhole : List Content → ObjectId → Option Kind → Type 0
+IsWhole objects root kind = (missing objects root kind ≡ None) × (wrong objects root kind ≡ None)
+
+-- what is kept of a ref by how many commands are for it: whether there are several
+abbrev pub kept_of : ℕ → Option Bool
+kept_of zero = None
+kept_of (suc n) = Some (nat_lt 0 n)
+
+-- the map has this of each name
+abbrev pub Counts : ByName Bool → List Command → Type 0
+Counts names commands = (name : Name) → get names name ≡ kept_of (count_by (λ (c : Command). same_name name c.name) commands)

@@ -5,7 +5,7 @@ ghost use Rattle.std.specs.Option.{option_copied, option_map, unwrap_or};
 ghost use Rattle.hub_core.specs.Name.{map_of};
 ghost use Rattle.hub_core.specs.State.{changed, empty_repository, put_in_place, ref_count, repository_at, store_of};
 ghost use Rattle.hub_core.specs.Pin.{answer_to, by_creation, by_verdict};
-ghost use Rattle.hub_core.specs.Push.{AreWithinLimits, judgement, landed};
+ghost use Rattle.hub_core.specs.Push.{AreWithinLimits, HasWholeRefs, judgement, landed};
 ghost use Rattle.hub_core.specs.History.{history, IsDue, IsLegal, outcomes_at, replay, step};
 ghost use Rattle.hub_core.specs.Hub.{logged, Logs, Stands};
 ghost use Rattle.hub_core.specs.Answer.{AnswersOpening, AnswersPush, IsPinOf, kept, opened, pin_of, settled};
@@ -300,6 +300,7 @@ impl Hub {
         want: Want,
         hosted: HostedRepo,
     ) -> Result<Pin, NoMemory>
+        requires { HasWholeRefs hosted }
         ensures { IfOk result (λ pin. pin ≡ record { place = length self.now.log; pinned = record { user = user.now; repo = repo.now; want = want; conf = (replay self.now.admin self.now.log).conf; repository = hosted } }) }
     {
         let policy = self.policy.clone()?;
@@ -309,7 +310,8 @@ impl Hub {
 
     // A repository, or an empty one where there is none.
     fn hosted(&self, alloc: Global, name: &RepoName) -> Result<HostedRepo, NoMemory>
-        ensures { IfOk result (λ h. h ≡ repository_at (replay self.now.admin self.now.log) name.now) }
+        ensures hosted { IfOk result (λ h. h ≡ repository_at (replay self.now.admin self.now.log) name.now) }
+        ensures whole { HasWholeRefs (repository_at (replay self.now.admin self.now.log) name.now) }
     {
         match self.repositories.get(name) {
             Some(hosted) => Ok(hosted.clone()?),

@@ -1,12 +1,20 @@
 // Judging a push by its opening.
-ghost use Rattle.std.specs.Prelude.{◌≡◌, IfOk};
-ghost use Rattle.hub_core.specs.Push.{judged, judgement};
+ghost use Rattle.std.specs.Prelude.{◌≡◌, IfOk, None, false};
+ghost use Rattle.std.specs.FinMap as map;
+ghost use Rattle.std.specs.Option.{option_map_or};
+ghost use Rattle.ancestry.specs.Wholeness.{missing, wrong};
+ghost use Rattle.hub_core.specs.Push.{by_walk, judged_by, judgement, kind_at};
+ghost use Rattle.std.specs.List.{All};
+ghost use Rattle.git_object.specs.declared.object_id.ObjectId.{ObjectId};
+ghost use Rattle.hub_core.specs.Name.{Name};
+ghost use Rattle.hub_core.specs.Running.{Counts, IsWhole};
 
 use crate::outcome::Outcome;
 use crate::pin::Pin;
-use base_types::NoMemory;
-use git_object::ObjectList;
-use ref_store::{Command, CommandList, RefName};
+use ancestry::{Walks, Wholeness};
+use base_types::{NameMap, NoMemory};
+use git_object::{Kind, ObjectId, ObjectList};
+use ref_store::{Command, CommandList, Lens, RefName};
 use std::alloc::Global;
 use std::marker::Model;
 
@@ -33,7 +41,7 @@ impl Judged {
     }
 }
 
-/// Judges each command of a push. The hub isn't looked at, so nothing needs to be held meanwhile.
+/// Judges each command of a push. The hub isn't looked at, so nothing needs to be held meanwhile. It costs the refs of the opening and the objects that new values lead to before they come to those refs' values; an object from which all is whole is visited once, whatever the number of commands.
 pub fn judge(
     alloc: Global,
     pin: &Pin,
@@ -42,27 +50,96 @@ pub fn judge(
 ) -> Result<Judged, NoMemory>
     ensures { IfOk result (λ j. j ≡ judgement pin.now.pinned pack.now commands.now) }
 {
+    let lens = Lens::new(alloc, pin.repo(), pack)?;
+    let mut walks = Walks::new(alloc, &lens);
+    trust_refs(pin, &mut walks)?;
+    let names = names_of(alloc, commands.as_slice())?;
     let mut outcomes = Vec::with_capacity(alloc, commands.len())?;
     for command in commands.as_slice() {
-        outcomes.push(judge_one(pin, pack, commands, command))?;
+        let twice = is_named_twice(&names, command);
+        outcomes.push(judge_one(pin, twice, &mut walks, command)?)?;
     }
     Ok(Judged { outcomes })
 }
 
+// What the refs of the opening lead to is all there, and is not walked again.
+fn trust_refs(pin: &Pin, walks: &mut Walks<'_>) -> Result<(), NoMemory>
+    requires { All (λ (e : Name × ObjectId). IsWhole walks.old e.1 None) (map.entries pin.now.pinned.repository.refs) }
+    ensures { walks.new ≡ walks.old }
+{
+    for (_, id) in pin.repo().refs() {
+        walks.trust(*id)?;
+    }
+    Ok(())
+}
+
+// The refs of the commands, each with whether there are several commands for it.
+fn names_of(alloc: Global, commands: &[Command]) -> Result<NameMap<bool>, NoMemory>
+    ensures { IfOk result (λ names. Counts names commands.now) }
+{
+    let mut names = NameMap::new(alloc);
+    for command in commands {
+        let again = names.get(&command.name).is_some();
+        names.insert(command.name.clone()?, again)?;
+    }
+    Ok(names)
+}
+
+fn is_named_twice(names: &NameMap<bool>, command: &Command) -> bool
+    ensures { result ≡ option_map_or (λ twice. twice) (map.get names.now command.now.name) false }
+{
+    match names.get(&command.name) {
+        Some(twice) => *twice,
+        None => false,
+    }
+}
+
 fn judge_one(
     pin: &Pin,
-    pack: &ObjectList,
-    commands: &CommandList,
+    twice: bool,
+    walks: &mut Walks<'_>,
     command: &Command,
-) -> Option<Outcome>
-    ensures { result ≡ judged pin.now.pinned pack.now commands.now command.now }
+) -> Result<Option<Outcome>, NoMemory>
+    ensures outcome { IfOk result (λ o. o ≡ judged_by pin.now.pinned twice walks.old command.now) }
+    ensures walks { walks.new ≡ walks.old }
 {
     if !RefName::is_name(command.name.bytes()) {
-        return Some(Outcome::BadName);
+        return Ok(Some(Outcome::BadName));
+    }
+    if twice {
+        return Ok(Some(Outcome::Twice));
     }
     let value = pin.repo().value(&command.name);
-    if value == command.old {
-        return None;
+    if value != command.old {
+        return Ok(Some(Outcome::NotAdvertised(value)));
     }
-    Some(Outcome::NotAdvertised(value))
+    if command.new == ObjectId::zero() {
+        return Ok(None);
+    }
+    by_walk(walks, command.new, kind_at(command.name.bytes()))
+}
+
+fn kind_at(name: &[u8]) -> Option<Kind>
+    ensures { result ≡ kind_at name.now }
+{
+    if name.starts_with(b"refs/heads/") {
+        return Some(Kind::Commit);
+    }
+    None
+}
+
+fn by_walk(
+    walks: &mut Walks<'_>,
+    id: ObjectId,
+    kind: Option<Kind>,
+) -> Result<Option<Outcome>, NoMemory>
+    ensures outcome { IfOk result (λ o. o ≡ by_walk (missing walks.old id kind) (wrong walks.old id kind)) }
+    ensures walks { walks.new ≡ walks.old }
+{
+    match walks.whole(id, kind) {
+        Wholeness::Whole => Ok(None),
+        Wholeness::Missing(id) => Ok(Some(Outcome::Missing(id))),
+        Wholeness::WrongKind(id) => Ok(Some(Outcome::WrongKind(id))),
+        Wholeness::NoMemory => Err(NoMemory),
+    }
 }

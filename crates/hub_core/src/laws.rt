@@ -1,5 +1,5 @@
 // Laws of the definitions.
-ghost use Rattle.hub_core.specs.Laws.{BeginningIsLegal, LegalByPlaces, NamesStayOnce, NamesStayShort, OpeningStays, PinsOfItsPlace, PushesNameOpenings, RunsAreLegal, StateStays};
+ghost use Rattle.hub_core.specs.Laws.{BeginningIsLegal, LegalByPlaces, NamesStayOnce, NamesStayShort, OpeningStays, PinsOfItsPlace, PushesNameOpenings, RefsStayWhole, RunsAreLegal, StateStays};
 
 /// The laws hold, of every log.
 pub fn hold_laws()
@@ -11,5 +11,6 @@ pub fn hold_laws()
     ensures pushes { PushesNameOpenings }
     ensures names { NamesStayOnce }
     ensures short { NamesStayShort }
+    ensures whole { RefsStayWhole }
     ensures runs { RunsAreLegal }
 {}

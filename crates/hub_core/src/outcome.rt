@@ -14,8 +14,14 @@ pub enum Outcome {
     Done,
     /// The ref's name isn't one that a ref may have.
     BadName,
+    /// Another command of the push is for the same ref.
+    Twice,
     /// The ref's value at the opening, which isn't the command's old value.
     NotAdvertised(ObjectId),
+    /// The new value leads to this name, which no object has. Of several it is the least.
+    Missing(ObjectId),
+    /// The new value leads to this object, which isn't of the kind that is wanted of it there. Of several it is the least.
+    WrongKind(ObjectId),
     /// The ref's value just before, which isn't the command's old value.
     Stale(ObjectId),
     /// A create, and this ref is a directory of its ref or stands below it. Of several it is the least.
@@ -38,7 +44,10 @@ impl Clone for Outcome {
         Ok(match self {
             Outcome::Done => Outcome::Done,
             Outcome::BadName => Outcome::BadName,
+            Outcome::Twice => Outcome::Twice,
             Outcome::NotAdvertised(id) => Outcome::NotAdvertised(*id),
+            Outcome::Missing(id) => Outcome::Missing(*id),
+            Outcome::WrongKind(id) => Outcome::WrongKind(*id),
             Outcome::Stale(id) => Outcome::Stale(*id),
             Outcome::DirFile(name) => Outcome::DirFile(name.clone()?),
             Outcome::AtomicOther(first) => Outcome::AtomicOther(*first),
@@ -62,7 +71,10 @@ impl Outcome {
         match self {
             Outcome::Done => 1,
             Outcome::BadName => 2,
+            Outcome::Twice => 3,
             Outcome::NotAdvertised(_) => 5,
+            Outcome::Missing(_) => 6,
+            Outcome::WrongKind(_) => 7,
             Outcome::Stale(_) => 11,
             Outcome::DirFile(_) => 12,
             Outcome::AtomicOther(_) => 13,

@@ -1,6 +1,7 @@
 // What an opening pins.
 ghost use Rattle.std.specs.Prelude.{◌≡◌};
 ghost use Rattle.hub_core.specs.State.{store_of, rules_of};
+ghost use Rattle.hub_core.specs.Push.{HasWholeRefs};
 
 use crate::name::{RepoName, UserName};
 use crate::rule::Policy;
@@ -23,10 +24,13 @@ pub struct Pin {
 impl Model for Pin {
     ghost use Rattle.hub_core.specs.Pin.{Opening};
     ghost use Rattle.hub_core.specs.Codes.{coded_opening};
+    ghost use Rattle.hub_core.specs.Push.{HasWholeRefs};
 
     ghost Value = { Opening };
 
     ghost coded = { coded_opening };
+
+    ghost invariant = { λ p. HasWholeRefs p.hosted };
 
     ghost view = { λ p. record { place = p.place; pinned = record { user = p.user; repo = p.name; want = p.want; conf = p.policy; repository = p.hosted } } };
 }
@@ -40,6 +44,7 @@ impl Pin {
         policy: Policy,
         hosted: HostedRepo,
     ) -> Pin
+        requires { HasWholeRefs hosted }
         ensures { result ≡ record { place = place; pinned = record { user = user; repo = name; want = want; conf = policy; repository = hosted } } }
     {
         Pin {
@@ -71,8 +76,10 @@ impl Pin {
         &self.name
     }
 
+    /// The repository as it was; what its refs' values lead to is all there.
     pub fn repo(&self) -> &Repo
-        ensures { result.now ≡ store_of self.now.pinned.repository }
+        ensures repo { result.now ≡ store_of self.now.pinned.repository }
+        ensures whole { HasWholeRefs self.now.pinned.repository }
     {
         self.hosted.repo()
     }

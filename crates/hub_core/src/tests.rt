@@ -9,10 +9,6 @@ use git_object::{Kind, Object, ObjectId, ObjectList};
 use std::alloc::Global;
 use std::test::Fail;
 
-const A: ObjectId = ObjectId { bytes: [10; 20] };
-
-const B: ObjectId = ObjectId { bytes: [11; 20] };
-
 fn new_desk(alloc: Global) -> Result<LoneDesk, NoMemory> {
     let admin = Text::of(alloc, b"admin")?;
     Ok(LoneDesk::new(Hub::start(alloc, &admin)?))
@@ -59,7 +55,7 @@ fn push<D: Desk>(
     }
 }
 
-// A create for each letter, of the branch of that name.
+// A create for each letter, of the tag of that name.
 fn creates(alloc: Global, letters: &[u8], new: ObjectId) -> Result<CommandList, NoMemory>
     requires some { 0 < length letters.now }
     requires few { length letters.now ≤ 10000 }
@@ -67,7 +63,7 @@ fn creates(alloc: Global, letters: &[u8], new: ObjectId) -> Result<CommandList, 
 {
     let mut list = CommandList::new(alloc);
     for letter in letters {
-        let mut name = b"refs/heads/".to_vec(alloc)?;
+        let mut name = b"refs/tags/".to_vec(alloc)?;
         name.push(*letter)?;
         let old = ObjectId::zero();
         let name = Text::from(name);
@@ -83,17 +79,21 @@ fn pack(alloc: Global, body: &[u8; 1]) -> Result<ObjectList, Fail> {
     Ok(pack)
 }
 
-// Whether `testing` has so many objects, and a branch of this value.
+fn blob_id(alloc: Global, body: &[u8; 1]) -> Result<ObjectId, Fail> {
+    Ok(Object::parse(alloc, Kind::Blob, body)?.name())
+}
+
+// Whether `testing` has so many objects, and a ref of this value.
 fn testing_has(
     alloc: Global,
     hub: &Hub,
-    branch: &[u8],
+    name: &[u8],
     objects: usize,
     value: ObjectId,
 ) -> Result<bool, Fail> {
     let repo = hub.repo(&Text::of(alloc, b"testing")?).ok_or("testing")?;
-    let branch = Text::of(alloc, branch)?;
-    Ok(repo.count() == objects && repo.value(&branch) == value)
+    let name = Text::of(alloc, name)?;
+    Ok(repo.count() == objects && repo.value(&name) == value)
 }
 
 // Whether there is one outcome, and this one.
@@ -108,11 +108,11 @@ fn is_told_at(outcomes: &OutcomeList, place: usize, due: &Outcome) -> bool {
     }
 }
 
-// Whether the first and the third of three outcomes are these, and the second is stale at A.
-fn is_overtaken(outcomes: &OutcomeList, others: &Outcome) -> bool {
+// Whether the first and the third of three outcomes are these, and the second is stale at this value.
+fn is_overtaken(outcomes: &OutcomeList, others: &Outcome, value: ObjectId) -> bool {
     outcomes.len() == 3
         && is_told_at(outcomes, 0, others)
-        && is_told_at(outcomes, 1, &Outcome::Stale(A))
+        && is_told_at(outcomes, 1, &Outcome::Stale(value))
         && is_told_at(outcomes, 2, others)
 }
 
@@ -149,14 +149,13 @@ fn openings_are_answered_by_the_two_rules(rt: HostRuntime) -> Result<(), Fail> {
     Ok(())
 }
 
-// A push of a blob and of creates, by the pin.
+// A push of a blob and of creates at it, by the pin.
 fn create<D: Desk>(
     alloc: Global,
     desk: &mut D,
     pin: Pin,
     body: &[u8; 1],
     letters: &[u8],
-    new: ObjectId,
     atomic: bool,
 ) -> Result<OutcomeList, Fail>
     requires write { pin.pinned.want ≡ Want.Write }
@@ -166,7 +165,7 @@ fn create<D: Desk>(
     ensures keeps { KeepsPins (D.view desk.old) (D.view desk.new) }
 {
     let pack = pack(alloc, body)?;
-    let commands = creates(alloc, letters, new)?;
+    let commands = creates(alloc, letters, blob_id(alloc, body)?)?;
     Ok(push(alloc, desk, pin, pack, commands, atomic)?)
 }
 
@@ -177,10 +176,10 @@ fn create_thrice<D: Desk>(
 ) -> Result<(OutcomeList, OutcomeList, OutcomeList), Fail> {
     let first = open(alloc, desk, b"carol", b"testing")?.ok_or("first")?;
     let second = open(alloc, desk, b"dave", b"testing")?.ok_or("second")?;
-    let done = create(alloc, desk, first, b"1", b"a", A, false)?;
-    let stale = create(alloc, desk, second, b"2", b"a", B, false)?;
+    let done = create(alloc, desk, first, b"1", b"a", false)?;
+    let stale = create(alloc, desk, second, b"2", b"a", false)?;
     let third = open(alloc, desk, b"carol", b"testing")?.ok_or("third")?;
-    let late = create(alloc, desk, third, b"3", b"a", A, false)?;
+    let late = create(alloc, desk, third, b"3", b"a", false)?;
     Ok((done, stale, late))
 }
 
@@ -190,10 +189,11 @@ fn a_create_is_judged_by_its_opening_and_then_by_the_refs(rt: HostRuntime) -> Re
     let mut desk = new_desk(alloc)?;
     let (done, stale, late) = create_thrice(alloc, &mut desk)?;
     assert!(rt; is_told(&done, &Outcome::Done));
-    assert!(rt; is_told(&stale, &Outcome::Stale(A)));
-    assert!(rt; is_told(&late, &Outcome::NotAdvertised(A)));
+    let one = blob_id(alloc, b"1")?;
+    assert!(rt; is_told(&stale, &Outcome::Stale(one)));
+    assert!(rt; is_told(&late, &Outcome::NotAdvertised(one)));
     let hub = desk.into_hub();
-    assert!(rt; testing_has(alloc, &hub, b"refs/heads/a", 1, A)?);
+    assert!(rt; testing_has(alloc, &hub, b"refs/tags/a", 1, one)?);
     assert_eq!(rt; hub.ref_count(), 1);
     assert_eq!(rt; hub.log().len(), 6);
     Ok(())
@@ -203,8 +203,8 @@ fn a_create_is_judged_by_its_opening_and_then_by_the_refs(rt: HostRuntime) -> Re
 fn overtaken<D: Desk>(alloc: Global, desk: &mut D, atomic: bool) -> Result<OutcomeList, Fail> {
     let first = open(alloc, desk, b"carol", b"testing")?.ok_or("first")?;
     let second = open(alloc, desk, b"dave", b"testing")?.ok_or("second")?;
-    let _done = create(alloc, desk, second, b"1", b"b", A, true)?;
-    create(alloc, desk, first, b"2", b"abc", B, atomic)
+    let _done = create(alloc, desk, second, b"1", b"b", true)?;
+    create(alloc, desk, first, b"2", b"abc", atomic)
 }
 
 #[test]
@@ -212,9 +212,9 @@ fn an_atomic_push_with_a_refusal_changes_nothing(rt: HostRuntime) -> Result<(), 
     let alloc = rt.alloc();
     let mut desk = new_desk(alloc)?;
     let told = overtaken(alloc, &mut desk, true)?;
-    assert!(rt; is_overtaken(&told, &Outcome::AtomicOther(1)));
+    assert!(rt; is_overtaken(&told, &Outcome::AtomicOther(1), blob_id(alloc, b"1")?));
     let hub = desk.into_hub();
-    assert!(rt; testing_has(alloc, &hub, b"refs/heads/a", 1, ObjectId::zero())?);
+    assert!(rt; testing_has(alloc, &hub, b"refs/tags/a", 1, ObjectId::zero())?);
     Ok(())
 }
 
@@ -223,15 +223,15 @@ fn another_push_does_what_is_not_refused(rt: HostRuntime) -> Result<(), Fail> {
     let alloc = rt.alloc();
     let mut desk = new_desk(alloc)?;
     let told = overtaken(alloc, &mut desk, false)?;
-    assert!(rt; is_overtaken(&told, &Outcome::Done));
+    assert!(rt; is_overtaken(&told, &Outcome::Done, blob_id(alloc, b"1")?));
     let hub = desk.into_hub();
-    assert!(rt; testing_has(alloc, &hub, b"refs/heads/a", 2, B)?);
-    assert!(rt; testing_has(alloc, &hub, b"refs/heads/b", 2, A)?);
+    assert!(rt; testing_has(alloc, &hub, b"refs/tags/a", 2, blob_id(alloc, b"2")?)?);
+    assert!(rt; testing_has(alloc, &hub, b"refs/tags/b", 2, blob_id(alloc, b"1")?)?);
     assert_eq!(rt; hub.ref_count(), 3);
     Ok(())
 }
 
-// One create of a ref with this text, by the pin.
+// One create of a ref with this text, at a blob of the pack.
 fn create_named<D: Desk>(alloc: Global, desk: &mut D, name: &[u8]) -> Result<OutcomeList, Fail>
     requires { length name.now ≤ 1024 }
 {
@@ -239,7 +239,7 @@ fn create_named<D: Desk>(alloc: Global, desk: &mut D, name: &[u8]) -> Result<Out
     let mut commands = CommandList::new(alloc);
     commands.push(Command {
         old: ObjectId::zero(),
-        new: A,
+        new: blob_id(alloc, b"1")?,
         name: Text::of(alloc, name)?,
     })?;
     Ok(push(alloc, desk, pin, pack(alloc, b"1")?, commands, false)?)
@@ -249,15 +249,41 @@ fn create_named<D: Desk>(alloc: Global, desk: &mut D, name: &[u8]) -> Result<Out
 fn a_ref_needs_a_name_and_no_ref_in_its_way(rt: HostRuntime) -> Result<(), Fail> {
     let alloc = rt.alloc();
     let mut desk = new_desk(alloc)?;
-    let bad = create_named(alloc, &mut desk, b"refs/heads/a..b")?;
+    let bad = create_named(alloc, &mut desk, b"refs/tags/a..b")?;
     assert!(rt; is_told(&bad, &Outcome::BadName));
-    let done = create_named(alloc, &mut desk, b"refs/heads/a")?;
+    let branch = create_named(alloc, &mut desk, b"refs/heads/a")?;
+    assert!(rt; is_told(&branch, &Outcome::WrongKind(blob_id(alloc, b"1")?)));
+    let done = create_named(alloc, &mut desk, b"refs/tags/a")?;
     assert!(rt; is_told(&done, &Outcome::Done));
-    let below = create_named(alloc, &mut desk, b"refs/heads/a/b")?;
-    let first = RefName::parse(alloc, b"refs/heads/a")?.ok_or("a name")?;
+    let below = create_named(alloc, &mut desk, b"refs/tags/a/b")?;
+    let first = RefName::parse(alloc, b"refs/tags/a")?.ok_or("a name")?;
     assert!(rt; is_told(&below, &Outcome::DirFile(first)));
-    let hub = desk.into_hub();
-    assert_eq!(rt; hub.ref_count(), 1);
+    assert_eq!(rt; desk.into_hub().ref_count(), 1);
+    Ok(())
+}
+
+// Creates of these letters at an object that is nowhere.
+fn create_at_nothing<D: Desk>(
+    alloc: Global,
+    desk: &mut D,
+    letters: &[u8],
+) -> Result<OutcomeList, Fail>
+    requires some { 0 < length letters.now }
+    requires few { length letters.now ≤ 10000 }
+{
+    let pin = open(alloc, desk, b"carol", b"testing")?.ok_or("a pin")?;
+    let commands = creates(alloc, letters, ObjectId { bytes: [7; 20] })?;
+    Ok(push(alloc, desk, pin, ObjectList::new(alloc), commands, false)?)
+}
+
+#[test]
+fn a_new_value_is_whole_and_each_ref_is_named_once(rt: HostRuntime) -> Result<(), Fail> {
+    let alloc = rt.alloc();
+    let mut desk = new_desk(alloc)?;
+    let told = create_at_nothing(alloc, &mut desk, b"aba")?;
+    assert!(rt; is_told_at(&told, 0, &Outcome::Twice) && is_told_at(&told, 2, &Outcome::Twice));
+    assert!(rt; is_told_at(&told, 1, &Outcome::Missing(ObjectId { bytes: [7; 20] })));
+    assert_eq!(rt; desk.into_hub().ref_count(), 0);
     Ok(())
 }
 

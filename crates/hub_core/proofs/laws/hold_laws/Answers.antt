@@ -4,6 +4,7 @@ use Rattle.hub_core.specs.History.{new_history, replay}
 use Rattle.hub_core.proofs.HistoryLemmas.{IsLegalFrom-beginning, stands_kept, due_at, legal_by_places, opening_at-place}
 use Rattle.hub_core.proofs.ObjectLemmas.{names_once}
 use Rattle.hub_core.proofs.ShortNames.{names_short, pinned_short}
+use Rattle.hub_core.proofs.WholeRefs.{refs_whole, pinned_whole}
 use Rattle.hub_core.specs.Run.{new_hub}
 use Rattle.hub_core.proofs.OpeningLemmas.{push_named}
 use Rattle.hub_core.proofs.RunLemmas.{run_keeps}
@@ -29,6 +30,9 @@ returns-clause-names c = λ admin log legal name repository is. names_once admin
 
 pub returns-clause-short : goal.returns-clause-short
 returns-clause-short c = λ admin log legal. (λ name repository is. names_short admin log legal name repository is, λ opening stands. pinned_short admin log legal opening stands)
+
+pub returns-clause-whole : goal.returns-clause-whole
+returns-clause-whole c = λ admin log legal. (λ name repository is. refs_whole admin log legal name repository is, λ opening stands. pinned_whole admin log legal opening stands)
 
 pub returns-clause-runs : goal.returns-clause-runs
 returns-clause-runs c = λ admin later run. run_keeps (new_hub admin) later run tt

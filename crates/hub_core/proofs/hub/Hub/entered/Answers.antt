@@ -6,7 +6,7 @@ use Rattle.hub_core.proofs.hub.Hub.entered.Goals as goal
 pub returns-in_ok-commit-in-Granted-clause-pin : goal.returns-in_ok-commit-in-Granted-clause-pin
 returns-in_ok-commit-in-Granted-clause-pin c =
     pinned_granted c.args.self.now c.args.caller c.args.user.now c.args.repo.now c.args.want c.in_ok-hosted-in-Granted.hosted
-    (sym c.requires ∙ c.in-Granted.is) c.in_ok-hosted-in-Granted.ensures c.commit.new.self (grind (arith, common_steps)) c.in_ok-pin-in-Granted.pin c.in_ok-pin-in-Granted.ensures
+    (sym c.requires ∙ c.in-Granted.is) c.in_ok-hosted-in-Granted.ensures.hosted c.commit.new.self (grind (arith, common_steps)) c.in_ok-pin-in-Granted.pin c.in_ok-pin-in-Granted.ensures
 
 pub returns-in_ok-commit-in-Created-clause-pin : goal.returns-in_ok-commit-in-Created-clause-pin
 returns-in_ok-commit-in-Created-clause-pin c =
