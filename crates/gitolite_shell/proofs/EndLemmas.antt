@@ -11,7 +11,7 @@ use Rattle.interaction_tree.specs.Growth.{GrowsBy}
 use Rattle.interaction_tree.proofs.EndingLemmas.{runs_turn}
 use Rattle.interaction_tree.proofs.DeskLemmas.{makes_grows}
 use Rattle.gitolite_shell.specs.declared.end.SessionEnd.{SessionEnd}
-use Rattle.gitolite_shell.specs.declared.end.SessionEnd.TheVariants.{Served, Denied, NoRepo, ReadFault, WriteFault, NoMemory, NotBuilt}
+use Rattle.gitolite_shell.specs.declared.end.SessionEnd.TheVariants.{Served, Denied, NoRepo, ReadFault, WriteFault, NoMemory, BadPack, NotBuilt}
 use Rattle.gitolite_shell.specs.End.{HasCause, IsSure, halt_of}
 use Rattle.gitolite_shell.specs.Session.{session}
 use Rattle.gitolite_shell.proofs.OrderLemmas.{is_ordered}
@@ -20,6 +20,7 @@ pub has_cause : (a b : LinkState) (end : SessionEnd) → IsCaused {A = Unit {0}}
 has_cause a b Served caused = tt
 has_cause a b Denied caused = tt
 has_cause a b NoRepo caused = tt
+has_cause a b (BadPack fault) caused = tt
 has_cause a b NotBuilt caused = tt
 has_cause a b ReadFault caused = caused
 has_cause a b WriteFault caused = caused
@@ -29,6 +30,7 @@ pub is_sure : (a b : LinkState) (end : SessionEnd) → HasCause a b end → IsSu
 is_sure a b Served caused reads writes = inl refl
 is_sure a b Denied caused reads writes = inl refl
 is_sure a b NoRepo caused reads writes = inl refl
+is_sure a b (BadPack fault) caused reads writes = inl refl
 is_sure a b NotBuilt caused reads writes = inl refl
 is_sure a b ReadFault caused reads writes = absurd (reads caused.0)
 is_sure a b WriteFault caused reads writes = absurd (writes caused.0)

@@ -6,6 +6,8 @@ mod ScriptRows
 mod StepLemmas
 mod OpeningLemmas
 mod OrderLemmas
+mod CommandLemmas
+mod ReportLemmas
 mod PackLemmas
 mod PushLemmas
 mod TextLemmas

@@ -1,5 +1,5 @@
 -- A session makes no entry between what it wrote and what it reads next.
-use Rattle.std.proofs.Common.{◌≡◌, Bool, true, false, List, Option, None, Some, Result, Ok, Err, refl, cond}
+use Rattle.std.proofs.Common.{◌≡◌, ℕ, zero, suc, Bool, false, List, Option, None, Some, Result, Ok, Err, refl}
 use Rattle.std.specs.Bool.{⊤}
 use Rattle.pktline_core.specs.Packets as packets
 use Rattle.pktline_core.specs.declared.packets.PktFault.{PktFault}
@@ -12,20 +12,20 @@ use Rattle.hub_core.specs.declared.verdict.Want.TheVariants.{Write}
 use Rattle.hub_core.specs.Name.{Name}
 use Rattle.hub_core.specs.Pin.{Opening, answer_to}
 use Rattle.hub_core.specs.History.{replay}
-use Rattle.interaction_tree.specs.Interaction.{gives, ◌>>=◌, write, read, ask}
+use Rattle.interaction_tree.specs.Interaction.{Interaction, gives, ◌>>=◌, write, read, ask}
 use Rattle.interaction_tree.specs.Order.{EntriesFirst, IsOrdered}
 use Rattle.interaction_tree.proofs.OrderLemmas.{order_then}
 use Rattle.gitolite_shell.specs.declared.end.SessionEnd.{SessionEnd}
 use Rattle.gitolite_shell.specs.declared.first_packet.Asked.{Asked}
 use Rattle.gitolite_shell.specs.FirstPacket.{asked, without_feed}
-use Rattle.gitolite_shell.specs.Create.{command_at, is_first_pack}
-use Rattle.gitolite_shell.specs.Session.{refuse, not_built, next_packet, or_not_built, asked_in, asking, opening_behind, by_answer, entering, only_flush, pack_in, taking_flush, taking_objects, taking_pack, pushing, creating, commanded, commanding, receiving, serving, served, session}
+use Rattle.gitolite_shell.specs.Create.{first_at, further_create}
+use Rattle.gitolite_shell.specs.Session.{refuse, not_built, next_packet, or_not_built, asked_in, asking, opening_behind, by_answer, entering, only_flush, further_in, up_to_flush, taking_flush, taking_further, taking_rest, taking_commands, pack_in, refusing_pack, taking_pack, pushing, creating, commanded, commanding, receiving, serving, served, session}
 
 -- it read last
 ReadLast : {A : Type 0} → Bool → A → Type 0
 ReadLast wrote a = wrote ≡ false
 
-order_or_not_built : (a : Option Asked) → EntriesFirst false (or_not_built a) ReadLast
+order_or_not_built : {A : Type 0} (a : Option A) → EntriesFirst false (or_not_built a) ReadLast
 unfolding EntriesFirst ◌>>=◌ write refuse not_built ReadLast
 order_or_not_built None = tt
 order_or_not_built (Some a) = refl
@@ -61,37 +61,60 @@ order_flush : EntriesFirst false taking_flush ReadLast
 unfolding EntriesFirst ◌>>=◌ read next_packet taking_flush
 order_flush = λ reply. order_only_flush reply.found
 
-order_pick : (first : Bool) (objects : List Content) → EntriesFirst {E = SessionEnd} false (cond first (gives objects) not_built) ReadLast
+order_some : (command : Option Command) → EntriesFirst false (or_not_built command >>= λ c. gives (Some c)) ReadLast
 unfolding EntriesFirst ◌>>=◌ write refuse not_built ReadLast
-order_pick true objects = refl
-order_pick false objects = tt
+order_some None = tt
+order_some (Some command) = refl
 
-order_pack_in : (command : Command) (found : Result (List Content) PackFault) → EntriesFirst false (pack_in command found) ReadLast
-unfolding EntriesFirst ◌>>=◌ write refuse not_built
-order_pack_in command (Ok objects) = order_pick (is_first_pack command.new objects) objects
-order_pack_in command (Err fault) = tt
+order_further_in : (found : Result packets.Packet PktFault) → EntriesFirst false (further_in found) ReadLast
+unfolding EntriesFirst ◌>>=◌ write refuse not_built ReadLast
+order_further_in (Ok (packets.Line payload)) = order_some (further_create (without_feed payload))
+order_further_in (Ok packets.Flush) = refl
+order_further_in (Err fault) = tt
 
-order_objects : (command : Command) → EntriesFirst false (taking_objects command) ReadLast
-unfolding EntriesFirst ◌>>=◌ read taking_objects
-order_objects command = λ reply. order_pack_in command reply.found
+order_further : EntriesFirst false taking_further ReadLast
+unfolding EntriesFirst ◌>>=◌ read next_packet taking_further
+order_further = λ reply. order_further_in reply.found
 
-order_pack : (command : Command) → EntriesFirst false (taking_pack command) ReadLast
-unfolding taking_pack ReadLast
-order_pack command = order_then false taking_flush _ ReadLast ReadLast order_flush (λ w u last. rw last (order_objects command))
+order_up_to_flush : (rest : Interaction SessionEnd (List Command)) → EntriesFirst false rest ReadLast → (next : Option Command) → EntriesFirst false (up_to_flush rest next) ReadLast
+unfolding EntriesFirst ReadLast
+order_up_to_flush rest ordered None = refl
+order_up_to_flush rest ordered (Some command) = order_then false rest _ ReadLast ReadLast ordered (λ w commands last. last)
 
-order_pushing : (admin : Name) (opening : Opening) (command : Command) (pack : List Content) → EntriesFirst false (pushing admin opening command pack) (λ w a. ⊤)
+order_rest : (left : ℕ) → EntriesFirst false (taking_rest left) ReadLast
+unfolding EntriesFirst taking_rest ReadLast
+order_rest zero = order_then false taking_flush _ ReadLast ReadLast order_flush (λ w ended last. last)
+order_rest (suc left) = order_then false taking_further _ ReadLast ReadLast order_further (λ w next last. rw last (order_up_to_flush (taking_rest left) (order_rest left) next))
+
+order_commands : (first : Command) → EntriesFirst false (taking_commands first) ReadLast
+unfolding EntriesFirst taking_commands ReadLast
+order_commands first = order_then false (taking_rest 9999) _ ReadLast ReadLast (order_rest 9999) (λ w rest last. last)
+
+order_pack_in : (commands : List Command) (found : Result (List Content) PackFault) → EntriesFirst false (pack_in commands found) ReadLast
+unfolding EntriesFirst ◌>>=◌ write refusing_pack ReadLast
+order_pack_in commands (Ok objects) = refl
+order_pack_in commands (Err fault) = tt
+
+order_pack : (commands : List Command) → EntriesFirst false (taking_pack commands) ReadLast
+unfolding EntriesFirst ◌>>=◌ read taking_pack
+order_pack commands = λ reply. order_pack_in commands reply.found
+
+order_pushing : (admin : Name) (opening : Opening) (commands : List Command) (pack : List Content) → EntriesFirst false (pushing admin opening commands pack) (λ w a. ⊤)
 unfolding EntriesFirst ◌>>=◌ ask write pushing
-order_pushing admin opening command pack = (refl, λ before. tt)
+order_pushing admin opening commands pack = (refl, λ before. tt)
 
-order_creating : (admin : Name) (opening : Opening) (command : Option Command) → EntriesFirst false (creating admin opening command) (λ w a. ⊤)
-unfolding EntriesFirst ◌>>=◌ write refuse not_built creating ReadLast
-order_creating admin opening None = tt
-order_creating admin opening (Some command) = order_then false (taking_pack command) _ ReadLast _ (order_pack command) (λ w pack last. rw last (order_pushing admin opening command pack))
+order_creating : (admin : Name) (opening : Opening) (first : Command) → EntriesFirst false (creating admin opening first) (λ w a. ⊤)
+unfolding creating ReadLast
+order_creating admin opening first =
+    order_then false (taking_commands first) _ ReadLast _ (order_commands first)
+    (λ w commands last. rw last (order_then false (taking_pack commands) _ ReadLast _ (order_pack commands) (λ w' pack last'. rw last' (order_pushing admin opening commands pack))))
 
 order_commanded : (admin : Name) (opening : Opening) (found : Result packets.Packet PktFault) → EntriesFirst false (commanded admin opening found) (λ w a. ⊤)
-unfolding EntriesFirst ◌>>=◌ write refuse not_built
+unfolding EntriesFirst ◌>>=◌ write refuse not_built ReadLast
 order_commanded admin opening (Ok packets.Flush) = tt
-order_commanded admin opening (Ok (packets.Line payload)) = order_creating admin opening (command_at opening.pinned.repo (without_feed payload))
+order_commanded admin opening (Ok (packets.Line payload)) =
+    let first : Option Command = first_at opening.pinned.repo (without_feed payload) in
+    order_then false (or_not_built first) _ ReadLast _ (order_or_not_built first) (λ w c last. rw last (order_creating admin opening c))
 order_commanded admin opening (Err fault) = tt
 
 order_receiving : (admin : Name) (opening : Opening) → EntriesFirst false (receiving admin opening) (λ w a. ⊤)

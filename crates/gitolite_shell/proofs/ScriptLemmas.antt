@@ -218,14 +218,21 @@ module _ (s s' s'' k k' k'' : LinkState) (d d' d'' : DeskView) (bodies : List (L
       let out : List ℕ = (sessions d.admin 1 bodies d.seen).output in
       let begins = more_begins out tells.part.bytes (fault_text offset) tells.part.begins in
       record {
-        bodies = bodies;
-        rest = tells.read.part ++ whole.0;
-        bytes = out ++ tells.part.bytes;
-        told = subst (IsInput s.left) (append_assoc (flat_map frame_text bodies) tells.read.part whole.0) whole.2;
-        small = advances.small;
-        begins = inr (tells.read.bad whole.0 whole.1, rw (bad_some bodies tells.read.part whole.0 offset tells.read.some place) begins);
+        done = bodies;
+        more = tells.part.bytes;
         written = appends_more k.written k'.written k''.written out tells.part.bytes advances.written tells.part.written;
-        log_is = ap (λ (e : DeskView). e.seen) tells.desk_is ∙ advances.seen;
+        stops =
+            inr (record {
+              rest = tells.read.part ++ whole.0;
+              part = tells.read.part;
+              told = subst (IsInput s.left) (append_assoc (flat_map frame_text bodies) tells.read.part whole.0) whole.2;
+              small = advances.small;
+              none = tells.read.bad whole.0 whole.1;
+              starts = (whole.0, refl);
+              takes = takes;
+              begins = rw (bad_some bodies tells.read.part whole.0 offset tells.read.some place) begins;
+              log_is = ap (λ (e : DeskView). e.seen) tells.desk_is ∙ advances.seen;
+            });
         risen = risen_later k.write_faults k'.write_faults k''.write_faults later.write_faults tells.part.risen;
       }
 
@@ -240,16 +247,18 @@ module _ (s s' s'' k k' k'' : LinkState) (d d' d'' : DeskView) (bodies : List (L
       let takes = takes_more s s' s'' (flat_map frame_text bodies) (frame_text part.body) advances.takes part.read.takes in
       let frames : flat_map frame_text bodies ++ frame_text part.body ≡ flat_map frame_text all =
       ap (λ (l : List ℕ). flat_map frame_text bodies ++ l) (sym (append-nil (frame_text part.body))) ∙ sym (flat_map-append frame_text bodies (part.body ∷ [])) in
-      let whole = input_of s.left s''.left (flat_map frame_text bodies ++ frame_text part.body) takes.consumed in
       record {
-        bodies = all;
-        rest = whole.0;
-        bytes = out ++ part.part.bytes;
-        told = subst (λ (l : List ℕ). IsInput s.left (l ++ whole.0)) frames whole.2;
-        small = bodies_more bodies (part.body ∷ []) advances.small (part.read.small, tt);
-        begins = inl (rw (more, one, ← printed) (more_begins out part.part.bytes part.text part.part.begins));
+        done = bodies;
+        more = part.part.bytes;
         written = appends_more k.written k'.written k''.written out part.part.bytes advances.written part.part.written;
-        log_is = rw (more, one) seen;
+        stops =
+            inl (record {
+              body = part.body;
+              small = bodies_more bodies (part.body ∷ []) advances.small (part.read.small, tt);
+              takes = subst (λ (l : List ℕ). Takes s s'' l) frames takes;
+              begins = rw (more, one, ← printed) (more_begins out part.part.bytes part.text part.part.begins);
+              log_is = rw (more, one) seen;
+            });
         risen = risen_later k.write_faults k'.write_faults k''.write_faults later.write_faults part.part.risen;
       }
 

@@ -1,57 +1,55 @@
--- The command and the pack of a push, in the form that is built so far: one create of a branch in `testing`, at a commit of the empty tree without
--- parents, with a pack of that commit and the empty tree.
-use Rattle.std.specs.Prelude.{ℕ, ◌≤◌, length, Bool, false, ◌&&◌, ◌||◌, ◌==◌, List, [], ◌∷◌, ◌++◌, Option, Some, None, codes, if◌then◌else◌}
-use Rattle.git_object.specs.Reader.{◌>>=◌, literal}
+-- The commands of a push, in the form that is built so far: creates, in any repository but `gitolite-admin`.
+use Rattle.std.specs.Prelude.{ℕ, ◌≤◌, nat_le, length, Bool, not, ◌&&◌, ◌==◌, List, Option, Some, None, codes, if◌then◌else◌}
+use Rattle.std.specs.List.{list_all, AllByRecursion}
+use Rattle.git_object.specs.Reader.{◌>>=◌, literal, up_to}
 use Rattle.git_object.specs.ObjectId.{hex_of, hex_id}
-use Rattle.git_object.specs.Content.{Content}
-use Rattle.git_object.specs.Object.{object_name, links_of}
 use Rattle.git_object.specs.declared.object_id.ObjectId.{ObjectId}
-use Rattle.git_object.specs.declared.kind.Kind.{Kind}
-use Rattle.git_object.specs.declared.kind.Kind.TheVariants.{Tree}
 use Rattle.ref_store.specs.declared.command.Command.{Command}
 use Rattle.ref_store.specs.Objects.{same_id}
 use Rattle.ref_store.specs.Refs.{zero_id}
 use Rattle.hub_core.specs.Name.{Name, same_name}
-use Rattle.hub_core.specs.Collision.{kind_number, same_object}
-use Rattle.gitolite_shell.specs.FirstPacket.{is_letter, word, at_end}
+use Rattle.gitolite_shell.specs.FirstPacket.{at_end}
 
--- a create, unless the new value is zero
-abbrev pub create : ObjectId → Name → Option Command
-create new name = if same_id new zero_id then None else Some (record { old = zero_id; new = new; name = name })
+-- 1 to 1,024 bytes, none of them zero: a ref's text, whether or not a ref may have that name
+abbrev pub is_ref_text : List ℕ → Bool
+is_ref_text text = nat_le 1 (length text) && (nat_le (length text) 1024 && list_all (λ b. not (b == 0)) text)
 
--- the zero id, a space, an id, a space, a branch of 1 to 64 lower-case letters, a zero byte, `report-status`
-unfoldable pub create_in : List ℕ → Option Command
-create_in line = do
+-- a create of a ref, by its new value, which isn't zero, and its text
+unfoldable pub create : ObjectId × List ℕ → Option Command
+create parts =
+    if same_id parts.0 zero_id then None
+    else if is_ref_text parts.1 then Some (record { old = zero_id; new = parts.0; name = parts.1 })
+    else None
+
+-- the zero id, a space, an id, a space: that id, and what follows
+unfoldable pub new_value : List ℕ → Option (ObjectId × List ℕ)
+new_value line = do
   space ← literal (hex_of zero_id) line
-  behind ← literal (codes " ") space
-  new ← hex_id behind
-  branch ← literal (codes " refs/heads/") new.1
-  letters ← word is_letter branch
-  rest ← literal (0 ∷ codes "report-status") letters.1
+  digits ← literal (codes " ") space
+  new ← hex_id digits
+  text ← literal (codes " ") new.1
+  Some (new.0, text)
+
+-- the new value and the ref's text of a first command, behind which stand a zero byte and `report-status`
+unfoldable pub first_parts : List ℕ → Option (ObjectId × List ℕ)
+first_parts line = do
+  new ← new_value line
+  ref ← up_to 0 new.1
+  rest ← literal (codes "report-status") ref.1
   ended ← at_end rest
-  create new.0 (codes "refs/heads/" ++ letters.0)
+  Some (new.0, ref.0)
 
--- the command of a line at a repository
-unfoldable pub command_at : Name → List ℕ → Option Command
-command_at repo line = if same_name repo (codes "testing") then create_in line else None
+-- a command behind the first, which has no zero byte
+unfoldable pub further_create : List ℕ → Option Command
+further_create line = new_value line >>= create
 
-abbrev pub empty_tree : Content
-empty_tree = record { kind = Tree; body = [] }
+-- the first command at a repository
+unfoldable pub first_at : Name → List ℕ → Option Command
+first_at repo line = if same_name repo (codes "gitolite-admin") then None else (first_parts line >>= create)
 
--- it names one object alone: the empty tree
-abbrev pub links_to_empty_tree : List (ObjectId × Kind) → Bool
-links_to_empty_tree (link ∷ []) = same_id link.0 (object_name empty_tree)
-links_to_empty_tree links = false
-
--- a commit of this name, of the empty tree, and without parents
-abbrev pub is_first_commit : ObjectId → Content → Bool
-is_first_commit new o = (kind_number o.kind == 1) && (same_id (object_name o) new && links_to_empty_tree (links_of o.kind o.body))
-
--- that commit and the empty tree, in either order
-unfoldable pub is_first_pack : ObjectId → List Content → Bool
-is_first_pack new (a ∷ b ∷ []) = (is_first_commit new a && same_object b empty_tree) || (same_object a empty_tree && is_first_commit new b)
-is_first_pack new objects = false
-
--- its ref's name has at most 1,024 bytes
+-- its ref's text has at most 1,024 bytes
 abbrev pub HasShortName : Command → Type 0
 HasShortName command = length command.name ≤ 1024
+
+abbrev pub HaveShortNames : List Command → Type 0
+HaveShortNames commands = AllByRecursion HasShortName commands

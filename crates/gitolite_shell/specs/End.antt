@@ -1,20 +1,32 @@
 -- The ends of a session, as its interaction sees them.
-use Rattle.std.specs.Prelude.{◌≡◌, ◌⊎◌, ⊤, IsTrue, Result, Ok, Err}
+use Rattle.std.specs.Prelude.{ℕ, ◌≡◌, ◌⊎◌, ⊤, IsTrue, Result, Ok, Err}
 use Rattle.base_types.specs.Counts.{HasRisen}
 use Rattle.pktline_core.specs.LinkState.{LinkState}
 use Rattle.interaction_tree.specs.Traces.{Reading, Writing, Memory, Halt, Ended, Failed}
 use Rattle.gitolite_shell.specs.declared.end.SessionEnd.{SessionEnd}
-use Rattle.gitolite_shell.specs.declared.end.SessionEnd.TheVariants.{Served, Denied, NoRepo, ReadFault, WriteFault, NoMemory, NotBuilt}
+use Rattle.gitolite_shell.specs.declared.end.SessionEnd.TheVariants.{Served, Denied, NoRepo, ReadFault, WriteFault, NoMemory, BadPack, NotBuilt}
 
 -- an end that the interaction gives, or what may stop it anywhere
 abbrev pub halt_of : SessionEnd → Halt SessionEnd
 halt_of Served = Ended Served
 halt_of Denied = Ended Denied
 halt_of NoRepo = Ended NoRepo
+halt_of (BadPack fault) = Ended (BadPack fault)
 halt_of NotBuilt = Ended NotBuilt
 halt_of ReadFault = Failed Reading
 halt_of WriteFault = Failed Writing
 halt_of NoMemory = Failed Memory
+
+-- the number by which an end is known to other programs
+abbrev pub end_number : SessionEnd → ℕ
+end_number Served = 1
+end_number Denied = 2
+end_number NoRepo = 3
+end_number ReadFault = 10
+end_number WriteFault = 11
+end_number NoMemory = 12
+end_number (BadPack fault) = 13
+end_number NotBuilt = 99
 
 -- what a function of a session answers, as its interaction sees it
 abbrev pub outcome_of : {A : Type 0} → Result A SessionEnd → Result A (Halt SessionEnd)

@@ -118,16 +118,34 @@ pub record StopsAtRead (source source' sink sink' : LinkState) (admin : Name) (l
   pub log_is : log' ≡ (sessions admin 1 bodies log).log
   pub risen : HasRisen source.read_faults source'.read_faults
 
--- A write failed: what was written begins what is printed of sessions that were served or, where no frame follows theirs, of the whole script.
-pub record StopsAtWrite (source source' sink sink' : LinkState) (admin : Name) (log log' : List Entry) : Type 0 where
-  pub bodies : List (List ℕ)
+-- the session of the next frame was served, and what was printed begins what is printed of these and of that one
+pub record StopsServing (source source' : LinkState) (admin : Name) (log log' : List Entry) (done : List (List ℕ)) (printed : List ℕ) : Type 0 where
+  pub body : List ℕ
+  pub small : AreBodies (done ++ body ∷ [])
+  pub takes : Takes source source' (flat_map frame_text (done ++ body ∷ []))
+  pub begins : Begins printed (sessions admin 1 (done ++ body ∷ []) log).output
+  pub log_is : log' ≡ (sessions admin 1 (done ++ body ∷ []) log).log
+
+-- no frame follows, and what was printed begins what is printed of these and of the bad frame
+pub record StopsTelling (source source' : LinkState) (admin : Name) (log log' : List Entry) (done : List (List ℕ)) (printed : List ℕ) : Type 0 where
   pub rest : List ℕ
-  pub bytes : List ℕ
-  pub told : IsInput source.left (flat_map frame_text bodies ++ rest)
-  pub small : AreBodies bodies
-  pub begins : Begins bytes (sessions admin 1 bodies log).output ⊎ (BeginsNoFrame rest × Begins bytes (script admin bodies rest log).output)
-  pub written : Appends sink.written sink'.written bytes
-  pub log_is : log' ≡ (sessions admin 1 bodies log).log
+  pub part : List ℕ
+  pub told : IsInput source.left (flat_map frame_text done ++ rest)
+  pub small : AreBodies done
+  pub none : BeginsNoFrame rest
+  pub starts : Begins part rest
+  pub takes : Takes source source' (flat_map frame_text done ++ part)
+  pub begins : Begins printed (script admin done rest log).output
+  pub log_is : log' ≡ (sessions admin 1 done log).log
+
+-- A write failed. The sessions of these frames were served and printed whole; then the next session was served, or a frame was found to be bad, and a beginning of that was printed.
+pub record StopsAtWrite (source source' sink sink' : LinkState) (admin : Name) (log log' : List Entry) : Type 0 where
+  pub done : List (List ℕ)
+  pub more : List ℕ
+  pub written : Appends sink.written sink'.written ((sessions admin 1 done log).output ++ more)
+  pub stops :
+      StopsServing source source' admin log log' done ((sessions admin 1 done log).output ++ more)
+      ⊎ StopsTelling source source' admin log log' done ((sessions admin 1 done log).output ++ more)
   pub risen : HasRisen sink.write_faults sink'.write_faults
 
 -- why a script ended before its input did

@@ -17,6 +17,7 @@ abbrev pub end_word : SessionEnd → List ℕ
 end_word end.Served = codes "served"
 end_word end.Denied = codes "denied"
 end_word end.NoRepo = codes "no-repo"
+end_word (end.BadPack fault) = codes "bad-pack"
 end_word end.NotBuilt = codes "not-built"
 end_word end.ReadFault = []
 end_word end.WriteFault = []

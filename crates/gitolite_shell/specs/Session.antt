@@ -1,5 +1,6 @@
--- A session, as an interaction, in the form that is built so far. What leaves the form is answered as not built, and so is an input that ends inside it.
-use Rattle.std.specs.Prelude.{ℕ, false, List, [], ◌∷◌, ◌++◌, length, Option, Some, None, Result, Ok, Err, codes, if◌then◌else◌}
+-- A session, as an interaction, in the form that is built so far. What leaves the form is answered as not built, and so is an input that ends inside it;
+-- a pack that is refused has an end of its own.
+use Rattle.std.specs.Prelude.{ℕ, zero, suc, false, List, [], ◌∷◌, ◌++◌, length, Option, Some, None, Result, Ok, Err, codes}
 use Rattle.pktline_core.specs.Packets as packets
 use Rattle.pktline_core.specs.declared.packets.PktFault.{PktFault}
 use Rattle.raw_pack.specs.declared.fault.PackFault.{PackFault}
@@ -17,10 +18,10 @@ use Rattle.interaction_tree.specs.Requests.{Enter, Push, answered}
 use Rattle.interaction_tree.specs.Interaction.{CutOff, Interaction, gives, ends, ◌>>=◌, write, read, ask}
 use Rattle.gitolite_shell.specs.declared.end.SessionEnd.{SessionEnd}
 use Rattle.gitolite_shell.specs.declared.end.SessionEnd.TheVariants as end
-use Rattle.gitolite_shell.specs.Texts.{packet, advertisement, denial, report}
+use Rattle.gitolite_shell.specs.Texts.{packet, advertisement, denial, report, bad_report}
 use Rattle.gitolite_shell.specs.declared.first_packet.Asked.{Asked}
 use Rattle.gitolite_shell.specs.FirstPacket.{asked, without_feed}
-use Rattle.gitolite_shell.specs.Create.{command_at, is_first_pack}
+use Rattle.gitolite_shell.specs.Create.{first_at, further_create}
 
 -- a last packet, and the end
 unfoldable pub refuse : {A : Type 0} → List ℕ → SessionEnd → Interaction SessionEnd A
@@ -80,42 +81,85 @@ only_flush (Ok packets.Flush) = gives tt
 only_flush (Ok (packets.Line payload)) = not_built
 only_flush (Err fault) = not_built
 
-abbrev pub pack_in : Command → Result (List Content) PackFault → Interaction SessionEnd (List Content)
-pack_in command (Ok objects) = if is_first_pack command.new objects then gives objects else not_built
-pack_in command (Err fault) = not_built
-
 unfoldable pub taking_flush : Interaction SessionEnd (Unit {0})
 taking_flush = do
-  next ← next_packet
-  only_flush next.found
+  reply ← next_packet
+  only_flush reply.found
 
-unfoldable pub taking_objects : Command → Interaction SessionEnd (List Content)
-taking_objects command = do
-  reply ← read Pack cut_short
-  pack_in command reply.found
+-- a flush gives no command
+abbrev pub further_in : Result packets.Packet PktFault → Interaction SessionEnd (Option Command)
+further_in (Ok packets.Flush) = gives None
+further_in (Ok (packets.Line payload)) = do
+  command ← or_not_built (further_create (without_feed payload))
+  gives (Some command)
+further_in (Err fault) = not_built
 
--- the flush behind the command, and the pack
-unfoldable pub taking_pack : Command → Interaction SessionEnd (List Content)
-taking_pack command = do
+-- one command more, or the flush that ends them
+unfoldable pub taking_further : Interaction SessionEnd (Option Command)
+taking_further = do
+  reply ← next_packet
+  further_in reply.found
+
+-- a command, and those behind it
+abbrev pub up_to_flush : Interaction SessionEnd (List Command) → Option Command → Interaction SessionEnd (List Command)
+up_to_flush rest None = gives []
+up_to_flush rest (Some command) = do
+  commands ← rest
+  gives (command ∷ commands)
+
+-- the commands up to the flush that ends them, of which so many may still come
+unfoldable pub taking_rest : ℕ → Interaction SessionEnd (List Command)
+taking_rest zero = do
   ended ← taking_flush
-  taking_objects command
+  gives []
+taking_rest (suc left) = do
+  next ← taking_further
+  up_to_flush (taking_rest left) next
+
+-- the commands of a push from its first on, 10,000 at most
+unfoldable pub taking_commands : Command → Interaction SessionEnd (List Command)
+taking_commands first = do
+  rest ← taking_rest 9999
+  gives (first ∷ rest)
+
+-- what is due of a refused pack, and the end
+abbrev pub refused_pack : List Command → PackFault → CutOff SessionEnd
+refused_pack commands fault = record { bytes = bad_report commands fault; end = end.BadPack fault }
+
+unfoldable pub refusing_pack : List Command → PackFault → Interaction SessionEnd (List Content)
+refusing_pack commands fault = do
+  said ← write (bad_report commands fault)
+  ends (end.BadPack fault)
+
+abbrev pub pack_in : List Command → Result (List Content) PackFault → Interaction SessionEnd (List Content)
+pack_in commands (Ok objects) = gives objects
+pack_in commands (Err fault) = refusing_pack commands fault
+
+-- the pack behind these commands
+unfoldable pub taking_pack : List Command → Interaction SessionEnd (List Content)
+taking_pack commands = do
+  reply ← read Pack (refused_pack commands)
+  pack_in commands reply.found
 
 -- The push, by the log just before its entry, and its report.
-unfoldable pub pushing : Name → Opening → Command → List Content → Interaction SessionEnd (Unit {0})
-pushing admin opening command pack = do
-  before ← ask (Push opening.place pack (command ∷ []) false)
-  write (report (command ∷ []) (outcomes_at (replay admin before) opening.pinned pack (command ∷ []) false))
+unfoldable pub pushing : Name → Opening → List Command → List Content → Interaction SessionEnd (Unit {0})
+pushing admin opening commands pack = do
+  before ← ask (Push opening.place pack commands false)
+  write (report commands (outcomes_at (replay admin before) opening.pinned pack commands false))
 
-unfoldable pub creating : Name → Opening → Option Command → Interaction SessionEnd (Unit {0})
-creating admin opening None = not_built
-creating admin opening (Some command) = do
-  pack ← taking_pack command
-  pushing admin opening command pack
+-- the commands behind the first, the pack, and the push
+unfoldable pub creating : Name → Opening → Command → Interaction SessionEnd (Unit {0})
+creating admin opening first = do
+  commands ← taking_commands first
+  pack ← taking_pack commands
+  pushing admin opening commands pack
 
 -- a flush in place of commands ends the session
 abbrev pub commanded : Name → Opening → Result packets.Packet PktFault → Interaction SessionEnd (Unit {0})
 commanded admin opening (Ok packets.Flush) = gives tt
-commanded admin opening (Ok (packets.Line payload)) = creating admin opening (command_at opening.pinned.repo (without_feed payload))
+commanded admin opening (Ok (packets.Line payload)) = do
+  first ← or_not_built (first_at opening.pinned.repo (without_feed payload))
+  creating admin opening first
 commanded admin opening (Err fault) = not_built
 
 unfoldable pub commanding : Name → Opening → Interaction SessionEnd (Unit {0})

@@ -6,9 +6,11 @@ use Rattle.std.specs.FinMap.{entries}
 use Rattle.git_object.specs.declared.object_id.ObjectId.{ObjectId}
 use Rattle.git_object.specs.ObjectId.{hex_of}
 use Rattle.pktline_core.specs.Packets.{spelling, Line, Flush}
+use Rattle.raw_pack.specs.declared.fault.PackFault.{PackFault}
+use Rattle.raw_pack.specs.declared.fault.PackFault.TheVariants.{NotAPack, Version, Delta, BadHead, BadObject, Truncated, TrailerDiffers, TooLarge, TooMany, ReadFault, NoMemory}
 use Rattle.ref_store.specs.declared.command.Command.{Command}
 use Rattle.hub_core.specs.declared.outcome.Outcome.{Outcome}
-use Rattle.hub_core.specs.declared.outcome.Outcome.TheVariants.{Done, BadName, NotAdvertised, Stale, DirFile, AtomicOther, Collided, Full}
+use Rattle.hub_core.specs.declared.outcome.Outcome.TheVariants.{Done, BadName, Twice, NotAdvertised, Missing, WrongKind, Stale, DirFile, AtomicOther, Collided, Full}
 use Rattle.hub_core.specs.declared.verdict.Verdict.{Verdict}
 use Rattle.hub_core.specs.declared.verdict.Verdict.TheVariants.{Allowed, DeniedBy, Fallthru}
 use Rattle.ref_store.specs.Refs.{Refs, zero_id}
@@ -68,7 +70,10 @@ ref_at commands place = option_map_or (λ (c : Command). c.name) (slice_get comm
 abbrev pub reason : List Command → Outcome → List ℕ
 reason commands Done = []
 reason commands BadName = codes "bad ref name"
+reason commands Twice = codes "named twice"
 reason commands (NotAdvertised id) = codes "not advertised, it was " ++ hex_of id
+reason commands (Missing id) = codes "missing object " ++ hex_of id
+reason commands (WrongKind id) = codes "wrong kind of object " ++ hex_of id
 reason commands (Stale id) = codes "stale, it is " ++ hex_of id
 reason commands (DirFile ref) = codes "conflicts with " ++ ref
 reason commands (AtomicOther place) = codes "atomic push refused with " ++ ref_at commands place
@@ -89,3 +94,28 @@ status_lines all (c ∷ cs) (o ∷ os) = status_text all c.name o ∷ status_lin
 -- that the pack was taken, a line for each command, and a flush
 unfoldable pub report : List Command → List Outcome → List ℕ
 report commands outcomes = flat_map packet (codes "unpack ok\n" ∷ status_lines commands commands outcomes) ++ spelling Flush
+
+-- why a pack isn't taken; of a failed read and of want of memory nothing is told
+abbrev pub pack_text : PackFault → List ℕ
+pack_text NotAPack = codes "not a pack"
+pack_text (Version number) = codes "version " ++ decimal number
+pack_text (Delta entry) = codes "delta at entry " ++ decimal entry
+pack_text (BadHead entry) = codes "bad head at entry " ++ decimal entry
+pack_text (BadObject entry) = codes "bad object at entry " ++ decimal entry
+pack_text (Truncated entry) = codes "truncated at entry " ++ decimal entry
+pack_text (TrailerDiffers read computed) = codes "trailer differs"
+pack_text (TooLarge entry) = codes "too large at entry " ++ decimal entry
+pack_text (TooMany count) = codes "too many entries"
+pack_text ReadFault = []
+pack_text NoMemory = []
+
+abbrev pub unpack_text : PackFault → List ℕ
+unpack_text fault = codes "unpack " ++ pack_text fault ++ 10 ∷ []
+
+-- what is reported of the ref of a command whose pack isn't taken
+abbrev pub unpacker_error : Command → List ℕ
+unpacker_error command = codes "ng " ++ command.name ++ codes " unpacker error\n"
+
+-- why the pack wasn't taken, a line for each command, and a flush
+unfoldable pub bad_report : List Command → PackFault → List ℕ
+bad_report commands fault = flat_map packet (unpack_text fault ∷ map unpacker_error commands) ++ spelling Flush

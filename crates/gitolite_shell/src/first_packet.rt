@@ -51,9 +51,9 @@ pub fn literal<'a>(bytes: &'a [u8], word: &[u8]) -> Option<&'a [u8]>
     bytes.strip_prefix(word)
 }
 
-/// All lower-case letters at the front, of which there are 1 to 64, and what follows them.
+// All lower-case letters at the front, of which there are 1 to 64, and what follows them.
 #[tactic(auto, unfolding(crate::specs::FirstPacket::word))]
-pub fn letters(bytes: &[u8]) -> Option<(&[u8], &[u8])>
+fn letters(bytes: &[u8]) -> Option<(&[u8], &[u8])>
     ensures split { option_map (λ r. (r.0.now, r.1.now)) result ≡ word is_letter bytes.now }
     ensures short { IfSome result (λ r. length r.0.now ≤ 64) }
 {

@@ -1,6 +1,7 @@
 // Rows of the program run by one caller.
 use crate::frames::read_frame;
 use crate::lone::{Ended, lone_main};
+use crate::push_tests::{first_pack, push_of};
 use crate::session_tests::{DONE, EMPTY, first_push, is_granted, told};
 use base_types::NoMemory;
 use hub_core::Outcome;
@@ -148,69 +149,20 @@ fn run(alloc: Global, script: Vec<u8>) -> Result<(Vec<u8>, Ended), NoMemory> {
     Ok((sink.written().to_vec(alloc)?, ended))
 }
 
-// What the first push of a new hub prints.
-fn first_reply(alloc: Global) -> Result<Vec<u8>, NoMemory> {
-    let mut text = Vec::from_slice(alloc, b"session 1 served 149\n")?;
+// What the first push of a new hub prints: its line, the advertisement of no refs, and its report.
+fn reply(alloc: Global, line: &[u8], report: &[u8]) -> Result<Vec<u8>, NoMemory> {
+    let mut text = Vec::from_slice(alloc, line)?;
     text.extend_from_slice(EMPTY)?;
-    text.extend_from_slice(DONE)?;
+    text.extend_from_slice(report)?;
     text.extend_from_slice(b"\n")?;
     Ok(text)
 }
 
-const SECOND: &[u8] =
-    b"session 2 served 215\n00681c73cda3964d5dd51bdaad94efd235c910cf59de refs/heads/master\0report-status delete-refs no-thin atomic\n0000000eunpack ok\n0059ng refs/heads/master not advertised, it was 1c73cda3964d5dd51bdaad94efd235c910cf59de\n0000\n";
+const FIRST_LINE: &[u8] = b"session 1 served 149\n";
 
-#[test]
-fn a_push_is_printed_and_logged_and_a_second_one_is_told(rt: HostRuntime) -> Result<(), Fail> {
-    let alloc = rt.alloc();
-    let mut script = frame(alloc, &first_push(alloc)?)?;
-    script.extend_from_slice(&frame(alloc, &first_push(alloc)?)?)?;
-    let (printed, ended) = run(alloc, script)?;
-    let mut due = first_reply(alloc)?;
-    due.extend_from_slice(SECOND)?;
-    assert_eq!(rt; ended.status, 0);
-    assert!(rt; printed == due);
-    assert_eq!(rt; ended.log.len(), 4);
-    assert!(rt; is_granted(&ended.log, 0) && is_granted(&ended.log, 2));
-    assert!(rt; told(&ended.log, 1) == Some(&Outcome::Done));
-    assert!(rt; matches!(told(&ended.log, 3), Some(Outcome::NotAdvertised(_))));
-    Ok(())
-}
-
-#[test]
-fn other_sessions_are_printed_with_their_ends(rt: HostRuntime) -> Result<(), Fail> {
-    let alloc = rt.alloc();
-    let rows: [(&[u8], &[u8], usize); 3] = [
-        (
-            b"002bcarol git-receive-pack 'gitolite-admin'",
-            b"session 1 denied 53\n0035ERR W any gitolite-admin carol DENIED by fallthru\n",
-            1,
-        ),
-        (
-            b"0024carol git-receive-pack 'testing'0000",
-            b"session 1 served 106\n00660000000000000000000000000000000000000000 capabilities^{}\0report-status delete-refs no-thin atomic\n0000\n",
-            1,
-        ),
-        (
-            b"0023carol git-upload-pack 'testing'",
-            b"session 1 not-built 17\n0011ERR not built\n",
-            0,
-        ),
-    ];
-    for (body, due, entries) in rows {
-        let (printed, ended) = run(alloc, frame(alloc, body)?)?;
-        assert_eq!(rt; ended.status, 0);
-        assert!(rt; printed.as_slice() == due);
-        assert_eq!(rt; ended.log.len(), entries);
-    }
-    Ok(())
-}
-
-// Whether the first push is printed and logged whole or, for want of memory, a beginning of both.
-fn is_begun(alloc: Global) -> Result<bool, NoMemory> {
-    let script = frame(alloc, &first_push(alloc)?)?;
-    let due = first_reply(alloc)?;
-    let (printed, Ended { status, log }) = run(alloc, script)?;
+// Whether a first push, whose first command is done, is printed and logged whole or, for want of memory, a beginning of both.
+fn is_begun(alloc: Global, body: &[u8], due: &[u8]) -> Result<bool, NoMemory> {
+    let (printed, Ended { status, log }) = run(alloc, frame(alloc, body)?)?;
     if log.len() > 0 && !is_granted(&log, 0) {
         return Ok(false);
     }
@@ -218,16 +170,46 @@ fn is_begun(alloc: Global) -> Result<bool, NoMemory> {
         return Ok(false);
     }
     match status {
-        0 => Ok(printed == due && log.len() == 2),
+        0 => Ok(printed.as_slice() == due && log.len() == 2),
         4 => Ok(due.starts_with(&printed) && log.len() <= 2),
         _ => Ok(false),
     }
 }
 
-// With a number of `rt try --fail-alloc` it says of each place what want of memory leaves; without, nothing wants.
+fn first_is_begun(alloc: Global) -> Result<bool, NoMemory> {
+    is_begun(alloc, &first_push(alloc)?, &reply(alloc, FIRST_LINE, DONE)?)
+}
+
+const THREE: &[u8] =
+    b"000eunpack ok\n0014ok refs/heads/a\n0032ng refs/heads/a/b conflicts with refs/heads/a\n0014ok refs/heads/c\n0000";
+
+fn three_are_begun(alloc: Global) -> Result<bool, NoMemory> {
+    let creates: [(&[u8], &[u8]); 3] = [
+        (b"0070", b"refs/heads/a\0report-status"),
+        (b"0064", b"refs/heads/a/b"),
+        (b"0062", b"refs/heads/c"),
+    ];
+    let body = push_of(alloc, &creates, &first_pack(alloc)?)?;
+    is_begun(
+        alloc,
+        &body,
+        &reply(alloc, b"session 1 served 214\n", THREE)?,
+    )
+}
+
+// With a number of `rt try --fail-alloc` they say of each place what want of memory leaves; without, nothing wants.
 #[test]
 fn want_of_memory_leaves_a_beginning(rt: HostRuntime) -> Result<(), Fail> {
-    match is_begun(rt.alloc()) {
+    match first_is_begun(rt.alloc()) {
+        Ok(begun) => assert!(rt; begun),
+        Err(NoMemory) => {}
+    }
+    Ok(())
+}
+
+#[test]
+fn want_of_memory_leaves_a_beginning_of_three_creates(rt: HostRuntime) -> Result<(), Fail> {
+    match three_are_begun(rt.alloc()) {
         Ok(begun) => assert!(rt; begun),
         Err(NoMemory) => {}
     }

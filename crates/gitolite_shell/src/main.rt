@@ -4,7 +4,8 @@
 //! - `gate`: what stands between an opening and what follows;
 //! - `text`: the texts that a session writes;
 //! - `said`: packets that are written, and refusals;
-//! - `first_packet`, `create`: what a session reads;
+//! - `first_packet`, `create`: what a line says that a session reads;
+//! - `commands`, `reports`: the commands of a push, and what is reported of them;
 //! - `receiving`: what follows an opening;
 //! - `session`: a session;
 //! - `frames`: the frames of a script;
@@ -15,6 +16,7 @@
 //! - `standard`: the standard input and output.
 #![tactic(auto)]
 
+mod commands;
 mod create;
 mod door;
 #[cfg(test)]
@@ -29,7 +31,10 @@ mod lone_tests;
 mod memory_door;
 mod post;
 mod program;
+#[cfg(test)]
+mod push_tests;
 mod receiving;
+mod reports;
 mod said;
 mod script;
 mod session;

@@ -1,174 +1,110 @@
 // What follows an opening.
-ghost use Rattle.std.specs.Prelude.{◌≡◌, ◌≤◌, ◌++◌, ◌∷◌, [], length, codes, IfSome, IfOk, if◌then◌else◌};
-ghost use Rattle.std.specs.List.{flat_map};
+ghost use Rattle.std.specs.Prelude.{◌≡◌, ◌≤◌, ◌++◌, [], length, codes, IfOk, if◌then◌else◌};
 ghost use Rattle.pktline_core.specs.Links.{KeepsReading};
 ghost use Rattle.pktline_core.specs.Packets.{spelling, Flush};
 ghost use Rattle.ref_store.specs.Refs.{zero_id};
 ghost use Rattle.hub_core.specs.State.{HasShortNames};
 ghost use Rattle.hub_core.specs.Hub.{Stands};
+ghost use Rattle.hub_core.specs.Push.{AreWithinLimits};
 ghost use Rattle.hub_core.specs.Desk.{DeskView, known};
 ghost use Rattle.interaction_tree.specs.Interaction.{write};
 ghost use Rattle.interaction_tree.specs.Runs.{Runs};
 ghost use Rattle.gitolite_shell.specs.End.{outcome_of};
-ghost use Rattle.gitolite_shell.specs.Texts.{advertisement, first_line, more_line, packet, report, status_lines};
-ghost use Rattle.gitolite_shell.specs.Create.{HasShortName};
+ghost use Rattle.gitolite_shell.specs.Texts.{advertisement, first_line, more_line, packet};
+ghost use Rattle.gitolite_shell.specs.Create.{HasShortName, HaveShortNames};
 ghost use Rattle.gitolite_shell.specs.Readers.{IsReady};
-ghost use Rattle.gitolite_shell.specs.Session.{commanding, creating, pushing, receiving, taking_flush, taking_objects, taking_pack};
+ghost use Rattle.gitolite_shell.specs.Session.{commanding, creating, pushing, receiving, taking_pack};
 
-use crate::create::{command_at, is_first_pack};
+use crate::commands::{first_in, take_commands};
 use crate::end::SessionEnd;
 use crate::first_packet::without_feed;
+use crate::reports::{refuse_pack, report};
 use crate::said::{not_built, say, say_flush};
-use crate::text::{ref_line, status_line};
+use crate::text::ref_line;
 use git_object::{ObjectId, ObjectList};
-use hub_core::{Command, CommandList, Desk, NoMemory, OutcomeList, Pin, Pushed, Repo, Want, judge};
+use hub_core::{Command, CommandList, Desk, NoMemory, Pin, Pushed, Repo, Want, judge};
 use pktline_core::{Link, Pkt, PktFault, PktReader};
 use raw_pack::{PackFault, read_pack};
 use std::alloc::Global;
 
-// The flush behind a command.
-fn take_flush<L: Link>(link: &mut L, reader: &mut PktReader) -> Result<(), SessionEnd>
-    requires ready { IsReady reader.old (L.state link.old) }
-    ensures runs { (desk : DeskView) → Runs (L.state link.old) (L.state link.new) desk desk taking_flush (outcome_of result) }
-{
-    match reader.next(link) {
-        Ok(Pkt::Flush) => Ok(()),
-        Ok(Pkt::Line(_)) => Err(not_built(link)),
-        Err(PktFault::BadLength) => Err(not_built(link)),
-        Err(PktFault::Truncated) => Err(not_built(link)),
-        Err(PktFault::ReadFault) => Err(SessionEnd::ReadFault),
-    }
-}
-
-// The objects of the pack of a command.
-fn take_objects<L: Link>(
+// The objects of the pack behind these commands.
+fn take_pack<L: Link>(
     alloc: Global,
     link: &mut L,
-    command: &Command,
+    commands: &CommandList,
 ) -> Result<ObjectList, SessionEnd>
-    ensures runs { (desk : DeskView) → Runs (L.state link.old) (L.state link.new) desk desk (taking_objects command.now) (outcome_of result) }
+    requires short { HaveShortNames commands.now }
+    ensures runs { (desk : DeskView) → Runs (L.state link.old) (L.state link.new) desk desk (taking_pack commands.now) (outcome_of result) }
 {
     match read_pack(alloc, link) {
-        Ok(objects) => {
-            if is_first_pack(command.new, &objects) {
-                return Ok(objects);
-            }
-            Err(not_built(link))
-        }
+        Ok(objects) => Ok(objects),
         Err(fault) => match fault {
             PackFault::ReadFault => Err(SessionEnd::ReadFault),
             PackFault::NoMemory => Err(SessionEnd::NoMemory),
-            _ => Err(not_built(link)),
+            _ => Err(refuse_pack(alloc, link, commands, fault)),
         },
     }
 }
 
-// The flush behind a command, and the command's pack.
-fn take_pack<L: Link>(
-    alloc: Global,
-    link: &mut L,
-    reader: &mut PktReader,
-    command: &Command,
-) -> Result<ObjectList, SessionEnd>
-    requires ready { IsReady reader.old (L.state link.old) }
-    ensures runs { (desk : DeskView) → Runs (L.state link.old) (L.state link.new) desk desk (taking_pack command.now) (outcome_of result) }
-{
-    take_flush(link, reader)?;
-    take_objects(alloc, link, command)
-}
-
-// The report of a push of one command.
-fn report<L: Link>(
-    alloc: Global,
-    link: &mut L,
-    command: &Command,
-    outcomes: &OutcomeList,
-) -> Result<(), SessionEnd>
-    requires short { HasShortName command.now }
-    ensures runs { (desk : DeskView) → Runs (L.state link.old) (L.state link.new) desk desk (write (report (command.now ∷ []) outcomes.now)) (outcome_of result) }
-{
-    say(link, b"unpack ok\n")?;
-    report_status(alloc, link, command, outcomes)?;
-    say_flush(link)
-}
-
-fn report_status<L: Link>(
-    alloc: Global,
-    link: &mut L,
-    command: &Command,
-    outcomes: &OutcomeList,
-) -> Result<(), SessionEnd>
-    requires short { HasShortName command.now }
-    ensures runs { (desk : DeskView) → Runs (L.state link.old) (L.state link.new) desk desk (write (flat_map packet (status_lines (command.now ∷ []) (command.now ∷ []) outcomes.now))) (outcome_of result) }
-{
-    let Some(outcome) = outcomes.get(0) else {
-        return Ok(());
-    };
-    let Ok(line) = status_line(alloc, command, outcome) else {
-        return Err(SessionEnd::NoMemory);
-    };
-    say(link, &line)
-}
-
-// A push of one command, and its report.
+// A push, and its report.
 fn push<L: Link, K: Desk>(
     alloc: Global,
     link: &mut L,
     desk: &mut K,
     pin: Pin,
-    command: Command,
+    commands: CommandList,
     pack: ObjectList,
 ) -> Result<(), SessionEnd>
     requires stands { Stands pin (known (K.view desk.old)) }
     requires write { pin.pinned.want ≡ Want.Write }
-    requires short { HasShortName command }
-    ensures runs { Runs (L.state link.old) (L.state link.new) (K.view desk.old) (K.view desk.new) (pushing ((K.view desk.old).admin) pin command pack) (outcome_of result) }
+    requires within { AreWithinLimits commands }
+    ensures runs { Runs (L.state link.old) (L.state link.new) (K.view desk.old) (K.view desk.new) (pushing ((K.view desk.old).admin) pin commands pack) (outcome_of result) }
 {
-    let Ok(commands) = only(alloc, &command) else {
+    let Ok(told) = copy_of(alloc, &commands) else {
         return Err(SessionEnd::NoMemory);
     };
     let Ok(judged) = judge(alloc, &pin, &pack, &commands) else {
         return Err(SessionEnd::NoMemory);
     };
     match desk.push(alloc, pin, pack, commands, false, judged) {
-        Pushed::Settled(outcomes) => report(alloc, link, &command, &outcomes),
+        Pushed::Settled(outcomes) => report(alloc, link, &told, &outcomes),
         Pushed::NoMemory(_) => Err(SessionEnd::NoMemory),
     }
 }
 
-// The list of one command.
-fn only(alloc: Global, command: &Command) -> Result<CommandList, NoMemory>
-    ensures { IfOk result (λ l. l ≡ command.now ∷ []) }
+// A copy for the report, since the commands themselves go into the log.
+fn copy_of(alloc: Global, commands: &CommandList) -> Result<CommandList, NoMemory>
+    ensures { IfOk result (λ l. l ≡ commands.now) }
 {
-    let mut commands = CommandList::new(alloc);
-    commands.push(Command {
-        old: command.old,
-        new: command.new,
-        name: command.name.clone()?,
-    })?;
-    Ok(commands)
+    let mut copy = CommandList::new(alloc);
+    for command in commands.as_slice() {
+        copy.push(Command {
+            old: command.old,
+            new: command.new,
+            name: command.name.clone()?,
+        })?;
+    }
+    Ok(copy)
 }
 
-// What follows a command.
+// The commands behind the first, the pack, and the push.
 fn create<L: Link, K: Desk>(
     alloc: Global,
     link: &mut L,
     desk: &mut K,
     reader: &mut PktReader,
     pin: Pin,
-    command: Option<Command>,
+    first: Command,
 ) -> Result<(), SessionEnd>
     requires ready { IsReady reader.old (L.state link.old) }
     requires stands { Stands pin (known (K.view desk.old)) }
     requires write { pin.pinned.want ≡ Want.Write }
-    requires short { IfSome command HasShortName }
-    ensures runs { Runs (L.state link.old) (L.state link.new) (K.view desk.old) (K.view desk.new) (creating ((K.view desk.old).admin) pin command) (outcome_of result) }
+    requires short { HasShortName first }
+    ensures runs { Runs (L.state link.old) (L.state link.new) (K.view desk.old) (K.view desk.new) (creating ((K.view desk.old).admin) pin first) (outcome_of result) }
 {
-    let Some(command) = command else {
-        return Err(not_built(link));
-    };
-    let pack = take_pack(alloc, link, reader, &command)?;
-    push(alloc, link, desk, pin, command, pack)
+    let commands = take_commands(alloc, link, reader, first)?;
+    let pack = take_pack(alloc, link, &commands)?;
+    push(alloc, link, desk, pin, commands, pack)
 }
 
 // What follows the advertisement.
@@ -187,10 +123,8 @@ fn receive_command<L: Link, K: Desk>(
     match reader.next(link) {
         Ok(Pkt::Flush) => Ok(()),
         Ok(Pkt::Line(line)) => {
-            let Ok(command) = command_at(alloc, pin.repo_name(), without_feed(line)) else {
-                return Err(SessionEnd::NoMemory);
-            };
-            create(alloc, link, desk, reader, pin, command)
+            let first = first_in(alloc, link, pin.repo_name(), without_feed(line))?;
+            create(alloc, link, desk, reader, pin, first)
         }
         Err(PktFault::BadLength) => Err(not_built(link)),
         Err(PktFault::Truncated) => Err(not_built(link)),

@@ -50,6 +50,7 @@ fn word(end: SessionEnd) -> Option<&'static str>
         SessionEnd::Served => Some("served"),
         SessionEnd::Denied => Some("denied"),
         SessionEnd::NoRepo => Some("no-repo"),
+        SessionEnd::BadPack(_) => Some("bad-pack"),
         SessionEnd::NotBuilt => Some("not-built"),
         SessionEnd::ReadFault => None,
         SessionEnd::WriteFault => None,

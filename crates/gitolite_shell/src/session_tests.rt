@@ -7,7 +7,7 @@ use pktline_core::MemoryLink;
 use std::alloc::Global;
 use std::test::Fail;
 
-const OPENING: &[u8] = b"0024carol git-receive-pack 'testing'";
+pub const OPENING: &[u8] = b"0024carol git-receive-pack 'testing'";
 
 const COMMAND: &[u8] =
     b"00750000000000000000000000000000000000000000 1c73cda3964d5dd51bdaad94efd235c910cf59de refs/heads/master\0report-status0000";
@@ -36,13 +36,13 @@ pub fn first_push(alloc: Global) -> Result<Vec<u8>, NoMemory> {
     Ok(input)
 }
 
-fn new_desk(alloc: Global) -> Result<LoneDesk, NoMemory> {
+pub fn new_desk(alloc: Global) -> Result<LoneDesk, NoMemory> {
     let admin = Text::of(alloc, b"admin")?;
     Ok(LoneDesk::new(Hub::start(alloc, &admin)?))
 }
 
 // The end of a session over such an input, and what was written.
-fn serve(
+pub fn serve(
     alloc: Global,
     desk: &mut LoneDesk,
     input: &[u8],
@@ -66,7 +66,7 @@ pub fn is_granted(log: &EntryList, place: usize) -> bool {
     }
 }
 
-// What the one command of the push at a place of the log was told.
+// What the first command of the push at a place of the log was told.
 pub fn told(log: &EntryList, place: usize) -> Option<&Outcome> {
     let entry = log.get(place)?;
     match &entry.event {
@@ -112,41 +112,6 @@ fn a_first_push_is_done_and_a_second_is_told(rt: HostRuntime) -> Result<(), Fail
     assert!(rt; is_granted(&log, 0) && is_granted(&log, 2));
     assert!(rt; told(&log, 1) == Some(&Outcome::Done));
     assert!(rt; matches!(told(&log, 3), Some(Outcome::NotAdvertised(_))));
-    Ok(())
-}
-
-#[test]
-fn what_leaves_the_form_is_told(rt: HostRuntime) -> Result<(), Fail> {
-    let alloc = rt.alloc();
-    let rows: [(&[u8], SessionEnd, &[u8], usize); 5] = [
-        (
-            b"002bcarol git-receive-pack 'gitolite-admin'",
-            SessionEnd::Denied,
-            b"0035ERR W any gitolite-admin carol DENIED by fallthru",
-            1,
-        ),
-        (
-            b"0024carol git-receive-pack 'testing'0000",
-            SessionEnd::Served,
-            EMPTY,
-            1,
-        ),
-        (
-            b"0023carol git-upload-pack 'testing'0000",
-            SessionEnd::NotBuilt,
-            b"0011ERR not built",
-            0,
-        ),
-        (b"", SessionEnd::NotBuilt, b"0011ERR not built", 0),
-        (b"0000", SessionEnd::NotBuilt, b"0011ERR not built", 0),
-    ];
-    for (input, wanted, reply, entries) in rows {
-        let mut desk = new_desk(alloc)?;
-        let (end, written) = serve(alloc, &mut desk, input, 7)?;
-        assert_eq!(rt; end, wanted);
-        assert!(rt; written.as_slice() == reply);
-        assert_eq!(rt; desk.into_hub().into_log().len(), entries);
-    }
     Ok(())
 }
 

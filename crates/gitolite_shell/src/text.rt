@@ -1,11 +1,13 @@
 // The texts that a session writes.
-ghost use Rattle.std.specs.Prelude.{◌≡◌, ◌≤◌, ◌+◌, ◌*◌, ◌++◌, ◌∷◌, [], length, codes, decimal, IfOk, OnOk, if◌then◌else◌};
+ghost use Rattle.std.specs.Prelude.{◌≡◌, ◌≤◌, ◌+◌, ◌++◌, length, codes, decimal, IfOk, OnOk, if◌then◌else◌};
 ghost use Rattle.git_object.specs.ObjectId.{hex_of};
-ghost use Rattle.gitolite_shell.specs.Texts.{denial, denier, first_line, more_line, reason, status_text};
+ghost use Rattle.gitolite_shell.specs.Create.{HaveShortNames};
+ghost use Rattle.gitolite_shell.specs.Texts.{denial, denier, first_line, more_line, pack_text, reason, ref_at, status_text, unpack_text, unpacker_error};
 
 use git_object::ObjectId;
-use hub_core::{Command, Outcome, RefName, RepoName, UserName, Verdict};
+use hub_core::{Command, CommandList, Outcome, RefName, RepoName, UserName, Verdict};
 use itoa::Buffer;
+use raw_pack::PackFault;
 use std::alloc::{AllocError, Global};
 
 /// The text of a denied opening for writing, behind `ERR `.
@@ -85,14 +87,16 @@ pub fn ref_line(
     Ok(text)
 }
 
-/// What is reported of the one command of a push.
+/// What is reported of a command of a push.
 pub fn status_line(
     alloc: Global,
+    commands: &CommandList,
     command: &Command,
     outcome: &Outcome,
 ) -> Result<Vec<u8>, AllocError>
-    ensures text { IfOk result (λ v. v.items ≡ status_text (command.now ∷ []) command.now.name outcome.now) }
-    ensures size { IfOk result (λ v. length v.items ≤ 2 * length command.now.name + 1200) }
+    requires short { HaveShortNames commands.now }
+    ensures text { IfOk result (λ v. v.items ≡ status_text commands.now command.now.name outcome.now) }
+    ensures size { IfOk result (λ v. length v.items ≤ length command.now.name + 1200) }
 {
     if outcome.is_done() {
         let mut text = Vec::from_slice(alloc, b"ok ")?;
@@ -103,21 +107,35 @@ pub fn status_line(
     let mut text = Vec::from_slice(alloc, b"ng ")?;
     text.extend_from_slice(command.name.bytes())?;
     text.extend_from_slice(b" ")?;
-    push_reason(&mut text, command, outcome)?;
+    push_reason(&mut text, commands, outcome)?;
     text.extend_from_slice(b"\n")?;
     Ok(text)
 }
 
-// Why the one command of a push isn't done.
-fn push_reason(text: &mut Vec<u8>, command: &Command, outcome: &Outcome) -> Result<(), AllocError>
-    ensures text { OnOk result (text.new.items ≡ text.old.items ++ reason (command.now ∷ []) outcome.now) }
-    ensures size { OnOk result (length text.new.items ≤ length text.old.items + length command.now.name + 1100) }
+// Why a command of a push isn't done.
+fn push_reason(
+    text: &mut Vec<u8>,
+    commands: &CommandList,
+    outcome: &Outcome,
+) -> Result<(), AllocError>
+    requires short { HaveShortNames commands.now }
+    ensures text { OnOk result (text.new.items ≡ text.old.items ++ reason commands.now outcome.now) }
+    ensures size { OnOk result (length text.new.items ≤ length text.old.items + 1100) }
 {
     match outcome {
         Outcome::Done => Ok(()),
         Outcome::BadName => text.extend_from_slice(b"bad ref name"),
+        Outcome::Twice => text.extend_from_slice(b"named twice"),
         Outcome::NotAdvertised(id) => {
             text.extend_from_slice(b"not advertised, it was ")?;
+            push_id(text, *id)
+        }
+        Outcome::Missing(id) => {
+            text.extend_from_slice(b"missing object ")?;
+            push_id(text, *id)
+        }
+        Outcome::WrongKind(id) => {
+            text.extend_from_slice(b"wrong kind of object ")?;
             push_id(text, *id)
         }
         Outcome::Stale(id) => {
@@ -130,10 +148,7 @@ fn push_reason(text: &mut Vec<u8>, command: &Command, outcome: &Outcome) -> Resu
         }
         Outcome::AtomicOther(place) => {
             text.extend_from_slice(b"atomic push refused with ")?;
-            if *place == 0 {
-                return text.extend_from_slice(command.name.bytes());
-            }
-            Ok(())
+            push_ref_at(text, commands, *place)
         }
         Outcome::Collided(id) => {
             text.extend_from_slice(b"name collision ")?;
@@ -145,4 +160,67 @@ fn push_reason(text: &mut Vec<u8>, command: &Command, outcome: &Outcome) -> Resu
             text.extend_from_slice(b" objects")
         }
     }
+}
+
+// The ref of the command of a place.
+fn push_ref_at(text: &mut Vec<u8>, commands: &CommandList, place: u32) -> Result<(), AllocError>
+    requires short { HaveShortNames commands.now }
+    ensures text { OnOk result (text.new.items ≡ text.old.items ++ ref_at commands.now place) }
+    ensures size { OnOk result (length text.new.items ≤ length text.old.items + 1024) }
+{
+    let Some(command) = commands.get(place as usize) else {
+        return Ok(());
+    };
+    text.extend_from_slice(command.name.bytes())
+}
+
+/// What is reported of a pack that isn't taken.
+pub fn unpack_line(alloc: Global, fault: PackFault) -> Result<Vec<u8>, AllocError>
+    ensures text { IfOk result (λ v. v.items ≡ unpack_text fault) }
+    ensures size { IfOk result (λ v. length v.items ≤ 100) }
+{
+    let mut text = Vec::from_slice(alloc, b"unpack ")?;
+    push_fault(&mut text, fault)?;
+    text.extend_from_slice(b"\n")?;
+    Ok(text)
+}
+
+// Why a pack isn't taken.
+fn push_fault(text: &mut Vec<u8>, fault: PackFault) -> Result<(), AllocError>
+    ensures text { OnOk result (text.new.items ≡ text.old.items ++ pack_text fault) }
+    ensures size { OnOk result (length text.new.items ≤ length text.old.items + 65) }
+{
+    match fault {
+        PackFault::NotAPack => text.extend_from_slice(b"not a pack"),
+        PackFault::Version(number) => push_numbered(text, b"version ", number),
+        PackFault::Delta(entry) => push_numbered(text, b"delta at entry ", entry),
+        PackFault::BadHead(entry) => push_numbered(text, b"bad head at entry ", entry),
+        PackFault::BadObject(entry) => push_numbered(text, b"bad object at entry ", entry),
+        PackFault::Truncated(entry) => push_numbered(text, b"truncated at entry ", entry),
+        PackFault::TrailerDiffers { .. } => text.extend_from_slice(b"trailer differs"),
+        PackFault::TooLarge(entry) => push_numbered(text, b"too large at entry ", entry),
+        PackFault::TooMany(_) => text.extend_from_slice(b"too many entries"),
+        PackFault::ReadFault => Ok(()),
+        PackFault::NoMemory => Ok(()),
+    }
+}
+
+// Words, and a number behind them.
+fn push_numbered(text: &mut Vec<u8>, words: &[u8], number: u32) -> Result<(), AllocError>
+    ensures text { OnOk result (text.new.items ≡ text.old.items ++ (words.now ++ decimal number)) }
+    ensures size { OnOk result (length text.new.items ≤ length text.old.items + length words.now + 40) }
+{
+    text.extend_from_slice(words)?;
+    push_number(text, u64::from(number))
+}
+
+/// What is reported of the ref of a command whose pack isn't taken.
+pub fn error_line(alloc: Global, command: &Command) -> Result<Vec<u8>, AllocError>
+    ensures text { IfOk result (λ v. v.items ≡ unpacker_error command.now) }
+    ensures size { IfOk result (λ v. length v.items ≤ length command.now.name + 100) }
+{
+    let mut text = Vec::from_slice(alloc, b"ng ")?;
+    text.extend_from_slice(command.name.bytes())?;
+    text.extend_from_slice(b" unpacker error\n")?;
+    Ok(text)
 }

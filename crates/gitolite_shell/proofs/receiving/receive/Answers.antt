@@ -8,12 +8,12 @@ unfolding receiving
 returns-in_err-advertise g c = record {
   runs =
       let p = err_from_is_err_and c.from_residual.result c.from_residual.ensures.1 in
-      exits _ _ _ _ _ _ c.advertise.result _ _ _ c.in_err-advertise.was p.1 p.2 (rw c.repo.ensures at (c.advertise.ensures.runs (g.K.Desk.view c.args.desk.now)));
+      exits _ _ _ _ _ _ c.advertise.result _ _ _ c.in_err-advertise.was p.1 p.2 (rw c.repo.ensures.repo at (c.advertise.ensures.runs (g.K.Desk.view c.args.desk.now)));
 }
 
 pub returns : goal.returns
 unfolding receiving
 returns g c = record {
   runs =
-      goes _ _ _ _ _ (λ u. commanding _ c.args.pin) c.advertise.result _ _ c.in_ok-advertise.field-0 _ c.in_ok-advertise.was (rw c.repo.ensures at (c.advertise.ensures.runs (g.K.Desk.view c.args.desk.now))) c.receive_command.ensures.runs;
+      goes _ _ _ _ _ (λ u. commanding _ c.args.pin) c.advertise.result _ _ c.in_ok-advertise.field-0 _ c.in_ok-advertise.was (rw c.repo.ensures.repo at (c.advertise.ensures.runs (g.K.Desk.view c.args.desk.now))) c.receive_command.ensures.runs;
 }

@@ -1,16 +1,19 @@
-use Rattle.std.proofs.Common.{ap, refl, sym}
+use Rattle.std.proofs.Common.{ap, refl}
+use Rattle.std.proofs.lemmas.Result.{err_from_is_err_and}
 use Rattle.pktline_core.specs.Reading.{packet_of}
-use Rattle.interaction_tree.proofs.RunLemmas.{runs_gives, runs_memory}
-use Rattle.gitolite_shell.specs.Session.{commanding, commanded}
-use Rattle.gitolite_shell.proofs.StepLemmas.{not_built_here, packet_then, packet_failed, packet_broken, packet_cut}
+use Rattle.interaction_tree.proofs.RunLemmas.{runs_gives}
+use Rattle.gitolite_shell.specs.Session.{commanding, commanded, creating}
+use Rattle.gitolite_shell.proofs.StepLemmas.{exits, goes, not_built_here, packet_then, packet_failed, packet_broken, packet_cut}
 use Rattle.gitolite_shell.proofs.receiving.receive_command.Goals as goal
 
-pub returns-in_default : goal.returns-in_default
+pub returns-in_err-first-in-Ok-Line : goal.returns-in_err-first-in-Ok-Line
 unfolding commanding
-returns-in_default g c = record {
+returns-in_err-first-in-Ok-Line g c = record {
   runs =
       let n = c.next.ensures in
-      packet_then _ _ _ (λ reply. commanded _ c.args.pin reply.found) c.next.result n.reads n.writing n.later _ _ _ c.in-Ok-Line.field-0 _ c.in-Ok-Line.is (ap packet_of c.in-Ok-Line.field-0-is) (λ used. runs_memory _ _ _);
+      let p = err_from_is_err_and c.from_residual.result c.from_residual.ensures.1 in
+      packet_then _ _ _ (λ reply. commanded _ c.args.pin reply.found) c.next.result n.reads n.writing n.later _ _ _ c.in-Ok-Line.field-0 _ c.in-Ok-Line.is (ap packet_of c.in-Ok-Line.field-0-is)
+      (λ used. exits _ _ _ _ _ (λ first. creating _ c.args.pin first) c.first_in.result _ _ _ c.in_err-first-in-Ok-Line.was p.1 p.2 (rw (c.repo_name.ensures, c.without_feed.ensures) at (c.first_in.ensures.runs (g.K.Desk.view c.args.desk.now))));
 }
 
 pub returns-in-Ok-Line : goal.returns-in-Ok-Line
@@ -18,8 +21,8 @@ unfolding commanding
 returns-in-Ok-Line g c = record {
   runs =
       let n = c.next.ensures in
-      let is = rw (c.repo_name.ensures, c.without_feed.ensures) at c.in-Ok.ensures.command in
-      packet_then _ _ _ (λ reply. commanded _ c.args.pin reply.found) c.next.result n.reads n.writing n.later _ _ _ c.in-Ok-Line.field-0 _ c.in-Ok-Line.is (ap packet_of c.in-Ok-Line.field-0-is) (λ used. rw (sym is) c.create.ensures.runs);
+      packet_then _ _ _ (λ reply. commanded _ c.args.pin reply.found) c.next.result n.reads n.writing n.later _ _ _ c.in-Ok-Line.field-0 _ c.in-Ok-Line.is (ap packet_of c.in-Ok-Line.field-0-is)
+      (λ used. goes _ _ _ _ _ (λ first. creating _ c.args.pin first) c.first_in.result _ _ c.in_ok-first-in-Ok-Line.first _ c.in_ok-first-in-Ok-Line.was (rw (c.repo_name.ensures, c.without_feed.ensures) at (c.first_in.ensures.runs (g.K.Desk.view c.args.desk.now))) c.create.ensures.runs);
 }
 
 pub returns-in-Ok-Flush : goal.returns-in-Ok-Flush

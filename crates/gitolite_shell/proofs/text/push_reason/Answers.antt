@@ -1,15 +1,18 @@
 use Rattle.std.proofs.Common.{◌∙◌, ◌++◌, List, ℕ, ap, append_assoc, decimal}
-use Rattle.gitolite_shell.proofs.TextLemmas.{on_ok_more, on_ok_extend, ref_past}
+use Rattle.gitolite_shell.proofs.TextLemmas.{on_ok_more, on_ok_extend}
 use Rattle.gitolite_shell.proofs.text.push_reason.Goals as goal
-
-pub returns-then-place-eq0-clause-text : goal.returns-then-place-eq0-clause-text
-returns-then-place-eq0-clause-text c =
-    rw (c.in-AtomicOther.is, c.if-place-eq0.true)
-    (on_ok_extend c.extend_from_slice-then-place-eq0.result _ _ _ _ _ c.in_ok-extend_from_slice-in-AtomicOther.ensures.items (rw c.bytes.ensures at c.extend_from_slice-then-place-eq0.ensures.items))
 
 pub returns-in_ok-extend_from_slice-in-NotAdvertised-clause-text : goal.returns-in_ok-extend_from_slice-in-NotAdvertised-clause-text
 returns-in_ok-extend_from_slice-in-NotAdvertised-clause-text c =
     rw c.in-NotAdvertised.is (on_ok_more c.push_id.result _ _ _ _ _ c.in_ok-extend_from_slice-in-NotAdvertised.ensures.items c.push_id.ensures.text)
+
+pub returns-in_ok-extend_from_slice-in-Missing-clause-text : goal.returns-in_ok-extend_from_slice-in-Missing-clause-text
+returns-in_ok-extend_from_slice-in-Missing-clause-text c =
+    rw c.in-Missing.is (on_ok_more c.push_id-in-Missing.result _ _ _ _ _ c.in_ok-extend_from_slice-in-Missing.ensures.items c.push_id-in-Missing.ensures.text)
+
+pub returns-in_ok-extend_from_slice-in-WrongKind-clause-text : goal.returns-in_ok-extend_from_slice-in-WrongKind-clause-text
+returns-in_ok-extend_from_slice-in-WrongKind-clause-text c =
+    rw c.in-WrongKind.is (on_ok_more c.push_id-in-WrongKind.result _ _ _ _ _ c.in_ok-extend_from_slice-in-WrongKind.ensures.items c.push_id-in-WrongKind.ensures.text)
 
 pub returns-in_ok-extend_from_slice-in-Stale-clause-text : goal.returns-in_ok-extend_from_slice-in-Stale-clause-text
 returns-in_ok-extend_from_slice-in-Stale-clause-text c =
@@ -19,9 +22,9 @@ pub returns-in_ok-extend_from_slice-in-DirFile-clause-text : goal.returns-in_ok-
 returns-in_ok-extend_from_slice-in-DirFile-clause-text c =
     rw c.in-DirFile.is (on_ok_more c.push_ref.result _ _ _ _ _ c.in_ok-extend_from_slice-in-DirFile.ensures.items c.push_ref.ensures.text)
 
-pub returns-else-place-eq0-clause-text : goal.returns-else-place-eq0-clause-text
-returns-else-place-eq0-clause-text c =
-    rw (c.in-AtomicOther.is, ref_past c.args.command.now c.in-AtomicOther.place c.if-place-eq0.false) c.in_ok-extend_from_slice-in-AtomicOther.ensures.items
+pub returns-in_ok-extend_from_slice-in-AtomicOther-clause-text : goal.returns-in_ok-extend_from_slice-in-AtomicOther-clause-text
+returns-in_ok-extend_from_slice-in-AtomicOther-clause-text c =
+    rw c.in-AtomicOther.is (on_ok_more c.push_ref_at.result _ _ _ _ _ c.in_ok-extend_from_slice-in-AtomicOther.ensures.items c.push_ref_at.ensures.text)
 
 pub returns-in_ok-extend_from_slice-in-Collided-clause-text : goal.returns-in_ok-extend_from_slice-in-Collided-clause-text
 returns-in_ok-extend_from_slice-in-Collided-clause-text c =

@@ -1,0 +1,65 @@
+-- A report, command by command.
+use Rattle.std.proofs.Common.{◌≡◌, ℕ, zero, suc, ◌+◌, ◌<◌, ◌≤◌, List, [], ◌∷◌, ◌++◌, length, map, drop, get_or, refl, sym, ◌∙◌, ap, arith, subst}
+use Rattle.std.specs.List.{flat_map}
+use Rattle.ref_store.specs.declared.command.Command.{Command}
+use Rattle.hub_core.specs.declared.outcome.Outcome.{Outcome}
+use Rattle.hub_core.proofs.ListLemmas.{drop_here}
+use Rattle.gitolite_shell.specs.Create.{HasShortName, HaveShortNames}
+use Rattle.gitolite_shell.specs.Texts.{packet, status_text, status_lines, unpacker_error}
+
+-- what is still to be written of a refused pack's report, with these commands left
+pub errors_left : List Command → List ℕ
+errors_left commands = flat_map packet (map unpacker_error commands)
+
+-- what is still to be written of a push's report, with these of its commands and outcomes left
+pub statuses_left : List Command → List Command → List Outcome → List ℕ
+statuses_left all commands outcomes = flat_map packet (status_lines all commands outcomes)
+
+pub errors_all : (commands : List Command) → errors_left commands ≡ flat_map packet (map unpacker_error commands)
+unfolding errors_left
+errors_all commands = refl
+
+pub statuses_all : (commands : List Command) (outcomes : List Outcome) → statuses_left commands commands outcomes ≡ flat_map packet (status_lines commands commands outcomes)
+unfolding statuses_left
+statuses_all commands outcomes = refl
+
+-- from a place on: the command there, and those behind it
+commands_from : (commands : List Command) (place : ℕ) (command : Command) → place < length commands → command ≡ get_or commands place command → drop place commands ≡ command ∷ drop (place + 1) commands
+commands_from commands place command within is = drop_here commands place command within ∙ ap (λ (c : Command). c ∷ drop (place + 1) commands) (sym is)
+
+nothing_left : (commands : List Command) (place : ℕ) → length commands ≤ place → drop place commands ≡ []
+nothing_left [] zero past = refl
+nothing_left [] (suc place) past = refl
+nothing_left (c ∷ cs) zero past = absurd (omega (arith, past))
+nothing_left (c ∷ cs) (suc place) past = nothing_left cs place (omega (arith, past))
+
+module _ (commands : List Command) (place : ℕ) where
+  pub errors_more : (command : Command) → place < length commands → command ≡ get_or commands place command → errors_left (drop place commands) ≡ packet (unpacker_error command) ++ errors_left (drop (place + 1) commands)
+  unfolding errors_left
+  errors_more command within is = ap errors_left (commands_from commands place command within is)
+
+  pub errors_end : length commands ≤ place → errors_left (drop place commands) ≡ []
+  unfolding errors_left
+  errors_end past = ap errors_left (nothing_left commands place past)
+
+  pub statuses_more : (command : Command) (outcome : Outcome) (outcomes more : List Outcome) → place < length commands → command ≡ get_or commands place command → outcomes ≡ outcome ∷ more
+      → statuses_left commands (drop place commands) outcomes ≡ packet (status_text commands command.name outcome) ++ statuses_left commands (drop (place + 1) commands) more
+  unfolding statuses_left
+  statuses_more command outcome outcomes more within is steps =
+      ap (λ (cs : List Command). statuses_left commands cs outcomes) (commands_from commands place command within is) ∙ ap (statuses_left commands (command ∷ drop (place + 1) commands)) steps
+
+  pub statuses_end : (outcomes : List Outcome) → length commands ≤ place → statuses_left commands (drop place commands) outcomes ≡ []
+  unfolding statuses_left
+  statuses_end outcomes past = ap (λ (cs : List Command). statuses_left commands cs outcomes) (nothing_left commands place past)
+
+pub statuses_none : (all commands : List Command) (outcomes : List Outcome) → length outcomes ≡ 0 → statuses_left all commands outcomes ≡ []
+unfolding statuses_left
+statuses_none all [] outcomes none = refl
+statuses_none all (c ∷ cs) [] none = refl
+statuses_none all (c ∷ cs) (o ∷ os) none = absurd (omega (arith, none))
+
+-- a ref among short ones is short
+pub short_here : (commands : List Command) (place : ℕ) (command : Command) → HaveShortNames commands → place < length commands → command ≡ get_or commands place command → HasShortName command
+short_here [] place command short within is = absurd (omega (arith, within))
+short_here (c ∷ cs) zero command short within is = subst HasShortName (sym is) short.0
+short_here (c ∷ cs) (suc place) command short within is = short_here cs place command short.1 (omega (arith, within)) is

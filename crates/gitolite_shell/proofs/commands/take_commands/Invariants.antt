@@ -1,0 +1,22 @@
+use Rattle.std.proofs.Common.{◌≡◌, ◌-◌, List, length, Result}
+use Rattle.pktline_core.specs.LinkState.{LinkState}
+use Rattle.ref_store.specs.declared.command.Command.{Command}
+use Rattle.hub_core.specs.Desk.{DeskView}
+use Rattle.interaction_tree.specs.Traces.{Halt}
+use Rattle.interaction_tree.specs.Runs.{Runs}
+use Rattle.gitolite_shell.specs.declared.end.SessionEnd.{SessionEnd}
+use Rattle.gitolite_shell.specs.Create.{HaveShortNames}
+use Rattle.gitolite_shell.specs.Readers.{IsReady}
+use Rattle.gitolite_shell.specs.Session.{taking_commands}
+use Rattle.gitolite_shell.proofs.CommandLemmas.{still_taking}
+use Rattle.gitolite_shell.proofs.commands.take_commands.Given as goal
+
+abbrev pub invariant-loop : goal.invariant-loop
+invariant-loop g l = record {
+  runs : (b : LinkState) (desk : DeskView) (out : Result (List Command) (Halt SessionEnd))
+      → Runs (g.L.Endpoint.state l.link) b desk desk (still_taking l.commands (10000 - l.counter)) out
+      → Runs (g.L.Endpoint.state l.initial.link) b desk desk (taking_commands l.fn.first) out;
+  ready : IsReady l.reader (g.L.Endpoint.state l.link);
+  count : length l.commands ≡ l.counter;
+  short : HaveShortNames l.commands;
+}

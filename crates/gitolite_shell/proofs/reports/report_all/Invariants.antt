@@ -1,0 +1,17 @@
+use Rattle.std.proofs.Common.{drop, Result}
+use Rattle.std.specs.Slice.Iter.{iter_rest}
+use Rattle.pktline_core.specs.LinkState.{LinkState}
+use Rattle.hub_core.specs.Desk.{DeskView}
+use Rattle.interaction_tree.specs.Interaction.{write}
+use Rattle.interaction_tree.specs.Traces.{Halt}
+use Rattle.interaction_tree.specs.Runs.{Runs}
+use Rattle.gitolite_shell.specs.declared.end.SessionEnd.{SessionEnd}
+use Rattle.gitolite_shell.proofs.ReportLemmas.{statuses_left}
+use Rattle.gitolite_shell.proofs.reports.report_all.Given as goal
+
+abbrev pub invariant-loop-command : goal.invariant-loop-command
+invariant-loop-command g l = record {
+  writes : (b : LinkState) (desk : DeskView) (out : Result (Unit {0}) (Halt SessionEnd))
+      → Runs (g.L.Endpoint.state l.link) b desk desk (write (statuses_left l.commands (drop l.command-index l.commands) (iter_rest l.told))) out
+      → Runs (g.L.Endpoint.state l.initial.link) b desk desk (write (statuses_left l.commands l.commands l.outcomes)) out;
+}

@@ -1,0 +1,93 @@
+// Sessions that push several commands, or a pack that is refused. The shipped script has the rows of what each is told.
+ghost use Rattle.std.specs.Prelude.{◌≤◌};
+
+use crate::end::SessionEnd;
+use crate::session_tests::{EMPTY, OPENING, first_push, is_granted, new_desk, serve};
+use hub_core::NoMemory;
+use raw_pack::PackFault;
+use std::alloc::Global;
+use std::test::Fail;
+
+// The old value, the new value and a space, of a create at the commit of the first push.
+const CREATE: &[u8] =
+    b"0000000000000000000000000000000000000000 1c73cda3964d5dd51bdaad94efd235c910cf59de ";
+
+// A packet of a create, whose length is given in its four digits.
+fn add_create(input: &mut Vec<u8>, size: &[u8], name: &[u8]) -> Result<(), NoMemory> {
+    input.extend_from_slice(size)?;
+    input.extend_from_slice(CREATE)?;
+    input.extend_from_slice(name)?;
+    Ok(())
+}
+
+// An opening, these creates, a flush, and a pack.
+pub fn push_of(
+    alloc: Global,
+    creates: &[(&[u8], &[u8])],
+    pack: &[u8],
+) -> Result<Vec<u8>, NoMemory> {
+    let mut input = OPENING.to_vec(alloc)?;
+    for (size, name) in creates {
+        add_create(&mut input, size, name)?;
+    }
+    input.extend_from_slice(b"0000")?;
+    input.extend_from_slice(pack)?;
+    Ok(input)
+}
+
+// The pack of the first push.
+pub fn first_pack(alloc: Global) -> Result<Vec<u8>, NoMemory> {
+    let input = first_push(alloc)?;
+    match input.split_at_checked(157) {
+        Some((_, pack)) => Ok(pack.to_vec(alloc)?),
+        None => Ok(input),
+    }
+}
+
+// The pack's last byte is missing.
+#[test]
+fn a_refused_pack_leaves_the_opening_alone(rt: HostRuntime) -> Result<(), Fail> {
+    let alloc = rt.alloc();
+    let mut input = first_push(alloc)?;
+    input.pop();
+    let mut desk = new_desk(alloc)?;
+    let (end, written) = serve(alloc, &mut desk, &input, 5)?;
+    assert!(rt; end == SessionEnd::BadPack(PackFault::Truncated(2)) && end.number() == 13);
+    let rest = b"0020unpack truncated at entry 2\n0028ng refs/heads/master unpacker error\n0000";
+    assert!(rt; written.starts_with(EMPTY) && written.ends_with(rest));
+    assert_eq!(rt; written.len(), EMPTY.len() + rest.len());
+    let log = desk.into_hub().into_log();
+    assert!(rt; log.len() == 1 && is_granted(&log, 0));
+    Ok(())
+}
+
+// An opening, a create of `refs/heads/a`, so many further ones of other refs, a flush, and a pack.
+fn many_creates(alloc: Global, further: u32) -> Result<Vec<u8>, NoMemory>
+    requires { further ≤ 10000 }
+{
+    let mut input = OPENING.to_vec(alloc)?;
+    add_create(&mut input, b"0070", b"refs/heads/a\0report-status")?;
+    for number in 10_000..10_000 + further {
+        add_create(&mut input, b"0066", b"refs/heads/")?;
+        input.extend_from_slice(number.to_string(alloc)?.as_bytes())?;
+    }
+    input.extend_from_slice(b"0000")?;
+    input.extend_from_slice(&first_pack(alloc)?)?;
+    Ok(input)
+}
+
+#[test]
+fn ten_thousand_commands_are_pushed_and_one_more_is_not_built(rt: HostRuntime) -> Result<(), Fail> {
+    let alloc = rt.alloc();
+    let mut desk = new_desk(alloc)?;
+    let (end, written) = serve(alloc, &mut desk, &many_creates(alloc, 9_999)?, 65_520)?;
+    assert_eq!(rt; end, SessionEnd::Served);
+    assert!(rt; written.ends_with(b"0018ok refs/heads/19998\n0000"));
+    assert_eq!(rt; desk.into_hub().into_log().len(), 2);
+    let mut desk = new_desk(alloc)?;
+    let (end, written) = serve(alloc, &mut desk, &many_creates(alloc, 10_000)?, 65_520)?;
+    assert_eq!(rt; end, SessionEnd::NotBuilt);
+    assert!(rt; written.ends_with(b"0011ERR not built"));
+    assert_eq!(rt; desk.into_hub().into_log().len(), 1);
+    Ok(())
+}
