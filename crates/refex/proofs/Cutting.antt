@@ -25,7 +25,7 @@ or_false false = refl
 
 -- ---- a class
 
-items_skipped : (k at : ℕ) (bytes : List ℕ) → class_items at false k bytes ≡ class_items (at + k) false 0 (drop k bytes)
+pub items_skipped : (k at : ℕ) (bytes : List ℕ) → class_items at false k bytes ≡ class_items (at + k) false 0 (drop k bytes)
 unfolding class_items
 items_skipped zero at bytes = ap (λ n. class_items n false 0 bytes) (sym (add-zero at))
 items_skipped (suc k) at [] = refl
@@ -33,7 +33,7 @@ items_skipped (suc k) at (b ∷ bytes) =
     let e : suc at + k ≡ at + suc k = omega arith in
     items_skipped k (suc at) bytes ∙ ap (λ n. class_items n false 0 (drop k bytes)) e
 
-items_step : (at : ℕ) (first : Bool) (b : ℕ) (bytes : List ℕ) (f : ℕ → Bool) (n : ℕ) → class_item at first (b ∷ bytes) ≡ Ok (f, suc n)
+pub items_step : (at : ℕ) (first : Bool) (b : ℕ) (bytes : List ℕ) (f : ℕ → Bool) (n : ℕ) → class_item at first (b ∷ bytes) ≡ Ok (f, suc n)
     → class_items at first 0 (b ∷ bytes) ≡ on_ok (either_of f) (class_items (at + suc n) false 0 (drop n bytes))
 unfolding class_items
 items_step at first b bytes f n e =
@@ -44,7 +44,7 @@ items_step at first b bytes f n e =
     ∙ ap (λ m. on_ok (either_of f) (class_items (suc at) false m bytes)) less
     ∙ ap (on_ok (either_of f)) (items_skipped n (suc at) bytes ∙ ap (λ m. class_items m false 0 (drop n bytes)) on)
 
-items_fault : (at : ℕ) (first : Bool) (b : ℕ) (bytes : List ℕ) (e : Offence) → class_item at first (b ∷ bytes) ≡ Err e
+pub items_fault : (at : ℕ) (first : Bool) (b : ℕ) (bytes : List ℕ) (e : Offence) → class_item at first (b ∷ bytes) ≡ Err e
     → class_items at first 0 (b ∷ bytes) ≡ Err e
 unfolding class_items
 items_fault at first b bytes e is = ap (λ r. r >>= (λ x. (class_items (suc at) false (x.1 - 1) bytes >>= (λ g. Ok (either_of x.0 g))))) is
@@ -98,11 +98,11 @@ class_over whole at i bytes f e over =
 
 -- ---- where a class ends
 
-length_here : (first behind : Bool) (b : ℕ) (bytes : List ℕ) → ((b == 93) && (not first && not behind)) ≡ true → class_length first behind (b ∷ bytes) ≡ Some 0
+pub length_here : (first behind : Bool) (b : ℕ) (bytes : List ℕ) → ((b == 93) && (not first && not behind)) ≡ true → class_length first behind (b ∷ bytes) ≡ Some 0
 unfolding class_length
 length_here first behind b bytes e = rw e refl
 
-length_more : (first behind : Bool) (b : ℕ) (bytes : List ℕ) → ((b == 93) && (not first && not behind)) ≡ false
+pub length_more : (first behind : Bool) (b : ℕ) (bytes : List ℕ) → ((b == 93) && (not first && not behind)) ≡ false
     → class_length first behind (b ∷ bytes) ≡ option_map suc (class_length false ((b == 92) && not behind) bytes)
 unfolding class_length
 length_more first behind b bytes e = rw e refl
@@ -152,7 +152,7 @@ item_skipped hole (suc k) at (b ∷ bytes) =
     let e : suc at + k ≡ at + suc k = omega arith in
     item_skipped hole k (suc at) bytes ∙ ap (λ n. items_from hole n 0 (drop k bytes)) e
 
-item_step : (hole : Hole) (at b : ℕ) (bytes : List ℕ) (x : Item) (n : ℕ) → is_at hole (b ∷ bytes) ≡ false → item at (b ∷ bytes) ≡ (x, suc n)
+pub item_step : (hole : Hole) (at b : ℕ) (bytes : List ℕ) (x : Item) (n : ℕ) → is_at hole (b ∷ bytes) ≡ false → item at (b ∷ bytes) ≡ (x, suc n)
     → items_from hole at 0 (b ∷ bytes) ≡ placed at x ∷ items_from hole (at + suc n) 0 (drop n bytes)
 unfolding items_from
 item_step hole at b bytes x n none is =
@@ -164,7 +164,7 @@ item_step hole at b bytes x n none is =
     ∙ ap (λ m. placed at x ∷ items_from hole (suc at) m bytes) less
     ∙ ap (λ xs. placed at x ∷ xs) (item_skipped hole n (suc at) bytes ∙ ap (λ m. items_from hole m 0 (drop n bytes)) on)
 
-hole_step : (hole : Hole) (at b : ℕ) (bytes : List ℕ) (n : ℕ) → is_at hole (b ∷ bytes) ≡ true → length (spelling hole) ≡ suc n
+pub hole_step : (hole : Hole) (at b : ℕ) (bytes : List ℕ) (n : ℕ) → is_at hole (b ∷ bytes) ≡ true → length (spelling hole) ≡ suc n
     → items_from hole at 0 (b ∷ bytes) ≡ hole_items hole at ++ items_from holes.Nothing (at + suc n) 0 (drop n bytes)
 unfolding items_from
 hole_step hole at b bytes n here long =

@@ -1,14 +1,17 @@
 -- The first offence, met from the left.
-use Rattle.std.proofs.Common.{◌≡◌, ℕ, suc, ◌+◌, ◌-◌, ◌<◌, ◌≤◌, List, [], ◌∷◌, true, false, nat_lt, if◌then◌else◌, cond, Option, Some, None, refl, sym, ◌∙◌, ap, arith, drop, length, map, get_or, add-one}
+use Rattle.std.proofs.Common.{◌≡◌, ℕ, zero, suc, ◌+◌, ◌-◌, ◌<◌, ◌≤◌, ◌==◌, Bool, inl, inr, List, [], ◌∷◌, true, false, nat_lt, if◌then◌else◌, cond, Option, Some, None, refl, sym, ◌∙◌, ap, arith, drop, length, map, get_or, add-one}
 use Rattle.std.proofs.Math.Seq.{drop-cons}
 use Rattle.std.proofs.Math.ListN.{drop_of_length-le}
 use Rattle.std.proofs.lemmas.List.{drop-map, length-map}
 use Rattle.refex.specs.Items.{item_of, placed_of}
 use Rattle.refex.specs.declared.items.Token.{Token}
 use Rattle.std.proofs.lemmas.Bool.Decides.{nat_tests}
+use Rattle.std.proofs.lemmas.Bool.{cases_lt}
 use Rattle.refex.specs.Text.{Item, Atom, Open, Close, Bar, Repetition, Bad, Placed}
 use Rattle.refex.specs.Faults.{closes, closes_before, last_after, depth_after, outermost_after, outermost_by, repetition_fault, item_fault, fault_at, first_of, first_fault}
+use Rattle.refex.specs.Parsing.{MayStand}
 use Rattle.refex.specs.declared.items.Last.{Last}
+use Rattle.refex.specs.declared.items.Last.TheVariants as last
 use Rattle.refex.specs.declared.faults.Offence.{Offence}
 use Rattle.refex.specs.declared.faults.Offence.TheVariants.{Syntax, Unsupported}
 
@@ -126,3 +129,65 @@ depth_bound depth depth' Close e = omega arith
 depth_bound depth depth' Bar e = omega arith
 depth_bound depth depth' (Repetition n m b) e = omega arith
 depth_bound depth depth' (Bad f) e = omega arith
+
+-- ---- where there is no fault
+
+-- an item without a fault may stand
+may_stand : (before : Last) (depth at : ℕ) (x : Item) → item_fault before depth x at 1 ≡ None → MayStand depth before x
+may_stand before depth at (Bad f) e = absurd (let g : Some f ≡ None = e in cc)
+may_stand before depth at (Open false) e = absurd (let g : Some (Unsupported at) ≡ None = e in cc)
+may_stand before depth at (Open true) e = tt
+may_stand before depth at (Atom p) e = tt
+may_stand before depth at Bar e = tt
+may_stand before depth at Close e = one (depth == 0) refl e
+  where
+    one : (t : Bool) → (depth == 0) ≡ t → cond t (Some (Syntax at)) None ≡ None → 1 ≤ depth
+    one true f e = absurd (let g : Some (Syntax at) ≡ None = e in cc)
+    one false f e = grind (arith, nat_tests)
+may_stand last.Atom depth at (Repetition least most suffix) e = refl
+may_stand last.Nothing depth at (Repetition least most suffix) e = absurd (let g : Some (Syntax at) ≡ None = e in cc)
+may_stand last.Counted depth at (Repetition least most true) e = absurd (let g : Some (Unsupported at) ≡ None = e in cc)
+may_stand last.Counted depth at (Repetition least most false) e = absurd (let g : Some (Syntax at) ≡ None = e in cc)
+
+-- no fault comes from the place on
+abbrev pub NoneFrom : List Token → ℕ → ℕ → Last → Type 0
+NoneFrom tokens i depth before = (outermost : ℕ) × (None ≡ pending depth outermost before (drop i (map placed_of tokens)))
+
+pub none_begun : (tokens : List Token) → first_fault last.Nothing 0 (map placed_of tokens) ≡ None → NoneFrom tokens 0 0 last.Nothing
+none_begun tokens e = (0, sym e ∙ begun (map placed_of tokens) last.Nothing 0)
+
+none_at : (tokens : List Token) (i : ℕ) (d : Token) (before : Last) (depth : ℕ) → i < length tokens → NoneFrom tokens i depth before
+    → fault_at before depth (placed_of (get_or tokens i d)) 1 ≡ None
+none_at tokens i d before depth within (outermost, e) = one (fault_at before depth (placed_of (get_or tokens i d)) 1) refl
+  where
+    rest : List Placed
+    rest = drop i (map placed_of tokens)
+
+    closed : depth ≤ closes rest
+    closed = elim (cases_lt (closes rest) depth) [
+      | inl h ↦ absurd (let g : Some (Syntax outermost) ≡ None = stop_outer None before depth outermost rest h e in cc)
+      | inr h ↦ h
+    ]
+
+    one : (o : Option Offence) → fault_at before depth (placed_of (get_or tokens i d)) 1 ≡ o → o ≡ None
+    one None f = refl
+    one (Some x) f = absurd (let g : Some x ≡ None = stop_at tokens i d None before depth outermost x within f closed e in cc)
+
+pub stands_at : (tokens : List Token) (i : ℕ) (d : Token) (before : Last) (depth : ℕ) → i < length tokens → NoneFrom tokens i depth before
+    → MayStand depth before (item_of (get_or tokens i d).item)
+stands_at tokens i d before depth within h =
+    may_stand before depth (get_or tokens i d).at (item_of (get_or tokens i d).item) (none_at tokens i d before depth within h)
+
+pub none_on : (tokens : List Token) (i : ℕ) (d : Token) (before before' : Last) (depth depth' : ℕ) → i < length tokens
+    → before' ≡ last_after (item_of (get_or tokens i d).item) → depth' ≡ depth_after depth (item_of (get_or tokens i d).item)
+    → NoneFrom tokens i depth before → NoneFrom tokens (i + 1) depth' before'
+none_on tokens i d before before' depth depth' within e f (outermost, h) = (
+  outermost_after depth outermost (placed_of (get_or tokens i d)),
+  on_at tokens i d None before before' depth depth' outermost (outermost_after depth outermost (placed_of (get_or tokens i d))) within
+      (none_at tokens i d before depth within (outermost, h)) e f refl h,
+)
+
+pub none_open : (tokens : List Token) (i : ℕ) (before : Last) (depth : ℕ) → length tokens ≤ i → NoneFrom tokens i depth before → depth ≡ 0
+none_open tokens i before zero over h = refl
+none_open tokens i before (suc n) over (outermost, e) =
+    absurd (let g : Some (Syntax outermost) ≡ None = end_outer tokens i None before (suc n) outermost over (omega arith) e in cc)

@@ -5,9 +5,9 @@ use Rattle.refex.specs.declared.items.Last.TheVariants as last
 use Rattle.refex.proofs.Reading.{read_count}
 use Rattle.refex.proofs.parsing.Parser.repetition.Goals as goal
 
-pub returns : goal.returns
-returns c = λ xs h.
+pub returns-clause-read : goal.returns-clause-read
+returns-clause-read c = λ xs h.
     subst (λ ns. HasRead (xs ++ text.Repetition c.args.least c.args.most c.args.suffix ∷ []) ns c.args.self.now.groups.items c.args.self.now.branches last.Counted)
     (sym c.in_ok-push.ensures.items)
     (read_count xs c.args.self.now.steps.items c.args.self.now.groups.items c.args.self.now.branches c.args.least c.args.most c.args.suffix
-    (subst (λ l. HasRead xs c.args.self.now.steps.items c.args.self.now.groups.items c.args.self.now.branches l) c.in-Atom.is h))
+    (subst (λ l. HasRead xs c.args.self.now.steps.items c.args.self.now.groups.items c.args.self.now.branches l) c.requires h))
