@@ -15,13 +15,15 @@ use Rattle.hub_core.specs.declared.outcome.Outcome.{Outcome}
 use Rattle.hub_core.specs.declared.entry.Entry.{Entry}
 use Rattle.hub_core.specs.declared.entry.EnterKept.{EnterKept}
 use Rattle.hub_core.specs.declared.entry.EnterKept.TheVariants.{Granted, Created, Denied, NoRepo}
+use Rattle.hub_core.specs.declared.entry.Event.{Event}
+use Rattle.hub_core.specs.declared.entry.Event.TheVariants.{Entered, Pushed}
 use Rattle.hub_core.specs.Name.{Name, placed_in}
 use Rattle.hub_core.specs.State.{Repository, State, start, changed, repository_at, empty_repository, put_in_place}
-use Rattle.hub_core.specs.Pin.{Opening, Pinned, made_by}
-use Rattle.hub_core.specs.Push.{is_done, refs_left}
+use Rattle.hub_core.specs.Pin.{Opening, Pinned, answer_to, made_by}
+use Rattle.hub_core.specs.Push.{AreWithinLimits, judgement, is_done, outcomes_in, refs_left}
 use Rattle.hub_core.specs.Hub.{Stands}
-use Rattle.hub_core.specs.History.{new_history, push_change, IsLegal, replay}
-use Rattle.hub_core.proofs.HistoryLemmas.{IsLegalFrom-beginning}
+use Rattle.hub_core.specs.History.{History, new_history, after, after_push, opening_at, outcomes_at, push_change, IsDue, IsDuePush, IsLegal, replay}
+use Rattle.hub_core.proofs.HistoryLemmas.{history-keeps, IsLegalFrom-beginning}
 use Rattle.hub_core.proofs.OpeningLemmas.{some_same, pinned_at}
 
 module _ (P : Repository → Type 0) where
@@ -65,6 +67,33 @@ module _ (P : Repository → Type 0) where
           → Each (placed_in state.repositories (put_in_place pinned.repo (if b then Some (record (repository_at state pinned.repo) { objects = with_pack (repository_at state pinned.repo).objects pack; refs = refs_left (repository_at state pinned.repo).refs commands outcomes }) else None)))
       by_done true done = each-insert state.repositories pinned.repo _ (next done) each
       by_done false none = each
+
+  -- a push that does a command keeps it
+  abbrev pub IsKept : Type 0
+  IsKept =
+      (now : Repository) (pinned : Pinned) (pack : List Content) (commands : List Command) (atomic : Bool) → AreWithinLimits commands → P now
+      → list_any is_done (outcomes_in now pack commands atomic (judgement pinned pack commands)) ≡ true
+      → P (record now { objects = with_pack now.objects pack; refs = refs_left now.refs commands (outcomes_in now pack commands atomic (judgement pinned pack commands)) })
+
+  due-kept : IsKept → (state : State) (pinned : Pinned) (pack : List Content) (commands : List Command) (atomic : Bool) → AreWithinLimits commands → P (repository_at state pinned.repo)
+      → list_any is_done (outcomes_at state pinned pack commands atomic) ≡ true
+      → P (record (repository_at state pinned.repo) { objects = with_pack (repository_at state pinned.repo).objects pack; refs = refs_left (repository_at state pinned.repo).refs commands (outcomes_at state pinned pack commands atomic) })
+  unfolding outcomes_at
+  due-kept keeps state pinned pack commands atomic within held done = keeps (repository_at state pinned.repo) pinned pack commands atomic within held done
+
+  each-after : ((creator : Option Name) → P (empty_repository creator)) → IsKept → (h : History) (event : Event) → IsDue h event → Each h.state.repositories → Each (after h event).state.repositories
+  each-after new keeps h (Entered user repo want answer) due each = each-opening h.state user repo (answer_to h.state user repo want) (new (Some user)) each
+  each-after new keeps h (Pushed place pack commands atomic outcomes) due each = by_opening (opening_at h place) due
+    where
+      by_opening : (o : Option Pinned) → IsDuePush h.state o pack commands atomic outcomes → Each (after_push h.state o pack commands atomic).repositories
+      by_opening None due = absurd due
+      by_opening (Some pinned) due =
+          each-push h.state pinned pack commands (outcomes_at h.state pinned pack commands atomic)
+          (due-kept keeps h.state pinned pack commands atomic due.1 (each_at h.state pinned.repo (new None) each)) each
+
+  -- what an empty repository has and each push keeps, each repository has that a legal log leads to
+  pub each_replayed : ((creator : Option Name) → P (empty_repository creator)) → IsKept → (admin : Name) (log : List Entry) → IsLegal admin log → Each (replay admin log).repositories
+  each_replayed new keeps admin log legal = history-keeps (λ (h : History). Each h.state.repositories) (each-after new keeps) (new_history admin) log legal (each-start admin (new None))
 
   -- what each repository has that a legal log leads to, what an opening pinned has
   pub each_pinned : ((admin : Name) (log : List Entry) → IsLegal admin log → Each (replay admin log).repositories) → P (empty_repository None)

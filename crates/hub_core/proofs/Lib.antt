@@ -12,5 +12,6 @@ pub mod GrownObjects
 pub mod WholeRefs
 pub mod TrustLemmas
 pub mod RunningLemmas
+pub mod RefsApart
 pub mod DeskLemmas
 pub mod RunLemmas

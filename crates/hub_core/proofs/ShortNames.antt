@@ -1,34 +1,25 @@
 -- No ref's name has more than 1,024 bytes.
-use Rattle.std.proofs.Common.{◌≡◌, ◌≤◌, List, [], ◌∷◌, refl, sym, ◌∙◌, subst, Bool, true, false, cond, length, map, ap, ◌||◌, T, take, drop, ℕ, ◌+◌}
-use Rattle.std.proofs.lemmas.List.{take-append-drop}
+use Rattle.std.proofs.Common.{◌≡◌, ◌≤◌, List, [], ◌∷◌, refl, sym, ◌∙◌, subst, Bool, true, false, cond, length, map, ap, ◌||◌, T}
 use Rattle.std.specs.Prelude.{Option, Some, None, is_some, if◌then◌else◌}
 use Rattle.std.specs.List.{list_any, AllByRecursion}
-use Rattle.std.specs.Option.{unwrap_or}
 use Rattle.std.specs.Ordering.{nat_cmp, eq_by_cmp}
 use Rattle.std.specs.Cmp.Lexicographic.{slice_cmp, nat_list_cmp_total, texts_ties, same_text as one_text}
 use Rattle.std.specs.FinMap.{get, insert, remove, empty, entries, get-insert, get-remove, get-empty, contains_key-keys}
 use Rattle.std.specs.Cmp.{eq_by_cmp_equiv}
 use Rattle.std.proofs.lemmas.List.Elements.{All-from_recursion}
-use Rattle.base_types.specs.Names.{ByName}
-use Rattle.git_object.specs.Content.{Content}
 use Rattle.git_object.specs.declared.object_id.ObjectId.{ObjectId}
+use Rattle.ref_store.specs.Objects.{same_id}
+use Rattle.ref_store.specs.Refs.{Refs, zero_id, moved}
 use Rattle.ref_store.specs.declared.command.Command.{Command}
 use Rattle.hub_core.specs.declared.outcome.Outcome.{Outcome}
 use Rattle.hub_core.specs.declared.entry.Entry.{Entry}
-use Rattle.hub_core.specs.declared.entry.EnterKept.{EnterKept}
-use Rattle.hub_core.specs.declared.entry.EnterKept.TheVariants.{Granted, Created, Denied, NoRepo}
-use Rattle.hub_core.specs.declared.entry.Event.{Event}
-use Rattle.hub_core.specs.declared.entry.Event.TheVariants.{Entered, Pushed}
-use Rattle.ref_store.specs.Objects.{same_id, with_pack}
-use Rattle.ref_store.specs.Refs.{Refs, zero_id, moved}
-use Rattle.hub_core.specs.Name.{Name, same_name, placed_in}
-use Rattle.hub_core.specs.State.{HasShortNames, Repository, State, start, changed, repository_at, empty_repository, put_in_place}
-use Rattle.hub_core.specs.Pin.{Opening, Pinned, answer_to, made_by}
-use Rattle.hub_core.specs.Push.{is_done, refs_after, refs_left}
+use Rattle.hub_core.specs.Name.{Name, same_name}
+use Rattle.hub_core.specs.State.{HasShortNames, Repository}
+use Rattle.hub_core.specs.Pin.{Opening}
+use Rattle.hub_core.specs.Push.{judgement, outcomes_in, is_done, refs_after, refs_left}
 use Rattle.hub_core.specs.Hub.{Stands}
-use Rattle.hub_core.specs.History.{History, new_history, after, after_push, opening_at, outcomes_at, push_change, IsDue, IsDuePush, IsLegal, replay}
-use Rattle.hub_core.proofs.HistoryLemmas.{history-keeps, IsLegalFrom-beginning}
-use Rattle.hub_core.proofs.OpeningLemmas.{pinned_at}
+use Rattle.hub_core.specs.History.{IsLegal, replay}
+use Rattle.hub_core.proofs.EachRepository.{Each, IsKept, each_replayed, each_pinned}
 
 abbrev IsShort : Command → Type 0
 IsShort c = length c.name ≤ 1024
@@ -94,69 +85,17 @@ short-left refs [] os few short = short
 short-left refs (c ∷ cs) [] few short = short
 short-left refs (c ∷ cs) (o ∷ os) few short = short-left (refs_after refs c o) cs os few.1 (short-after refs c o few.0 short)
 
-abbrev EachShort : ByName Repository → Type 0
-EachShort known = (name : Name) (repository : Repository) → get known name ≡ Some repository → HasShort repository.refs
+abbrev IsShortNamed : Repository → Type 0
+IsShortNamed repository = HasShort repository.refs
 
-some_same : {a b : Repository} → Some a ≡ Some b → a ≡ b
-some_same {a} {b} same = cc
+short-pushed : IsKept IsShortNamed
+short-pushed now pinned pack commands atomic within short done = short-left now.refs commands (outcomes_in now pack commands atomic (judgement pinned pack commands)) within.short short
 
-each-insert : (known : ByName Repository) (name : Name) (repository : Repository) → HasShort repository.refs → EachShort known → EachShort (insert known name repository)
-each-insert known name repository short each q found is =
-    by_name (eq_by_cmp (slice_cmp nat_cmp) q name) (sym (get-insert nat_list_cmp_total known name repository q) ∙ is)
-  where
-    by_name : (b : Bool) → cond b (Some repository) (get known q) ≡ Some found → HasShort found.refs
-    by_name true same = subst (λ (r : Repository). HasShort r.refs) (some_same same) short
-    by_name false same = each q found same
-
-each-empty : EachShort empty
-each-empty q found is = let none = sym (get-empty {X = Repository} (slice_cmp nat_cmp) q) ∙ is in cc
-
-short_at : (state : State) → EachShort state.repositories → (name : Name) → HasShort (repository_at state name).refs
-short_at state each name = by_get (get state.repositories name) refl
-  where
-    by_get : (o : Option Repository) → get state.repositories name ≡ o → HasShort (unwrap_or o (empty_repository None)).refs
-    by_get None is = short-empty
-    by_get (Some repository) is = each name repository is
-
-each-opening : (state : State) (user repo : Name) (answer : EnterKept) → EachShort state.repositories → EachShort (changed state (made_by user repo answer)).repositories
-each-opening state user repo Granted each = each
-each-opening state user repo Created each = each-insert state.repositories repo (empty_repository (Some user)) short-empty each
-each-opening state user repo (Denied verdict) each = each
-each-opening state user repo NoRepo each = each
-
-each-push : (state : State) (pinned : Pinned) (pack : List Content) (commands : List Command) (outcomes : List Outcome)
-    → AllByRecursion IsShort commands → EachShort state.repositories → EachShort (changed state (push_change state pinned pack commands outcomes)).repositories
-unfolding push_change
-each-push state pinned pack commands outcomes few each = by_done (list_any is_done outcomes)
-  where
-    by_done : (b : Bool) → EachShort (placed_in state.repositories (put_in_place pinned.repo (if b then Some (record (repository_at state pinned.repo) { objects = with_pack (repository_at state pinned.repo).objects pack; refs = refs_left (repository_at state pinned.repo).refs commands outcomes }) else None)))
-    by_done true = each-insert state.repositories pinned.repo _ (short-left (repository_at state pinned.repo).refs commands outcomes few (short_at state each pinned.repo)) each
-    by_done false = each
-
-each-after : (h : History) (event : Event) → IsDue h event → EachShort h.state.repositories → EachShort (after h event).state.repositories
-each-after h (Entered user repo want answer) due each = each-opening h.state user repo (answer_to h.state user repo want) each
-each-after h (Pushed place pack commands atomic outcomes) due each = by_opening (opening_at h place) due
-  where
-    by_opening : (o : Option Pinned) → IsDuePush h.state o pack commands atomic outcomes → EachShort (after_push h.state o pack commands atomic).repositories
-    by_opening None due = each
-    by_opening (Some pinned) due = each-push h.state pinned pack commands (outcomes_at h.state pinned pack commands atomic) due.1.short each
-
-each-start : (admin : Name) → EachShort (start admin).repositories
-each-start admin = each-insert _ _ (empty_repository None) short-empty (each-insert empty _ (empty_repository None) short-empty each-empty)
-
-each_replayed : (admin : Name) (log : List Entry) → IsLegal admin log → EachShort (replay admin log).repositories
-each_replayed admin log legal = history-keeps (λ (h : History). EachShort h.state.repositories) each-after (new_history admin) log legal (each-start admin)
+replayed_short : (admin : Name) (log : List Entry) → IsLegal admin log → Each IsShortNamed (replay admin log).repositories
+replayed_short = each_replayed IsShortNamed (λ creator. short-empty) short-pushed
 
 pub names_short : (admin : Name) (log : List Entry) → IsLegal admin log → (name : Name) (repository : Repository) → get (replay admin log).repositories name ≡ Some repository → HasShortNames repository.refs
-names_short admin log legal name repository is = each_short repository.refs (each_replayed admin log legal name repository is)
+names_short admin log legal name repository is = each_short repository.refs (replayed_short admin log legal name repository is)
 
--- what an opening pinned is what a beginning of the log led to
 pub pinned_short : (admin : Name) (log : List Entry) → IsLegal admin log → (opening : Opening) → Stands opening (record { admin = admin; log = log }) → HasShortNames opening.pinned.repository.refs
-pinned_short admin log legal opening stands =
-    let at = pinned_at admin log opening.place opening.pinned legal stands in
-    each_short opening.pinned.repository.refs
-    (subst (λ (p : Pinned). HasShort p.repository.refs) (sym at.pinned_is)
-    (short_at (replay admin (take (opening.place + 1) log)) (each_replayed admin (take (opening.place + 1) log) (beginning (opening.place + 1))) opening.pinned.repo))
-  where
-    beginning : (n : ℕ) → IsLegal admin (take n log)
-    beginning n = IsLegalFrom-beginning (new_history admin) (take n log) (drop n log) (subst (IsLegal admin) (sym (take-append-drop n log)) legal)
+pinned_short admin log legal opening stands = each_short opening.pinned.repository.refs (each_pinned IsShortNamed replayed_short short-empty admin log legal opening stands)

@@ -1,5 +1,5 @@
 -- Each ref's value is whole in its repository.
-use Rattle.std.proofs.Common.{◌≡◌, ◌⊎◌, inl, inr, ℕ, zero, suc, List, [], ◌∷◌, ◌++◌, refl, sym, ◌∙◌, ap, subst, T, Bool, true, false, not, cond, map, length, nat_lt, append_assoc, append-nil}
+use Rattle.std.proofs.Common.{◌≡◌, ◌⊎◌, inl, inr, ℕ, zero, suc, List, [], ◌∷◌, ◌++◌, refl, sym, ◌∙◌, ap, subst, T, Bool, true, false, not, cond, map, append_assoc, append-nil}
 use Rattle.std.specs.Prelude.{Option, Some, None, if◌then◌else◌}
 use Rattle.std.specs.List.{list_any, slice_get}
 use Rattle.std.specs.Option.{unwrap_or}
@@ -15,7 +15,7 @@ use Rattle.ref_store.specs.declared.command.Command.{Command}
 use Rattle.ref_store.proofs.ObjectLemmas.{same_bytes}
 use Rattle.ancestry.specs.Wholeness.{missing, wrong}
 use Rattle.hub_core.specs.declared.outcome.Outcome.{Outcome}
-use Rattle.hub_core.specs.declared.outcome.Outcome.TheVariants.{BadName, Twice, NotAdvertised, Collided, Full}
+use Rattle.hub_core.specs.declared.outcome.Outcome.TheVariants.{BadName, Twice, NotAdvertised}
 use Rattle.hub_core.specs.declared.verdict.Verdict.{Verdict}
 use Rattle.hub_core.specs.declared.verdict.Verdict.TheVariants.{Allowed, DeniedBy, Fallthru}
 use Rattle.hub_core.specs.declared.verdict.Want.{Want}
@@ -29,12 +29,12 @@ use Rattle.hub_core.specs.Name.{Name}
 use Rattle.hub_core.specs.Rule.{first_stage}
 use Rattle.hub_core.specs.State.{Repository, State, rules_of, changed, repository_at, empty_repository, put_in_place}
 use Rattle.hub_core.specs.Pin.{Opening, Pinned, answer_to, answer_by, by_verdict, made_by, pins}
-use Rattle.hub_core.specs.Push.{is_named_twice, kind_at, by_walk, judged, judgement, by_refs, is_done, refs_after, in_order, together, unless_collided, unless_full, outcomes_in, refs_left, HasWholeRefs}
+use Rattle.hub_core.specs.Push.{is_named_twice, kind_at, by_walk, judged, judgement, by_refs, is_done, refs_after, in_order, outcomes_in, refs_left, HasWholeRefs}
 use Rattle.hub_core.specs.Hub.{Stands}
 use Rattle.hub_core.specs.History.{History, new_history, after, after_push, step, pinned_by, joined, opening_at, outcomes_at, push_change, IsDue, IsDuePush, IsLegal, replay}
 use Rattle.hub_core.proofs.HistoryLemmas.{history-keeps}
 use Rattle.hub_core.proofs.OpeningLemmas.{some_same, pins_granted}
-use Rattle.hub_core.proofs.PushLemmas.{none_alike, done_together}
+use Rattle.hub_core.proofs.PushLemmas.{done_in_order}
 use Rattle.hub_core.specs.Running.{IsWhole}
 use Rattle.hub_core.proofs.GrownObjects.{Extends, whole_grows, with_pack-more, extends_pack, extends_beginning}
 use Rattle.hub_core.proofs.EachRepository.{Each, each-start, each_at, each-opening, each-push, each_pinned}
@@ -105,22 +105,6 @@ module _ (objects : List Content) where
   whole-left : (judge : Command → Option Outcome) → ((c : Command) → Moves objects c (judge c)) → (refs : Refs) (cs : List Command) → WholeIn objects refs → WholeIn objects (refs_left refs cs (in_order refs cs (map judge cs)))
   whole-left judge moves refs [] whole = whole
   whole-left judge moves refs (c ∷ cs) whole = whole-left judge moves (refs_after refs c (by_refs refs c (judge c))) cs (whole-after refs c (judge c) (moves c) whole)
-
--- where one command is done the pack has no collision, and the outcomes are those in order
-done_in_order : (now : Repository) (pack : List Content) (cs : List Command) (atomic : Bool) (js : List (Option Outcome)) → list_any is_done (outcomes_in now pack cs atomic js) ≡ true
-    → (collision now.objects pack ≡ None) × (outcomes_in now pack cs atomic js ≡ in_order now.refs cs js)
-done_in_order now pack cs atomic js = by_collision (collision now.objects pack) refl
-  where
-    by_full : (b : Bool) → list_any is_done (if b then map (λ c. Full (length (with_pack now.objects pack))) cs else together atomic (in_order now.refs cs js)) ≡ true
-        → (if b then map (λ c. Full (length (with_pack now.objects pack))) cs else together atomic (in_order now.refs cs js)) ≡ in_order now.refs cs js
-    by_full true done = absurd (subst T (sym done ∙ none_alike (Full (length (with_pack now.objects pack))) refl cs) tt)
-    by_full false done = done_together atomic (in_order now.refs cs js) done
-
-    by_collision : (o : Option ObjectId) → collision now.objects pack ≡ o
-        → list_any is_done (unless_collided o cs (unless_full (length (with_pack now.objects pack)) cs (together atomic (in_order now.refs cs js)))) ≡ true
-        → (collision now.objects pack ≡ None) × (unless_collided o cs (unless_full (length (with_pack now.objects pack)) cs (together atomic (in_order now.refs cs js))) ≡ in_order now.refs cs js)
-    by_collision (Some id) is done = absurd (subst T (sym done ∙ none_alike (Collided id) refl cs) tt)
-    by_collision None is done = (is, by_full (nat_lt 4294967295 (length (with_pack now.objects pack))) done)
 
 -- the one list begins with the other
 abbrev Begins : List Content → List Content → Type 0

@@ -12,9 +12,9 @@ use Rattle.hub_core.specs.declared.entry.EnterKept.TheVariants.{Granted, Created
 use Rattle.hub_core.specs.declared.entry.Event.TheVariants.{Entered, Pushed}
 use Rattle.hub_core.specs.Name.{Name}
 use Rattle.ref_store.specs.Objects.{HasNamesOnce}
-use Rattle.hub_core.specs.State.{Repository, HasShortNames}
+use Rattle.hub_core.specs.State.{Repository, HasShortNames, HasRefsApart}
 use Rattle.hub_core.specs.Pin.{Opening, Pinned, pinned_in}
-use Rattle.hub_core.specs.Push.{AreWithinLimits, HasWholeRefs}
+use Rattle.hub_core.specs.Push.{AreWithinLimits, HasWholeRefs, judgement, outcomes_in}
 use Rattle.hub_core.specs.History.{history, replay, opening_at, pinned_by, outcomes_at, IsDue, IsLegal}
 use Rattle.hub_core.specs.Hub.{HubView, Stands}
 use Rattle.hub_core.specs.Run.{IsRun, at_end, new_hub}
@@ -88,3 +88,16 @@ RefsStayWhole =
     (admin : Name) (log : List Entry) → IsLegal admin log
     → ((name : Name) (repository : Repository) → get (replay admin log).repositories name ≡ Some repository → HasWholeRefs repository)
     × ((opening : Opening) → Stands opening (record { admin = admin; log = log }) → HasWholeRefs opening.pinned.repository)
+
+-- in the state that a legal log leads to, and in what its openings pinned, no ref of a repository is a directory of another
+abbrev pub RefsStayApart : Type 0
+RefsStayApart =
+    (admin : Name) (log : List Entry) → IsLegal admin log
+    → ((name : Name) (repository : Repository) → get (replay admin log).repositories name ≡ Some repository → HasRefsApart repository.refs)
+    × ((opening : Opening) → Stands opening (record { admin = admin; log = log }) → HasRefsApart opening.pinned.repository.refs)
+
+-- a push has as many outcomes as commands
+abbrev pub EachCommandIsTold : Type 0
+EachCommandIsTold =
+    (now : Repository) (pinned : Pinned) (pack : List Content) (commands : List Command) (atomic : Bool)
+    → length (outcomes_in now pack commands atomic (judgement pinned pack commands)) ≡ length commands

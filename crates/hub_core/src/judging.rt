@@ -41,7 +41,7 @@ impl Judged {
     }
 }
 
-/// Judges each command of a push. The hub isn't looked at, so nothing needs to be held meanwhile. It costs the refs of the opening and the objects that new values lead to before they come to those refs' values; an object from which all is whole is visited once, whatever the number of commands.
+/// Judges each command of a push. The hub isn't looked at, so nothing needs to be held meanwhile. It costs the refs of the opening and the objects that new values lead to before they come to those refs' values. Each of those objects is visited once, whatever the number of commands and whatever they are told; only where links lead in a circle does each command walk by itself, along all that it meets.
 pub fn judge(
     alloc: Global,
     pin: &Pin,

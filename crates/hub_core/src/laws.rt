@@ -1,5 +1,5 @@
 // Laws of the definitions.
-ghost use Rattle.hub_core.specs.Laws.{BeginningIsLegal, LegalByPlaces, NamesStayOnce, NamesStayShort, OpeningStays, PinsOfItsPlace, PushesNameOpenings, RefsStayWhole, RunsAreLegal, StateStays};
+ghost use Rattle.hub_core.specs.Laws.{BeginningIsLegal, EachCommandIsTold, LegalByPlaces, NamesStayOnce, NamesStayShort, OpeningStays, PinsOfItsPlace, PushesNameOpenings, RefsStayApart, RefsStayWhole, RunsAreLegal, StateStays};
 
 /// The laws hold, of every log.
 pub fn hold_laws()
@@ -12,5 +12,7 @@ pub fn hold_laws()
     ensures names { NamesStayOnce }
     ensures short { NamesStayShort }
     ensures whole { RefsStayWhole }
+    ensures apart { RefsStayApart }
+    ensures told { EachCommandIsTold }
     ensures runs { RunsAreLegal }
 {}

@@ -235,10 +235,22 @@ fn another_push_does_what_is_not_refused(rt: HostRuntime) -> Result<(), Fail> {
 fn create_named<D: Desk>(alloc: Global, desk: &mut D, name: &[u8]) -> Result<OutcomeList, Fail>
     requires { length name.now ≤ 1024 }
 {
+    command_named(alloc, desk, name, ObjectId::zero())
+}
+
+// One command for a ref with this text, from this old value to a blob of the pack.
+fn command_named<D: Desk>(
+    alloc: Global,
+    desk: &mut D,
+    name: &[u8],
+    old: ObjectId,
+) -> Result<OutcomeList, Fail>
+    requires { length name.now ≤ 1024 }
+{
     let pin = open(alloc, desk, b"carol", b"testing")?.ok_or("a pin")?;
     let mut commands = CommandList::new(alloc);
     commands.push(Command {
-        old: ObjectId::zero(),
+        old,
         new: blob_id(alloc, b"1")?,
         name: Text::of(alloc, name)?,
     })?;
@@ -258,6 +270,8 @@ fn a_ref_needs_a_name_and_no_ref_in_its_way(rt: HostRuntime) -> Result<(), Fail>
     let below = create_named(alloc, &mut desk, b"refs/tags/a/b")?;
     let first = RefName::parse(alloc, b"refs/tags/a")?.ok_or("a name")?;
     assert!(rt; is_told(&below, &Outcome::DirFile(first)));
+    let absent = command_named(alloc, &mut desk, b"refs/tags/c", blob_id(alloc, b"1")?)?;
+    assert!(rt; is_told(&absent, &Outcome::NotAdvertised(ObjectId::zero())));
     assert_eq!(rt; desk.into_hub().ref_count(), 1);
     Ok(())
 }

@@ -1,4 +1,4 @@
-use Rattle.std.proofs.Common.{rules, ◌≡◌, Bool, sym, ◌∙◌, ap}
+use Rattle.std.proofs.Common.{rules, ◌≡◌, Bool, ◌∙◌, ap}
 use Rattle.std.specs.Prelude.{is_some}
 use Rattle.std.specs.FinMap.{get, insert}
 use Rattle.hub_core.specs.Name.{Name}

@@ -5,6 +5,8 @@ use Rattle.hub_core.proofs.HistoryLemmas.{IsLegalFrom-beginning, stands_kept, du
 use Rattle.hub_core.proofs.ObjectLemmas.{names_once}
 use Rattle.hub_core.proofs.ShortNames.{names_short, pinned_short}
 use Rattle.hub_core.proofs.WholeRefs.{refs_whole, pinned_whole}
+use Rattle.hub_core.proofs.RefsApart.{refs_apart, pinned_apart}
+use Rattle.hub_core.proofs.PushLemmas.{length-outcomes}
 use Rattle.hub_core.specs.Run.{new_hub}
 use Rattle.hub_core.proofs.OpeningLemmas.{push_named}
 use Rattle.hub_core.proofs.RunLemmas.{run_keeps}
@@ -33,6 +35,12 @@ returns-clause-short c = λ admin log legal. (λ name repository is. names_short
 
 pub returns-clause-whole : goal.returns-clause-whole
 returns-clause-whole c = λ admin log legal. (λ name repository is. refs_whole admin log legal name repository is, λ opening stands. pinned_whole admin log legal opening stands)
+
+pub returns-clause-apart : goal.returns-clause-apart
+returns-clause-apart c = λ admin log legal. (λ name repository is. refs_apart admin log legal name repository is, λ opening stands. pinned_apart admin log legal opening stands)
+
+pub returns-clause-told : goal.returns-clause-told
+returns-clause-told c = λ now pinned pack commands atomic. length-outcomes now pinned pack commands atomic
 
 pub returns-clause-runs : goal.returns-clause-runs
 returns-clause-runs c = λ admin later run. run_keeps (new_hub admin) later run tt

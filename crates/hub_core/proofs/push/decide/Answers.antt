@@ -1,9 +1,7 @@
-use Rattle.std.proofs.Common.{◌≡◌, ◌<◌, ◌++◌, Bool, true, false, nat_lt, cond, List, map, sym, ◌∙◌, ap, arith, length, refl, subst}
+use Rattle.std.proofs.Common.{◌≡◌, ◌++◌, List, sym, ◌∙◌, ap, arith, length, refl, subst}
 use Rattle.std.proofs.lemmas.Grind.{common_steps}
-use Rattle.std.proofs.lemmas.Bool.Decides.{nat_tests}
 use Rattle.std.specs.List.{list_any}
-use Rattle.git_object.specs.Content.{Content}
-use Rattle.ref_store.specs.Objects.{HasNamesOnce, IsFirstCollision, with_pack}
+use Rattle.ref_store.specs.Objects.{HasNamesOnce, IsFirstCollision}
 use Rattle.ref_store.specs.Store.{Store, TellsOfAdding, left_by}
 use Rattle.ref_store.specs.declared.command.Command.{Command}
 use Rattle.ref_store.specs.declared.repo.Added.TheVariants as adding

@@ -1,4 +1,4 @@
-use Rattle.std.proofs.Common.{◌≡◌, ◌<◌, get_or, sym, subst}
+use Rattle.std.proofs.Common.{◌<◌, get_or, sym, subst}
 use Rattle.hub_core.specs.Running.{FitsCommand}
 use Rattle.hub_core.proofs.RunningLemmas.{fits_at}
 use Rattle.hub_core.proofs.push.run.Goals as goal
