@@ -142,7 +142,7 @@ fn what_is_missing(rt: HostRuntime) -> Result<(), Fail> {
     let alloc = rt.alloc();
     let mut stored = ObjectList::new(alloc);
     let blob = put(&mut stored, object(alloc, Kind::Blob, b"x")?)?;
-    let files = put(&mut stored, tree(alloc, &[("100644 a", blob)])?)?;
+    let files = put(&mut stored, tree(alloc, &[("100664 a", blob)])?)?;
     let submodule = put(&mut stored, tree(alloc, &[("160000 a", absent(7))])?)?;
     let mut pack = ObjectList::new(alloc);
     let first = put(&mut pack, commit(alloc, files, &[])?)?;
