@@ -183,6 +183,20 @@ fn ids_are_forty_lower_case_digits(rt: HostRuntime) -> Result<(), Fail> {
     Ok(())
 }
 
+#[test]
+fn kinds_have_their_numbers(rt: HostRuntime) -> Result<(), Fail> {
+    for (kind, number) in [
+        (Kind::Commit, 1),
+        (Kind::Tree, 2),
+        (Kind::Blob, 3),
+        (Kind::Tag, 4),
+    ] {
+        assert_eq!(rt; kind as u8, number);
+        assert!(rt; Kind::from_word(kind.word()) == Some(kind));
+    }
+    Ok(())
+}
+
 fn crosses_threads<T: Send + Sync + Drop>(_value: T) {}
 
 #[test]

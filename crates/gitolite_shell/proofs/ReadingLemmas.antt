@@ -6,7 +6,7 @@ use Rattle.pktline_core.specs.LinkState.{LinkState}
 use Rattle.pktline_core.specs.Links.{IsLater}
 use Rattle.pktline_core.proofs.LinkLemmas.{consumes_more, risen_later}
 use Rattle.gitolite_shell.specs.Frames.{head_text, frame_text, BeginsNoFrame}
-use Rattle.gitolite_shell.specs.ReadingFrames.{StopsAtByte, Takes, FailsAfter, HasNoFeed, IsRest, TakesNoLine, StopsInLine, IsSizeIn, HasNoSize, TakesBody, StopsInBody, TakesFrame, TakesNoFrame, StopsInFrame}
+use Rattle.gitolite_shell.specs.ReadingFrames.{StopsAtByte, Takes, FailsAfter, HasNoFeed, IsRest, TakesNoLine, StopsInLine, IsSizeIn, HasNoSize, TakesBody, StopsInBody, TakesFrame, TakesNoFrame, WantsMore, StopsInFrame}
 use Rattle.gitolite_shell.specs.declared.frames.FrameFault.{FrameFault}
 use Rattle.gitolite_shell.specs.declared.frames.FrameFault.TheVariants.{Bad, ReadFault, NoMemory}
 use Rattle.gitolite_shell.proofs.FrameLemmas.{begins_line, begins_long, begins_cut, begins_short, begins_open}
@@ -49,7 +49,7 @@ no_line a b t = record { part = t.part; takes = t.takes; some = some_part t.part
 
 pub line_stops : (a b : LinkState) (fault : FrameFault) → StopsInLine a b fault → StopsInFrame a b fault
 line_stops a b Bad t = no_line a b t
-line_stops a b ReadFault t = record { part = t.part; none = begins_cut t.part t.no_feed; fails = t.fails }
+line_stops a b ReadFault t = record { part = t.part; none = begins_cut t.part t.no_feed; wants = inl (t.no_feed, t.short); fails = t.fails }
 line_stops a b NoMemory t = tt
 
 module _ (a b : LinkState) (line : List ℕ) (first : Takes a b (line ++ 10 ∷ [])) where
@@ -68,6 +68,9 @@ module _ (a b : LinkState) (line : List ℕ) (first : Takes a b (line ++ 10 ∷ 
     short : (part : List ℕ) → length part ≤ n → BeginsNoFrame ((line ++ 10 ∷ []) ++ part)
     short part less = subst (λ (l : List ℕ). BeginsNoFrame ((l ++ 10 ∷ []) ++ part)) (sym size.head) (begins_short n size.small part less)
 
+    wants : (part : List ℕ) → length part ≤ n → WantsMore ((line ++ 10 ∷ []) ++ part)
+    wants part less = inr (n, part, size.small, append_assoc line (10 ∷ []) part ∙ ap (λ (l : List ℕ). l ++ 10 ∷ part) size.head, less)
+
     ended : (c : LinkState) (part : List ℕ) → Takes b c part → length part ≤ n → IsAtEnd c.left → TakesNoFrame a c
     ended c part more less end = record {
       part = (line ++ 10 ∷ []) ++ part;
@@ -78,7 +81,7 @@ module _ (a b : LinkState) (line : List ℕ) (first : Takes a b (line ++ 10 ∷ 
 
     pub body_stops : (c : LinkState) (fault : FrameFault) → IsLater a b → StopsInBody b c n fault → StopsInFrame a c fault
     body_stops c Bad later t = ended c t.part t.takes (omega (arith, t.short)) t.ended
-    body_stops c ReadFault later t = record { part = (line ++ 10 ∷ []) ++ t.part; none = short t.part (omega (arith, t.short)); fails = fails_more a b c (line ++ 10 ∷ []) t.part first later t.fails }
+    body_stops c ReadFault later t = record { part = (line ++ 10 ∷ []) ++ t.part; none = short t.part (omega (arith, t.short)); wants = wants t.part (omega (arith, t.short)); fails = fails_more a b c (line ++ 10 ∷ []) t.part first later t.fails }
     body_stops c NoMemory later t = tt
 
     module _ (c d : LinkState) (body : List ℕ) (second : TakesBody b c n body) where
@@ -111,5 +114,5 @@ module _ (a b : LinkState) (line : List ℕ) (first : Takes a b (line ++ 10 ∷ 
 
       pub byte_stops : (fault : FrameFault) → IsLater a c → StopsAtByte c d fault → StopsInFrame a d fault
       byte_stops Bad later stop = absurd stop
-      byte_stops ReadFault later stop = record { part = (line ++ 10 ∷ []) ++ body; none = short body (omega (arith, second.sized)); fails = fails_here a c d ((line ++ 10 ∷ []) ++ body) both later stop }
+      byte_stops ReadFault later stop = record { part = (line ++ 10 ∷ []) ++ body; none = short body (omega (arith, second.sized)); wants = wants body (omega (arith, second.sized)); fails = fails_here a c d ((line ++ 10 ∷ []) ++ body) both later stop }
       byte_stops NoMemory later stop = tt

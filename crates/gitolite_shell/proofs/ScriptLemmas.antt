@@ -12,7 +12,7 @@ use Rattle.pktline_core.proofs.LinkLemmas.{appends_more, risen_later}
 use Rattle.hub_core.specs.declared.entry.Entry.{Entry}
 use Rattle.hub_core.specs.Name.{Name}
 use Rattle.hub_core.specs.Desk.{DeskView}
-use Rattle.interaction_tree.specs.Traces.{Begins}
+use Rattle.interaction_tree.specs.Traces.{FallsShort}
 use Rattle.interaction_tree.specs.Turns as stop
 use Rattle.interaction_tree.specs.Alone.{TurnAlone}
 use Rattle.interaction_tree.specs.Endings.{IsInput, EndsAsDue}
@@ -143,9 +143,9 @@ input_of (Some input) (Some rest) taken consumed = (rest, refl, consumed)
 
 runs_to : (s s' s'' k k' k'' : LinkState) (d d' d'' : DeskView) (bodies : List (List ℕ)) (part : List ℕ) (at : Option ℕ)
     → Advances s s' k k' d d' 1 bodies → Takes s' s'' part → ((more : List ℕ) → IsRest s''.left more → BeginsNoFrame (part ++ more) × (bad_offset bodies (part ++ more) ≡ at))
-    → Appends k'.written k''.written (last_line at) → d'' ≡ d' → RunsScript s s'' k k'' d.admin d.seen d''.seen (is_some at)
+    → (IsTrue (is_some at) → 0 < length part) → Appends k'.written k''.written (last_line at) → d'' ≡ d' → RunsScript s s'' k k'' d.admin d.seen d''.seen (is_some at)
 unfolding script
-runs_to s s' s'' k k' k'' d d' d'' bodies part at advances last follows wrote same =
+runs_to s s' s'' k k' k'' d d' d'' bodies part at advances last follows some wrote same =
     let takes = takes_more s s' s'' (flat_map frame_text bodies) part advances.takes last in
     let whole = input_of s.left s''.left (flat_map frame_text bodies ++ part) takes.consumed in
     let here = follows whole.0 whole.1 in
@@ -157,7 +157,8 @@ runs_to s s' s'' k k' k'' d d' d'' bodies part at advances last follows wrote sa
       told = whole.2;
       is_script = record { frames = append_assoc (flat_map frame_text bodies) part whole.0; small = advances.small; stops = here.0 };
       bad_is = ap is_some here.1;
-      begins = (whole.0, refl);
+      follows = (whole.0, whole.1, refl);
+      some = some;
       takes = takes;
       written = rw here.1 (appends_more k.written k'.written k''.written _ _ advances.written wrote);
       log_is = ap (λ (e : DeskView). e.seen) same ∙ advances.seen;
@@ -167,7 +168,7 @@ pub runs_end : (s s' s'' k k' k'' : LinkState) (d d' d'' : DeskView) (bodies : L
 runs_end s s' s'' k k' k'' d d' d'' bodies advances end =
     runs_to s s' s'' k k' k'' d d' d'' bodies [] None advances end.takes
     (λ more is. let none : more ≡ [] = no_rest s''.left more end.ended is in rw none (begins_none, refl))
-    (rw end.sink_is (Appends-nil k'.written)) end.desk_is
+    (λ bad. absurd (let none : false ≡ true = bad in cc)) (rw end.sink_is (Appends-nil k'.written)) end.desk_is
 
 bad_some : (bodies : List (List ℕ)) (part more : List ℕ) (offset : ℕ) → 0 < length part → offset ≡ length (flat_map frame_text bodies) → bad_offset bodies (part ++ more) ≡ Some offset
 bad_some bodies [] more offset some is = absurd (omega (arith, some))
@@ -177,7 +178,7 @@ pub runs_bad : (s s' s'' k k' k'' : LinkState) (d d' d'' : DeskView) (bodies : L
     → FindsBad s' s'' k' k'' d' d'' offset → RunsScript s s'' k k'' d.admin d.seen d''.seen true
 runs_bad s s' s'' k k' k'' d d' d'' bodies offset advances is bad =
     runs_to s s' s'' k k' k'' d d' d'' bodies bad.read.part (Some offset) advances bad.read.takes
-    (λ more rest. (bad.read.bad more rest, bad_some bodies bad.read.part more offset bad.read.some is)) bad.written bad.desk_is
+    (λ more rest. (bad.read.bad more rest, bad_some bodies bad.read.part more offset bad.read.some is)) (λ bad_is. bad.read.some) bad.written bad.desk_is
 
 -- IV. The loop
 
@@ -201,14 +202,15 @@ module _ (s s' s'' k k' k'' : LinkState) (d d' d'' : DeskView) (bodies : List (L
     part = fails.read.part;
     small = advances.small;
     none = fails.read.none;
+    wants = fails.read.wants;
     takes = takes_more s s' s'' (flat_map frame_text bodies) fails.read.part advances.takes fails.read.fails.takes;
     written = rw fails.sink_is advances.written;
     log_is = ap (λ (e : DeskView). e.seen) fails.desk_is ∙ advances.seen;
     risen = risen_later s.read_faults s'.read_faults s''.read_faults later.read_faults fails.read.fails.risen;
   }
 
-  more_begins : (out bytes text : List ℕ) → Begins bytes text → Begins (out ++ bytes) (out ++ text)
-  more_begins out bytes text begins = (begins.0, ap (λ (l : List ℕ). out ++ l) begins.1 ∙ sym (append_assoc out bytes begins.0))
+  more_short : (out bytes text : List ℕ) → FallsShort bytes text → FallsShort (out ++ bytes) (out ++ text)
+  more_short out bytes text short = (short.0, ap (λ (l : List ℕ). out ++ l) short.1 ∙ sym (append_assoc out bytes short.0), short.2)
 
   stops_told : (offset : ℕ) → offset ≡ length (flat_map frame_text bodies) → IsLater k k' → TellsPart s' s'' k' k'' d' d'' offset → StopsAtWrite s s'' k k'' d.admin d.seen d''.seen
   unfolding script
@@ -216,7 +218,7 @@ module _ (s s' s'' k k' k'' : LinkState) (d d' d'' : DeskView) (bodies : List (L
       let takes = takes_more s s' s'' (flat_map frame_text bodies) tells.read.part advances.takes tells.read.takes in
       let whole = input_of s.left s''.left (flat_map frame_text bodies ++ tells.read.part) takes.consumed in
       let out : List ℕ = (sessions d.admin 1 bodies d.seen).output in
-      let begins = more_begins out tells.part.bytes (fault_text offset) tells.part.begins in
+      let short = more_short out tells.part.bytes (fault_text offset) tells.part.short in
       record {
         done = bodies;
         more = tells.part.bytes;
@@ -228,9 +230,10 @@ module _ (s s' s'' k k' k'' : LinkState) (d d' d'' : DeskView) (bodies : List (L
               told = subst (IsInput s.left) (append_assoc (flat_map frame_text bodies) tells.read.part whole.0) whole.2;
               small = advances.small;
               none = tells.read.bad whole.0 whole.1;
-              starts = (whole.0, refl);
+              follows = (whole.0, whole.1, refl);
+              some = tells.read.some;
               takes = takes;
-              begins = rw (bad_some bodies tells.read.part whole.0 offset tells.read.some place) begins;
+              short = rw (bad_some bodies tells.read.part whole.0 offset tells.read.some place) short;
               log_is = ap (λ (e : DeskView). e.seen) tells.desk_is ∙ advances.seen;
             });
         risen = risen_later k.write_faults k'.write_faults k''.write_faults later.write_faults tells.part.risen;
@@ -256,7 +259,7 @@ module _ (s s' s'' k k' k'' : LinkState) (d d' d'' : DeskView) (bodies : List (L
               body = part.body;
               small = bodies_more bodies (part.body ∷ []) advances.small (part.read.small, tt);
               takes = subst (λ (l : List ℕ). Takes s s'' l) frames takes;
-              begins = rw (more, one, ← printed) (more_begins out part.part.bytes part.text part.part.begins);
+              short = rw (more, one, ← printed) (more_short out part.part.bytes part.text part.part.short);
               log_is = rw (more, one) seen;
             });
         risen = risen_later k.write_faults k'.write_faults k''.write_faults later.write_faults part.part.risen;

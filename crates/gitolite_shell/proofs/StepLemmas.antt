@@ -1,5 +1,5 @@
 -- Calls of a session, one after the other.
-use Rattle.std.proofs.Common.{◌≡◌, inl, inr, ℕ, List, [], ◌++◌, length, Option, Result, Ok, Err, refl, sym, ◌∙◌, ap, subst, append_assoc}
+use Rattle.std.proofs.Common.{◌≡◌, inl, inr, ℕ, List, [], ◌++◌, length, Option, Result, Ok, Err, refl, sym, ◌∙◌, ap, subst, arith, append_assoc, length-append}
 use Rattle.std.specs.Io.KnownBytes.{IsAtEnd}
 use Rattle.pktline_core.specs.LinkState.{LinkState}
 use Rattle.pktline_core.specs.Links.{IsLater, KeepsReading, KeepsWriting}
@@ -12,7 +12,7 @@ use Rattle.hub_core.specs.Desk.{DeskView}
 use Rattle.interaction_tree.specs.Wanted.{Packet, front_of, Reply}
 use Rattle.interaction_tree.specs.Requests.{OwnEntry}
 use Rattle.interaction_tree.specs.Interaction.{Interaction, gives, ends, writes, ◌>>=◌, write, read}
-use Rattle.interaction_tree.specs.Traces.{Reading, Writing, Memory, Halt, Ended, Failed, Begins, IsTrace}
+use Rattle.interaction_tree.specs.Traces.{Reading, Writing, Memory, Halt, Ended, Failed, Begins, FallsShort, IsTrace}
 use Rattle.interaction_tree.specs.Runs.{Runs, TakesOnly}
 use Rattle.interaction_tree.proofs.RunLemmas.{runs_still, runs_bind, runs_halts, runs_read, runs_failed, runs_cut}
 use Rattle.gitolite_shell.specs.declared.end.SessionEnd.{SessionEnd}
@@ -50,6 +50,9 @@ not_built_here a b d halt ran = refused a b d _ _ halt ran
 begins_more : (front bytes more : List ℕ) → Begins front bytes → Begins front (bytes ++ more)
 begins_more front bytes more b = (b.0 ++ more, ap (λ (l : List ℕ). l ++ more) b.1 ∙ append_assoc front b.0 more)
 
+short_more : (front bytes more : List ℕ) → FallsShort front bytes → FallsShort front (bytes ++ more)
+short_more front bytes more s = (s.0 ++ more, ap (λ (l : List ℕ). l ++ more) s.1 ∙ append_assoc front s.0 more, omega (arith, s.2, length-append s.0 more))
+
 module _ {A : Type 0} (left : Option (List ℕ)) (x y : List ℕ) (t : Interaction SessionEnd A) where
   -- standing in the second part
   still_second : (out : Result A (Halt SessionEnd)) (read written more : List ℕ) (own : List OwnEntry) → written ≡ x ++ more → IsTrace left out (writes y t) read more own → IsTrace left out (writes (x ++ y) t) read written own
@@ -57,7 +60,7 @@ module _ {A : Type 0} (left : Option (List ℕ)) (x y : List ℕ) (t : Interacti
   still_second (Err (Ended e)) read written more own is (inl p) = absurd p.0
   still_second (Err (Failed Reading)) read written more own is (inl p) = absurd p.0
   still_second (Err (Failed Writing)) read written more own is (inl p) =
-      inl ((p.0.0, (p.0.1.0, ap (λ (l : List ℕ). x ++ l) p.0.1.1 ∙ sym (append_assoc x more p.0.1.0) ∙ ap (λ (l : List ℕ). l ++ p.0.1.0) (sym is))), p.1)
+      inl ((p.0.0, (p.0.1.0, ap (λ (l : List ℕ). x ++ l) p.0.1.1 ∙ sym (append_assoc x more p.0.1.0) ∙ ap (λ (l : List ℕ). l ++ p.0.1.0) (sym is), p.0.1.2)), p.1)
   still_second (Err (Failed Memory)) read written more own is (inl p) =
       inl ((p.0.0, (p.0.1.0, ap (λ (l : List ℕ). x ++ l) p.0.1.1 ∙ sym (append_assoc x more p.0.1.0) ∙ ap (λ (l : List ℕ). l ++ p.0.1.0) (sym is))), p.1)
   still_second out read written more own is (inr p) = inr (p.0, is ∙ ap (λ (l : List ℕ). x ++ l) p.1 ∙ sym (append_assoc x y p.0), p.2)
@@ -66,7 +69,7 @@ module _ {A : Type 0} (left : Option (List ℕ)) (x y : List ℕ) (t : Interacti
   trace_joined (Ok v) read written own (inl p) = absurd p.0
   trace_joined (Err (Ended e)) read written own (inl p) = absurd p.0
   trace_joined (Err (Failed Reading)) read written own (inl p) = absurd p.0
-  trace_joined (Err (Failed Writing)) read written own (inl p) = inl ((p.0.0, begins_more written x y p.0.1), p.1)
+  trace_joined (Err (Failed Writing)) read written own (inl p) = inl ((p.0.0, short_more written x y p.0.1), p.1)
   trace_joined (Err (Failed Memory)) read written own (inl p) = inl ((p.0.0, begins_more written x y p.0.1), p.1)
   trace_joined out read written own (inr p) = still_second out read written p.0 own p.1 p.2
 

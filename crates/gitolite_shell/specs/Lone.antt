@@ -79,6 +79,10 @@ EndsSurely words source source' sink sink' number =
     (HasRisen source.read_faults source'.read_faults → ⊥) → (HasRisen sink.write_faults sink'.write_faults → ⊥)
     → ((script_admin words ≡ None) × ((number ≡ 1) ⊎ (number ≡ 4))) ⊎ (((admin : Name) × (script_admin words ≡ Some admin)) × ((number ≡ 0) ⊎ (number ≡ 4) ⊎ (number ≡ 7)))
 
+-- A run that doesn't end with 2 had no failed read of its input, and one that doesn't end with 3 no failed write of its output.
+abbrev pub HidesNoFault : LinkState → LinkState → LinkState → LinkState → ℕ → Type 0
+HidesNoFault source source' sink sink' number = ((number ≡ 2) ⊎ (source'.read_faults ≡ source.read_faults)) × ((number ≡ 3) ⊎ (sink'.write_faults ≡ sink.write_faults))
+
 -- how a script's end is told
 abbrev pub status_of : Result (Unit {0}) ScriptFault → Status
 status_of (Ok unit) = Done

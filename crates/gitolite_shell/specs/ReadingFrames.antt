@@ -1,5 +1,5 @@
 -- What reading a frame takes.
-use Rattle.std.specs.Prelude.{◌≡◌, ◌⊎◌, ⊤, ℕ, ◌+◌, ◌≤◌, ◌<◌, ◌^◌, List, [], ◌∷◌, ◌++◌, length, IsTrue, decimal, Option, Some, None}
+use Rattle.std.specs.Prelude.{◌≡◌, ◌⊎◌, ⊤, ℕ, ◌+◌, ◌≤◌, ◌<◌, ◌^◌, List, [], ◌∷◌, ◌++◌, length, IsTrue, decimal, Option, Some, None, Result, Err}
 use Rattle.std.specs.Io.KnownBytes.{Consumes, IsAtEnd}
 use Rattle.base_types.specs.Counts.{HasRisen}
 use Rattle.pktline_core.specs.LinkState.{LinkState}
@@ -51,10 +51,11 @@ pub record TakesNoLine (old new : LinkState) : Type 0 where
   pub no_feed : HasNoFeed part
   pub ended : (17 < length part) ⊎ ((0 < length part) × IsAtEnd new.left)
 
--- a read failed inside a line
+-- a read failed inside a line, of which so far no more than the first line of a frame has was taken
 pub record FailsInLine (old new : LinkState) : Type 0 where
   pub part : List ℕ
   pub no_feed : HasNoFeed part
+  pub short : length part ≤ 17
   pub fails : FailsAfter old new part
 
 abbrev pub StopsInLine : LinkState → LinkState → FrameFault → Type 0
@@ -111,13 +112,25 @@ pub record TakesNoFrame (old new : LinkState) : Type 0 where
   pub some : 0 < length part
   pub bad : (rest : List ℕ) → IsRest new.left rest → BeginsNoFrame (part ++ rest)
 
--- a read failed before a whole frame was taken
+-- More is wanted behind this part of a frame: its first line isn't whole and has no more bytes than one may have, or its body or last line feed isn't there.
+abbrev pub WantsMore : List ℕ → Type 0
+WantsMore part =
+    (HasNoFeed part × (length part ≤ 17))
+    ⊎ ((size : ℕ) × (body : List ℕ) × (size ≤ largest_body) × (part ≡ head_text size ++ 10 ∷ body) × (length body ≤ size))
+
+-- a read failed before a whole frame was taken, where more is wanted
 pub record FailsInFrame (old new : LinkState) : Type 0 where
   pub part : List ℕ
   pub none : BeginsNoFrame part
+  pub wants : WantsMore part
   pub fails : FailsAfter old new part
 
 abbrev pub StopsInFrame : LinkState → LinkState → FrameFault → Type 0
 StopsInFrame old new Bad = TakesNoFrame old new
 StopsInFrame old new ReadFault = FailsInFrame old new
 StopsInFrame old new NoMemory = ⊤
+
+-- no failed read is hidden
+abbrev pub TellsRead : {V : Type 0} → LinkState → LinkState → Result V FrameFault → Type 0
+TellsRead old new (Err ReadFault) = ⊤
+TellsRead old new answer = new.read_faults ≡ old.read_faults

@@ -1,5 +1,5 @@
 -- What running a script does.
-use Rattle.std.specs.Prelude.{◌≡◌, ◌⊎◌, ⊤, ℕ, List, [], ◌∷◌, ◌++◌, length, Bool, true, IsTrue, is_some}
+use Rattle.std.specs.Prelude.{◌≡◌, ◌⊎◌, ⊤, ℕ, ◌<◌, Option, List, [], ◌∷◌, ◌++◌, length, Bool, true, IsTrue, is_some, Result, Err}
 use Rattle.std.specs.List.{flat_map}
 use Rattle.std.specs.Io.KnownBytes.{Appends, IsAtEnd}
 use Rattle.base_types.specs.Counts.{HasRisen}
@@ -7,10 +7,10 @@ use Rattle.pktline_core.specs.LinkState.{LinkState}
 use Rattle.hub_core.specs.declared.entry.Entry.{Entry}
 use Rattle.hub_core.specs.Name.{Name}
 use Rattle.hub_core.specs.Desk.{DeskView}
-use Rattle.interaction_tree.specs.Traces.{Begins}
+use Rattle.interaction_tree.specs.Traces.{FallsShort}
 use Rattle.interaction_tree.specs.Endings.{IsInput}
 use Rattle.gitolite_shell.specs.Frames.{frame_text, AreBodies, BeginsNoFrame, IsScript}
-use Rattle.gitolite_shell.specs.ReadingFrames.{Takes, TakesFrame, TakesNoFrame, FailsInFrame}
+use Rattle.gitolite_shell.specs.ReadingFrames.{Takes, IsRest, TakesFrame, TakesNoFrame, WantsMore, FailsInFrame}
 use Rattle.gitolite_shell.specs.Script.{stop_word, reply_text, fault_text, served_alone, sessions, bad_offset, script}
 use Rattle.gitolite_shell.specs.declared.script.ScriptFault.{ScriptFault}
 use Rattle.gitolite_shell.specs.declared.script.ScriptFault.TheVariants.{BadScript, InputFault, OutputFault, NoMemory}
@@ -50,10 +50,10 @@ pub record FindsBad (source source' sink sink' : LinkState) (old new : DeskView)
   pub written : Appends sink.written sink'.written (fault_text offset)
   pub desk_is : new ≡ old
 
--- a beginning of a text was written, and then a write failed
+-- a beginning of a text was written, and a write failed before its last byte
 pub record WritesPart (sink sink' : LinkState) (text : List ℕ) : Type 0 where
   pub bytes : List ℕ
-  pub begins : Begins bytes text
+  pub short : FallsShort bytes text
   pub written : Appends sink.written sink'.written bytes
   pub risen : HasRisen sink.write_faults sink'.write_faults
 
@@ -92,8 +92,12 @@ StopsAdvancing source source' sink sink' old new number offset InputFault = Fail
 StopsAdvancing source source' sink sink' old new number offset OutputFault = ServesPart source source' sink sink' old new number ⊎ TellsPart source source' sink sink' old new offset
 StopsAdvancing source source' sink sink' old new number offset NoMemory = ⊤
 
+-- Of what follows the frames this part was read: all of it, where the source doesn't tell what is left.
+abbrev pub IsReadOf : Option (List ℕ) → List ℕ → List ℕ → Type 0
+IsReadOf left part rest = (more : List ℕ) × IsRest left more × (rest ≡ part ++ more)
+
 -- A script was run to its end, or to a bad frame: the input is a script, and what was printed, and the log from one to another, are that script's.
--- Of what follows the frames a part was read, which shows that no frame stands there.
+-- Of what follows the frames a part was read, a byte at least where it is bad.
 pub record RunsScript (source source' sink sink' : LinkState) (admin : Name) (log log' : List Entry) (bad : Bool) : Type 0 where
   pub input : List ℕ
   pub bodies : List (List ℕ)
@@ -102,40 +106,43 @@ pub record RunsScript (source source' sink sink' : LinkState) (admin : Name) (lo
   pub told : IsInput source.left input
   pub is_script : IsScript input bodies rest
   pub bad_is : is_some (bad_offset bodies rest) ≡ bad
-  pub begins : Begins part rest
+  pub follows : IsReadOf source'.left part rest
+  pub some : IsTrue bad → 0 < length part
   pub takes : Takes source source' (flat_map frame_text bodies ++ part)
   pub written : Appends sink.written sink'.written (script admin bodies rest log).output
   pub log_is : log' ≡ (script admin bodies rest log).log
 
--- A read failed: the sessions of all frames that were read whole were served and printed.
+-- A read failed inside a frame: the sessions of all frames that were read whole were served and printed.
 pub record StopsAtRead (source source' sink sink' : LinkState) (admin : Name) (log log' : List Entry) : Type 0 where
   pub bodies : List (List ℕ)
   pub part : List ℕ
   pub small : AreBodies bodies
   pub none : BeginsNoFrame part
+  pub wants : WantsMore part
   pub takes : Takes source source' (flat_map frame_text bodies ++ part)
   pub written : Appends sink.written sink'.written (sessions admin 1 bodies log).output
   pub log_is : log' ≡ (sessions admin 1 bodies log).log
   pub risen : HasRisen source.read_faults source'.read_faults
 
--- the session of the next frame was served, and what was printed begins what is printed of these and of that one
+-- the session of the next frame was served, and what was printed falls short of what is printed of these and of that one
 pub record StopsServing (source source' : LinkState) (admin : Name) (log log' : List Entry) (done : List (List ℕ)) (printed : List ℕ) : Type 0 where
   pub body : List ℕ
   pub small : AreBodies (done ++ body ∷ [])
   pub takes : Takes source source' (flat_map frame_text (done ++ body ∷ []))
-  pub begins : Begins printed (sessions admin 1 (done ++ body ∷ []) log).output
+  pub short : FallsShort printed (sessions admin 1 (done ++ body ∷ []) log).output
   pub log_is : log' ≡ (sessions admin 1 (done ++ body ∷ []) log).log
 
--- no frame follows, and what was printed begins what is printed of these and of the bad frame
+-- no frame follows, and what was printed falls short of what is printed of these and of the bad frame
 pub record StopsTelling (source source' : LinkState) (admin : Name) (log log' : List Entry) (done : List (List ℕ)) (printed : List ℕ) : Type 0 where
   pub rest : List ℕ
   pub part : List ℕ
   pub told : IsInput source.left (flat_map frame_text done ++ rest)
   pub small : AreBodies done
   pub none : BeginsNoFrame rest
-  pub starts : Begins part rest
+  pub follows : IsReadOf source'.left part rest
+  pub some : 0 < length part
   pub takes : Takes source source' (flat_map frame_text done ++ part)
-  pub begins : Begins printed (script admin done rest log).output
+  pub short : FallsShort printed (script admin done rest log).output
   pub log_is : log' ≡ (sessions admin 1 done log).log
 
 -- A write failed. The sessions of these frames were served and printed whole; then the next session was served, or a frame was found to be bad, and a beginning of that was printed.
@@ -154,3 +161,12 @@ StopsScript source source' sink sink' admin log log' BadScript = RunsScript sour
 StopsScript source source' sink sink' admin log log' InputFault = StopsAtRead source source' sink sink' admin log log'
 StopsScript source source' sink sink' admin log log' OutputFault = StopsAtWrite source source' sink sink' admin log log'
 StopsScript source source' sink sink' admin log log' NoMemory = ⊤
+
+-- no failed read of the input is hidden, and no failed write of the output
+abbrev pub TellsInput : {V : Type 0} → LinkState → LinkState → Result V ScriptFault → Type 0
+TellsInput old new (Err InputFault) = ⊤
+TellsInput old new answer = new.read_faults ≡ old.read_faults
+
+abbrev pub TellsOutput : {V : Type 0} → LinkState → LinkState → Result V ScriptFault → Type 0
+TellsOutput old new (Err OutputFault) = ⊤
+TellsOutput old new answer = new.write_faults ≡ old.write_faults

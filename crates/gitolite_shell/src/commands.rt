@@ -3,7 +3,7 @@ ghost use Rattle.std.specs.Prelude.{◌≡◌, IfOk, IfSome, OnOk};
 ghost use Rattle.hub_core.specs.Desk.{DeskView};
 ghost use Rattle.hub_core.specs.Push.{AreWithinLimits};
 ghost use Rattle.interaction_tree.specs.Runs.{Runs};
-ghost use Rattle.gitolite_shell.specs.End.{outcome_of};
+ghost use Rattle.gitolite_shell.specs.End.{TellsLink, outcome_of};
 ghost use Rattle.gitolite_shell.specs.Create.{HasShortName, first_at, further_create};
 ghost use Rattle.gitolite_shell.specs.Readers.{IsReady};
 ghost use Rattle.gitolite_shell.specs.Session.{or_not_built, taking_commands, taking_flush, taking_further};
@@ -27,6 +27,7 @@ pub fn first_in<L: Link>(
     line: &[u8],
 ) -> Result<Command, SessionEnd>
     ensures runs { (desk : DeskView) → Runs (L.state link.old) (L.state link.new) desk desk (or_not_built (first_at repo.now line.now)) (outcome_of result) }
+    ensures tells { TellsLink (L.state link.old) (L.state link.new) result }
     ensures same { OnOk result (L.state link.new ≡ L.state link.old) }
     ensures short { IfOk result HasShortName }
 {
@@ -40,6 +41,7 @@ pub fn first_in<L: Link>(
 // A command behind the first, in a line.
 fn further_in<L: Link>(alloc: Global, link: &mut L, line: &[u8]) -> Result<Command, SessionEnd>
     ensures runs { (desk : DeskView) → Runs (L.state link.old) (L.state link.new) desk desk (or_not_built (further_create line.now)) (outcome_of result) }
+    ensures tells { TellsLink (L.state link.old) (L.state link.new) result }
     ensures same { OnOk result (L.state link.new ≡ L.state link.old) }
     ensures short { IfOk result HasShortName }
 {
@@ -58,6 +60,7 @@ fn take_further<L: Link>(
 ) -> Result<Option<Command>, SessionEnd>
     requires ready { IsReady reader.old (L.state link.old) }
     ensures runs { (desk : DeskView) → Runs (L.state link.old) (L.state link.new) desk desk taking_further (outcome_of result) }
+    ensures tells { TellsLink (L.state link.old) (L.state link.new) result }
     ensures ready { OnOk result (IsReady reader.new (L.state link.new)) }
     ensures short { IfOk result (λ o. IfSome o HasShortName) }
 {
@@ -77,6 +80,7 @@ fn take_further<L: Link>(
 fn take_flush<L: Link>(link: &mut L, reader: &mut PktReader) -> Result<(), SessionEnd>
     requires ready { IsReady reader.old (L.state link.old) }
     ensures runs { (desk : DeskView) → Runs (L.state link.old) (L.state link.new) desk desk taking_flush (outcome_of result) }
+    ensures tells { TellsLink (L.state link.old) (L.state link.new) result }
 {
     match reader.next(link) {
         Ok(Pkt::Flush) => Ok(()),
@@ -97,6 +101,7 @@ pub fn take_commands<L: Link>(
     requires ready { IsReady reader.old (L.state link.old) }
     requires short { HasShortName first }
     ensures runs { (desk : DeskView) → Runs (L.state link.old) (L.state link.new) desk desk (taking_commands first) (outcome_of result) }
+    ensures tells { TellsLink (L.state link.old) (L.state link.new) result }
     ensures within { IfOk result AreWithinLimits }
 {
     let mut commands = CommandList::new(alloc);

@@ -2,7 +2,7 @@
 ghost use Rattle.std.specs.Prelude.{◌≡◌, decimal, IfOk, IfErr, IfSome, IfNone};
 ghost use Rattle.pktline_core.specs.Links.{IsLater};
 ghost use Rattle.gitolite_shell.specs.Frames.{OneScript};
-ghost use Rattle.gitolite_shell.specs.ReadingFrames.{HasNoSize, IsNoNumber, IsSizeIn, StopsAtByte, StopsInBody, StopsInFrame, StopsInLine, TakesBody, TakesByte, TakesFrame, TakesLine};
+ghost use Rattle.gitolite_shell.specs.ReadingFrames.{HasNoSize, IsNoNumber, IsSizeIn, StopsAtByte, StopsInBody, StopsInFrame, StopsInLine, TakesBody, TakesByte, TakesFrame, TakesLine, TellsRead};
 
 use itoa::Buffer;
 use pktline_core::{Source, Taken};
@@ -58,6 +58,7 @@ const CHUNK: usize = 65_536;
 fn take_byte<S: Source>(source: &mut S) -> Result<Option<u8>, FrameFault>
     ensures ok { IfOk result (TakesByte (S.state source.old) (S.state source.new)) }
     ensures err { IfErr result (StopsAtByte (S.state source.old) (S.state source.new)) }
+    ensures tells { TellsRead (S.state source.old) (S.state source.new) result }
     ensures later { IsLater (S.state source.old) (S.state source.new) }
 {
     let mut room = [0];
@@ -73,6 +74,7 @@ fn read_line<S: Source>(alloc: Global, source: &mut S) -> Result<Option<Vec<u8>>
     ensures some { IfOk result (λ found. IfSome found (λ line. TakesLine (S.state source.old) (S.state source.new) (Some line.items))) }
     ensures none { IfOk result (λ found. IfNone found (TakesLine (S.state source.old) (S.state source.new) None)) }
     ensures err { IfErr result (StopsInLine (S.state source.old) (S.state source.new)) }
+    ensures tells { TellsRead (S.state source.old) (S.state source.new) result }
     ensures later { IsLater (S.state source.old) (S.state source.new) }
 {
     let mut line = Vec::new(alloc);
@@ -129,6 +131,7 @@ fn size_in(line: &[u8]) -> Option<u32>
 fn read_body<S: Source>(alloc: Global, source: &mut S, size: usize) -> Result<Vec<u8>, FrameFault>
     ensures ok { IfOk result (λ body. TakesBody (S.state source.old) (S.state source.new) size body.items) }
     ensures err { IfErr result (StopsInBody (S.state source.old) (S.state source.new) size) }
+    ensures tells { TellsRead (S.state source.old) (S.state source.new) result }
     ensures later { IsLater (S.state source.old) (S.state source.new) }
 {
     let mut room = vec![in alloc; 0; size.min(CHUNK)]?;
@@ -150,6 +153,7 @@ pub fn read_frame<S: Source>(alloc: Global, source: &mut S) -> Result<Option<Fra
     ensures some { IfOk result (λ found. IfSome found (λ frame. TakesFrame (S.state source.old) (S.state source.new) frame.taken frame.body.items)) }
     ensures none { IfOk result (λ found. IfNone found (TakesLine (S.state source.old) (S.state source.new) None)) }
     ensures err { IfErr result (StopsInFrame (S.state source.old) (S.state source.new)) }
+    ensures tells { TellsRead (S.state source.old) (S.state source.new) result }
     ensures later { IsLater (S.state source.old) (S.state source.new) }
 {
     let Some(line) = read_line(alloc, source)? else {

@@ -2,9 +2,9 @@
 use crate::frames::read_frame;
 use crate::lone::{Ended, lone_main};
 use crate::push_tests::{first_pack, push_of};
-use crate::session_tests::{DONE, EMPTY, first_push, is_granted, told};
+use crate::session_tests::{DONE, EMPTY, first_push, is_answered, is_granted, told};
 use base_types::NoMemory;
-use hub_core::Outcome;
+use hub_core::{EnterKept, Outcome, Verdict};
 use pktline_core::MemoryLink;
 use std::alloc::Global;
 use std::test::Fail;
@@ -147,6 +147,41 @@ fn run(alloc: Global, script: Vec<u8>) -> Result<(Vec<u8>, Ended), NoMemory> {
     let mut sink = MemoryLink::new(Vec::new(alloc), 65_536, Vec::new(alloc), Vec::new(alloc));
     let ended = lone_main(alloc, &words, &mut source, &mut sink);
     Ok((sink.written().to_vec(alloc)?, ended))
+}
+
+// Whether a hub's first session prints this and is answered so.
+fn opens_alone(
+    alloc: Global,
+    body: &[u8],
+    due: &[u8],
+    answer: EnterKept,
+) -> Result<bool, NoMemory> {
+    let (printed, Ended { status, log }) = run(alloc, frame(alloc, body)?)?;
+    Ok(status == 0 && printed.as_slice() == due && log.len() == 1 && is_answered(&log, 0, answer))
+}
+
+const DENIED: &[u8] =
+    b"session 1 denied 53\n0035ERR W any gitolite-admin carol DENIED by fallthru\n";
+
+const ADVERTISED: &[u8] =
+    b"session 1 served 106\n00660000000000000000000000000000000000000000 capabilities^{}\0report-status delete-refs no-thin atomic\n0000\n";
+
+// A session that isn't built yet leaves no entry.
+#[test]
+fn a_first_session_opens_or_is_denied(rt: HostRuntime) -> Result<(), Fail> {
+    let alloc = rt.alloc();
+    let denied = EnterKept::Denied(Verdict::Fallthru);
+    let body = b"002bcarol git-receive-pack 'gitolite-admin'";
+    assert!(rt; opens_alone(alloc, body, DENIED, denied)?);
+    let body = b"0024carol git-receive-pack 'testing'0000";
+    assert!(rt; opens_alone(alloc, body, ADVERTISED, EnterKept::Granted)?);
+    let (printed, ended) = run(alloc, frame(alloc, b"0023carol git-upload-pack 'testing'")?)?;
+    assert_eq!(rt;
+        printed.as_slice(),
+        b"session 1 not-built 17\n0011ERR not built\n".as_slice()
+    );
+    assert!(rt; ended.status == 0 && ended.log.len() == 0);
+    Ok(())
 }
 
 // What the first push of a new hub prints: its line, the advertisement of no refs, and its report.

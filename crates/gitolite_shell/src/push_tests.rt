@@ -3,7 +3,9 @@ ghost use Rattle.std.specs.Prelude.{◌≤◌};
 
 use crate::end::SessionEnd;
 use crate::session_tests::{EMPTY, OPENING, first_push, is_granted, new_desk, serve};
-use hub_core::NoMemory;
+use crate::text::status_line;
+use git_object::ObjectId;
+use hub_core::{Command, CommandList, NoMemory, Outcome, Text};
 use raw_pack::PackFault;
 use std::alloc::Global;
 use std::test::Fail;
@@ -61,6 +63,27 @@ fn a_refused_pack_leaves_the_opening_alone(rt: HostRuntime) -> Result<(), Fail> 
     Ok(())
 }
 
+// The first packets have 157 bytes, the two entries 170 and 1.
+#[test]
+fn a_pack_that_ends_early_is_refused(rt: HostRuntime) -> Result<(), Fail> {
+    let alloc = rt.alloc();
+    let input = first_push(alloc)?;
+    for size in 157..348usize {
+        let mut desk = new_desk(alloc)?;
+        let part = input.split_at(size.min(input.len())).0;
+        let (end, written) = serve(alloc, &mut desk, part, 65_520)?;
+        let entry = match size {
+            0..327 => 0,
+            327 => 1,
+            _ => 2,
+        };
+        let fault = PackFault::Truncated(entry);
+        assert!(rt; end == SessionEnd::BadPack(fault), "{size}");
+        assert!(rt; written.len() == 182 && desk.into_hub().into_log().len() == 1);
+    }
+    Ok(())
+}
+
 // An opening, a create of `refs/heads/a`, so many further ones of other refs, a flush, and a pack.
 fn many_creates(alloc: Global, further: u32) -> Result<Vec<u8>, NoMemory>
     requires { further ≤ 10000 }
@@ -89,5 +112,41 @@ fn ten_thousand_commands_are_pushed_and_one_more_is_not_built(rt: HostRuntime) -
     assert_eq!(rt; end, SessionEnd::NotBuilt);
     assert!(rt; written.ends_with(b"0011ERR not built"));
     assert_eq!(rt; desk.into_hub().into_log().len(), 1);
+    Ok(())
+}
+
+// What a lone session can't be told, but two at once, or a push that is atomic.
+#[test]
+fn a_command_is_told_why_it_is_not_done(rt: HostRuntime) -> Result<(), Fail> {
+    let alloc = rt.alloc();
+    let id = ObjectId::from_hex(b"1111111111111111111111111111111111111111").ok_or("an id")?;
+    let mut commands = CommandList::new(alloc);
+    commands.push(Command {
+        old: ObjectId::zero(),
+        new: id,
+        name: Text::of(alloc, b"refs/heads/a")?,
+    })?;
+    let command = commands.get(0).ok_or("a command")?;
+    for (outcome, line) in [
+        (
+            Outcome::Stale(id),
+            "ng refs/heads/a stale, it is 1111111111111111111111111111111111111111\n",
+        ),
+        (
+            Outcome::AtomicOther(0),
+            "ng refs/heads/a atomic push refused with refs/heads/a\n",
+        ),
+        (
+            Outcome::Collided(id),
+            "ng refs/heads/a name collision 1111111111111111111111111111111111111111\n",
+        ),
+        (
+            Outcome::Full(4_294_967_296),
+            "ng refs/heads/a repository would have 4294967296 objects\n",
+        ),
+    ] {
+        let text = status_line(alloc, &commands, command, &outcome)?;
+        assert_eq!(rt; text.as_slice(), line.as_bytes());
+    }
     Ok(())
 }

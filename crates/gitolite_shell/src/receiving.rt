@@ -9,7 +9,7 @@ ghost use Rattle.hub_core.specs.Push.{AreWithinLimits};
 ghost use Rattle.hub_core.specs.Desk.{DeskView, known};
 ghost use Rattle.interaction_tree.specs.Interaction.{write};
 ghost use Rattle.interaction_tree.specs.Runs.{Runs};
-ghost use Rattle.gitolite_shell.specs.End.{outcome_of};
+ghost use Rattle.gitolite_shell.specs.End.{TellsLink, outcome_of};
 ghost use Rattle.gitolite_shell.specs.Texts.{advertisement, first_line, more_line, packet};
 ghost use Rattle.gitolite_shell.specs.Create.{HasShortName, HaveShortNames};
 ghost use Rattle.gitolite_shell.specs.Readers.{IsReady};
@@ -35,6 +35,7 @@ fn take_pack<L: Link>(
 ) -> Result<ObjectList, SessionEnd>
     requires short { HaveShortNames commands.now }
     ensures runs { (desk : DeskView) → Runs (L.state link.old) (L.state link.new) desk desk (taking_pack commands.now) (outcome_of result) }
+    ensures tells { TellsLink (L.state link.old) (L.state link.new) result }
 {
     match read_pack(alloc, link) {
         Ok(objects) => Ok(objects),
@@ -59,6 +60,7 @@ fn push<L: Link, K: Desk>(
     requires write { pin.pinned.want ≡ Want.Write }
     requires within { AreWithinLimits commands }
     ensures runs { Runs (L.state link.old) (L.state link.new) (K.view desk.old) (K.view desk.new) (pushing ((K.view desk.old).admin) pin commands pack) (outcome_of result) }
+    ensures tells { TellsLink (L.state link.old) (L.state link.new) result }
 {
     let Ok(told) = copy_of(alloc, &commands) else {
         return Err(SessionEnd::NoMemory);
@@ -101,6 +103,7 @@ fn create<L: Link, K: Desk>(
     requires write { pin.pinned.want ≡ Want.Write }
     requires short { HasShortName first }
     ensures runs { Runs (L.state link.old) (L.state link.new) (K.view desk.old) (K.view desk.new) (creating ((K.view desk.old).admin) pin first) (outcome_of result) }
+    ensures tells { TellsLink (L.state link.old) (L.state link.new) result }
 {
     let commands = take_commands(alloc, link, reader, first)?;
     let pack = take_pack(alloc, link, &commands)?;
@@ -119,6 +122,7 @@ fn receive_command<L: Link, K: Desk>(
     requires stands { Stands pin (known (K.view desk.old)) }
     requires write { pin.pinned.want ≡ Want.Write }
     ensures runs { Runs (L.state link.old) (L.state link.new) (K.view desk.old) (K.view desk.new) (commanding ((K.view desk.old).admin) pin) (outcome_of result) }
+    ensures tells { TellsLink (L.state link.old) (L.state link.new) result }
 {
     match reader.next(link) {
         Ok(Pkt::Flush) => Ok(()),
@@ -145,6 +149,7 @@ pub fn receive<L: Link, K: Desk>(
     requires write { pin.pinned.want ≡ Want.Write }
     requires names { HasShortNames pin.pinned.repository.refs }
     ensures runs { Runs (L.state link.old) (L.state link.new) (K.view desk.old) (K.view desk.new) (receiving ((K.view desk.old).admin) pin) (outcome_of result) }
+    ensures tells { TellsLink (L.state link.old) (L.state link.new) result }
 {
     advertise(alloc, link, pin.repo())?;
     receive_command(alloc, link, desk, reader, pin)
@@ -154,6 +159,7 @@ pub fn receive<L: Link, K: Desk>(
 fn advertise<L: Link>(alloc: Global, link: &mut L, repo: &Repo) -> Result<(), SessionEnd>
     requires names { HasShortNames repo.now.refs }
     ensures runs { (desk : DeskView) → Runs (L.state link.old) (L.state link.new) desk desk (write (advertisement repo.now.refs)) (outcome_of result) }
+    ensures tells { TellsLink (L.state link.old) (L.state link.new) result }
     ensures reading { KeepsReading (L.state link.old) (L.state link.new) }
 {
     let mut first = true;
@@ -174,6 +180,7 @@ fn advertise_ref<L: Link>(
 ) -> Result<(), SessionEnd>
     requires short { length name.now ≤ 1024 }
     ensures runs { (desk : DeskView) → Runs (L.state link.old) (L.state link.new) desk desk (write (packet (if first then first_line (name.now, id) else more_line (name.now, id)))) (outcome_of result) }
+    ensures tells { TellsLink (L.state link.old) (L.state link.new) result }
     ensures reading { KeepsReading (L.state link.old) (L.state link.new) }
 {
     let Ok(line) = ref_line(alloc, name, id, first) else {
@@ -185,6 +192,7 @@ fn advertise_ref<L: Link>(
 // The line that bears the capabilities where there is no ref, and the flush.
 fn end_advertisement<L: Link>(alloc: Global, link: &mut L, none: bool) -> Result<(), SessionEnd>
     ensures runs { (desk : DeskView) → Runs (L.state link.old) (L.state link.new) desk desk (write ((if none then packet (first_line (codes "capabilities^{}", zero_id)) else []) ++ spelling Flush)) (outcome_of result) }
+    ensures tells { TellsLink (L.state link.old) (L.state link.new) result }
     ensures reading { KeepsReading (L.state link.old) (L.state link.new) }
 {
     if none {

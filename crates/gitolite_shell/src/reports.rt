@@ -6,7 +6,7 @@ ghost use Rattle.git_object.specs.Content.{Content};
 ghost use Rattle.hub_core.specs.Desk.{DeskView};
 ghost use Rattle.interaction_tree.specs.Interaction.{write};
 ghost use Rattle.interaction_tree.specs.Runs.{Runs};
-ghost use Rattle.gitolite_shell.specs.End.{halt_of, outcome_of};
+ghost use Rattle.gitolite_shell.specs.End.{HidesNone, TellsLink, halt_of, outcome_of};
 ghost use Rattle.gitolite_shell.specs.Create.{HasShortName, HaveShortNames};
 ghost use Rattle.gitolite_shell.specs.Texts.{bad_report, packet, report, status_lines, status_text, unpack_text, unpacker_error};
 ghost use Rattle.gitolite_shell.specs.Session.{refusing_pack};
@@ -28,6 +28,7 @@ pub fn report<L: Link>(
 ) -> Result<(), SessionEnd>
     requires short { HaveShortNames commands.now }
     ensures runs { (desk : DeskView) → Runs (L.state link.old) (L.state link.new) desk desk (write (report commands.now outcomes.now)) (outcome_of result) }
+    ensures tells { TellsLink (L.state link.old) (L.state link.new) result }
 {
     say(link, b"unpack ok\n")?;
     report_all(alloc, link, commands, outcomes)?;
@@ -43,6 +44,7 @@ fn report_all<L: Link>(
 ) -> Result<(), SessionEnd>
     requires short { HaveShortNames commands.now }
     ensures runs { (desk : DeskView) → Runs (L.state link.old) (L.state link.new) desk desk (write (flat_map packet (status_lines commands.now commands.now outcomes.now))) (outcome_of result) }
+    ensures tells { TellsLink (L.state link.old) (L.state link.new) result }
 {
     let mut told = outcomes.as_slice().iter();
     for command in commands.as_slice() {
@@ -64,6 +66,7 @@ fn report_one<L: Link>(
     requires short { HaveShortNames commands.now }
     requires one { HasShortName command.now }
     ensures runs { (desk : DeskView) → Runs (L.state link.old) (L.state link.new) desk desk (write (packet (status_text commands.now command.now.name outcome.now))) (outcome_of result) }
+    ensures tells { TellsLink (L.state link.old) (L.state link.new) result }
 {
     let Ok(line) = status_line(alloc, commands, command, outcome) else {
         return Err(SessionEnd::NoMemory);
@@ -80,6 +83,7 @@ pub fn refuse_pack<L: Link>(
 ) -> SessionEnd
     requires short { HaveShortNames commands.now }
     ensures runs { (desk : DeskView) → Runs (L.state link.old) (L.state link.new) desk desk (refusing_pack commands.now fault) (Err (halt_of result)) }
+    ensures hides { HidesNone (L.state link.old) (L.state link.new) result }
     ensures reading { KeepsReading (L.state link.old) (L.state link.new) }
 {
     match report_fault(alloc, link, commands, fault) {
@@ -96,6 +100,7 @@ fn report_fault<L: Link>(
 ) -> Result<(), SessionEnd>
     requires short { HaveShortNames commands.now }
     ensures runs { (desk : DeskView) → Runs (L.state link.old) (L.state link.new) desk desk (write (bad_report commands.now fault)) (outcome_of result) }
+    ensures tells { TellsLink (L.state link.old) (L.state link.new) result }
     ensures reading { KeepsReading (L.state link.old) (L.state link.new) }
 {
     say_fault(alloc, link, fault)?;
@@ -105,6 +110,7 @@ fn report_fault<L: Link>(
 
 fn say_fault<L: Link>(alloc: Global, link: &mut L, fault: PackFault) -> Result<(), SessionEnd>
     ensures runs { (desk : DeskView) → Runs (L.state link.old) (L.state link.new) desk desk (write (packet (unpack_text fault))) (outcome_of result) }
+    ensures tells { TellsLink (L.state link.old) (L.state link.new) result }
     ensures reading { KeepsReading (L.state link.old) (L.state link.new) }
 {
     let Ok(line) = unpack_line(alloc, fault) else {
@@ -121,6 +127,7 @@ fn report_errors<L: Link>(
 ) -> Result<(), SessionEnd>
     requires short { HaveShortNames commands.now }
     ensures runs { (desk : DeskView) → Runs (L.state link.old) (L.state link.new) desk desk (write (flat_map packet (map unpacker_error commands.now))) (outcome_of result) }
+    ensures tells { TellsLink (L.state link.old) (L.state link.new) result }
     ensures reading { KeepsReading (L.state link.old) (L.state link.new) }
 {
     for command in commands.as_slice() {
@@ -132,6 +139,7 @@ fn report_errors<L: Link>(
 fn report_error<L: Link>(alloc: Global, link: &mut L, command: &Command) -> Result<(), SessionEnd>
     requires short { HasShortName command.now }
     ensures runs { (desk : DeskView) → Runs (L.state link.old) (L.state link.new) desk desk (write (packet (unpacker_error command.now))) (outcome_of result) }
+    ensures tells { TellsLink (L.state link.old) (L.state link.new) result }
     ensures reading { KeepsReading (L.state link.old) (L.state link.new) }
 {
     let Ok(line) = error_line(alloc, command) else {

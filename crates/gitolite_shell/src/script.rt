@@ -5,7 +5,7 @@ ghost use Rattle.pktline_core.specs.Links.{IsLater};
 ghost use Rattle.interaction_tree.specs.Traces.{Ended};
 ghost use Rattle.gitolite_shell.specs.End.{halt_of};
 ghost use Rattle.gitolite_shell.specs.Script.{end_word, fault_text, reply_text};
-ghost use Rattle.gitolite_shell.specs.RunningScripts.{AdvancesOne, FindsEnd, RunsScript, Serves, StopsAdvancing, StopsScript, StopsWriting};
+ghost use Rattle.gitolite_shell.specs.RunningScripts.{AdvancesOne, FindsEnd, RunsScript, Serves, StopsAdvancing, StopsScript, StopsWriting, TellsInput, TellsOutput};
 
 use crate::end::SessionEnd;
 use crate::frames::{FrameFault, read_frame};
@@ -91,6 +91,7 @@ fn fault_text(alloc: Global, offset: u64) -> Result<Vec<u8>, NoMemory>
 pub fn write_text<O: Sink>(output: &mut O, text: &[u8]) -> Result<(), ScriptFault>
     ensures ok { OnOk result (Appends ((O.state output.old).written) ((O.state output.new).written) text.now) }
     ensures err { IfErr result (StopsWriting (O.state output.old) (O.state output.new) text.now) }
+    ensures tells { TellsOutput (O.state output.old) (O.state output.new) result }
     ensures later { IsLater (O.state output.old) (O.state output.new) }
 {
     match write_all(output, text) {
@@ -132,6 +133,8 @@ fn advance<I: Source, O: Sink, K: Desk>(
     ensures some { IfOk result (λ found. IfSome found (AdvancesOne (I.state input.old) (I.state input.new) (O.state output.old) (O.state output.new) (K.view desk.old) (K.view desk.new) number)) }
     ensures none { IfOk result (λ found. IfNone found (FindsEnd (I.state input.old) (I.state input.new) (O.state output.old) (O.state output.new) (K.view desk.old) (K.view desk.new))) }
     ensures err { IfErr result (StopsAdvancing (I.state input.old) (I.state input.new) (O.state output.old) (O.state output.new) (K.view desk.old) (K.view desk.new) number offset) }
+    ensures tells_input { TellsInput (I.state input.old) (I.state input.new) result }
+    ensures tells_output { TellsOutput (O.state output.old) (O.state output.new) result }
     ensures input { IsLater (I.state input.old) (I.state input.new) }
     ensures output { IsLater (O.state output.old) (O.state output.new) }
 {
@@ -163,6 +166,8 @@ pub fn run_script<I: Source, O: Sink, K: Desk>(
     requires { IsTrue (K.view desk.old).alone }
     ensures ok { OnOk result (RunsScript (I.state input.old) (I.state input.new) (O.state output.old) (O.state output.new) ((K.view desk.old).admin) ((K.view desk.old).seen) ((K.view desk.new).seen) false) }
     ensures err { IfErr result (StopsScript (I.state input.old) (I.state input.new) (O.state output.old) (O.state output.new) ((K.view desk.old).admin) ((K.view desk.old).seen) ((K.view desk.new).seen)) }
+    ensures tells_input { TellsInput (I.state input.old) (I.state input.new) result }
+    ensures tells_output { TellsOutput (O.state output.old) (O.state output.new) result }
 {
     let mut number = 1;
     let mut offset = 0;

@@ -8,7 +8,7 @@ ghost use Rattle.interaction_tree.specs.Runs.{Runs};
 ghost use Rattle.interaction_tree.specs.Requests.{OwnEntry};
 ghost use Rattle.interaction_tree.specs.Endings.{TakesTurn};
 ghost use Rattle.interaction_tree.specs.Growth.{GrowsBy};
-ghost use Rattle.gitolite_shell.specs.End.{HasCause, IsSure, halt_of, outcome_of};
+ghost use Rattle.gitolite_shell.specs.End.{HasCause, HidesNone, IsSure, TellsLink, halt_of, outcome_of};
 ghost use Rattle.gitolite_shell.specs.FirstPacket.{AreShort, asked};
 ghost use Rattle.gitolite_shell.specs.Texts.{denial};
 ghost use Rattle.gitolite_shell.specs.Readers.{IsReady};
@@ -27,6 +27,7 @@ use std::alloc::Global;
 // What a first line asks for.
 fn asked_in<L: Link>(alloc: Global, link: &mut L, line: &[u8]) -> Result<Asked, SessionEnd>
     ensures runs { (desk : DeskView) → Runs (L.state link.old) (L.state link.new) desk desk (or_not_built (asked line.now)) (outcome_of result) }
+    ensures tells { TellsLink (L.state link.old) (L.state link.new) result }
     ensures same { OnOk result (L.state link.new ≡ L.state link.old) }
     ensures short { IfOk result AreShort }
 {
@@ -41,6 +42,7 @@ fn asked_in<L: Link>(alloc: Global, link: &mut L, line: &[u8]) -> Result<Asked, 
 fn ask<L: Link>(alloc: Global, link: &mut L, reader: &mut PktReader) -> Result<Asked, SessionEnd>
     requires ready { IsReady reader.old (L.state link.old) }
     ensures runs { (desk : DeskView) → Runs (L.state link.old) (L.state link.new) desk desk asking (outcome_of result) }
+    ensures tells { TellsLink (L.state link.old) (L.state link.new) result }
     ensures ready { OnOk result (IsReady reader.new (L.state link.new)) }
     ensures short { IfOk result AreShort }
 {
@@ -61,6 +63,7 @@ fn refuse_denied<L: Link>(
 ) -> SessionEnd
     requires short { AreShort asked.now }
     ensures runs { (desk : DeskView) → Runs {A = Unit {0}} (L.state link.old) (L.state link.new) desk desk (refuse (codes "ERR " ++ denial asked.now.user asked.now.repo verdict) SessionEnd.Denied) (Err (halt_of result)) }
+    ensures hides { HidesNone (L.state link.old) (L.state link.new) result }
 {
     match denial(alloc, &asked.user, &asked.repo, verdict) {
         Ok(text) => refuse(link, &text, SessionEnd::Denied),
@@ -77,6 +80,7 @@ fn enter<L: Link, K: Desk>(
 ) -> Result<Pin, SessionEnd>
     requires short { AreShort asked.now }
     ensures runs { Runs (L.state link.old) (L.state link.new) (K.view desk.old) (K.view desk.new) (entering ((K.view desk.old).admin) asked.now) (outcome_of result) }
+    ensures tells { TellsLink (L.state link.old) (L.state link.new) result }
     ensures same { OnOk result (L.state link.new ≡ L.state link.old) }
     ensures admin { (K.view desk.new).admin ≡ (K.view desk.old).admin }
     ensures stands { IfOk result (λ pin. Stands pin (known (K.view desk.new))) }
@@ -104,6 +108,7 @@ fn serve_asked<L: Link, K: Desk, G: Gate>(
     requires ready { IsReady reader.old (L.state link.old) }
     requires short { AreShort asked.now }
     ensures runs { Runs (L.state link.old) (L.state link.new) (K.view desk.old) (K.view desk.new) (serving ((K.view desk.old).admin) asked.now) (outcome_of result) }
+    ensures tells { TellsLink (L.state link.old) (L.state link.new) result }
 {
     let pin = enter(alloc, link, desk, asked)?;
     gate.between(pin.place());
@@ -120,6 +125,7 @@ fn serve<L: Link, K: Desk, G: Gate>(
 ) -> Result<(), SessionEnd>
     requires ready { IsReady reader.old (L.state link.old) }
     ensures runs { Runs (L.state link.old) (L.state link.new) (K.view desk.old) (K.view desk.new) (served ((K.view desk.old).admin)) (outcome_of result) }
+    ensures tells { TellsLink (L.state link.old) (L.state link.new) result }
 {
     let asked = ask(alloc, link, reader)?;
     serve_asked(alloc, link, desk, gate, reader, &asked)
@@ -133,6 +139,7 @@ pub fn session<L: Link, K: Desk, G: Gate>(
     gate: &mut G,
 ) -> SessionEnd
     ensures turn { TakesTurn (L.state link.old) (L.state link.new) (K.view desk.old) (K.view desk.new) (session ((K.view desk.old).admin)) (halt_of result) }
+    ensures hides { HidesNone (L.state link.old) (L.state link.new) result }
     ensures grows { (own : List OwnEntry) × GrowsBy (K.view desk.old) (K.view desk.new) own }
     ensures causes { HasCause (L.state link.old) (L.state link.new) result }
     ensures sure { IsSure (L.state link.old) (L.state link.new) result }

@@ -55,15 +55,19 @@ pub fn serve(
     Ok((end, written))
 }
 
-// Whether an opening was granted at a place of the log.
-pub fn is_granted(log: &EntryList, place: usize) -> bool {
+// Whether an opening at a place of the log was answered so.
+pub fn is_answered(log: &EntryList, place: usize, due: EnterKept) -> bool {
     let Some(entry) = log.get(place) else {
         return false;
     };
     match &entry.event {
-        Event::Entered { answer, .. } => *answer == EnterKept::Granted,
+        Event::Entered { answer, .. } => *answer == due,
         Event::Pushed { .. } => false,
     }
+}
+
+pub fn is_granted(log: &EntryList, place: usize) -> bool {
+    is_answered(log, place, EnterKept::Granted)
 }
 
 // What the first command of the push at a place of the log was told.
@@ -75,14 +79,16 @@ pub fn told(log: &EntryList, place: usize) -> Option<&Outcome> {
     }
 }
 
-// A gate that tells the place of the last opening.
+// A gate that tells how often it was called, and the place of the last opening.
 #[derive(Drop)]
 struct LastPlace {
+    calls: u64,
     place: Option<u64>,
 }
 
 impl Gate for LastPlace {
     fn between(&mut self, place: u64) {
+        self.calls = self.calls.saturating_add(1);
         self.place = Some(place);
     }
 }
@@ -115,44 +121,46 @@ fn a_first_push_is_done_and_a_second_is_told(rt: HostRuntime) -> Result<(), Fail
     Ok(())
 }
 
-// The end of the first push over a link that fails at these calls, and how many entries it makes.
+// The end of the first push over a link that moves a byte a call and fails at these, how many bytes were written, and
+// how many entries made.
 fn serve_failing(
     alloc: Global,
     takes: &[u64],
     puts: &[u64],
-) -> Result<(SessionEnd, usize), NoMemory> {
+) -> Result<(SessionEnd, usize, usize), NoMemory> {
     let mut desk = new_desk(alloc)?;
     let input = first_push(alloc)?;
-    let mut link = MemoryLink::new(input, 65_520, takes.to_vec(alloc)?, puts.to_vec(alloc)?);
+    let mut link = MemoryLink::new(input, 1, takes.to_vec(alloc)?, puts.to_vec(alloc)?);
     let end = session(alloc, &mut link, &mut desk, &mut OpenGate);
-    Ok((end, desk.into_hub().into_log().len()))
+    let written = link.written().len();
+    Ok((end, written, desk.into_hub().into_log().len()))
 }
 
-// The opening is made once the first packet is read, in two calls, and the push once all is.
+// The opening is made once the first packet is read, and the push once all is.
 #[test]
 fn each_read_that_fails_ends_a_session(rt: HostRuntime) -> Result<(), Fail> {
-    let mut served = false;
-    for call in 0..20u64 {
-        let (end, entries) = serve_failing(rt.alloc(), &[call], &[])?;
-        if end == SessionEnd::Served {
-            served = true;
-            assert_eq!(rt; entries, 2);
-        } else {
-            assert!(rt; !served && end == SessionEnd::ReadFault);
-            assert_eq!(rt; entries, if call < 2 { 0 } else { 1 });
-        }
+    for call in 0..348u64 {
+        let (written, entries) = if call < 36 { (0, 0) } else { (106, 1) };
+        let due = (SessionEnd::ReadFault, written, entries);
+        assert!(rt;
+            serve_failing(rt.alloc(), &[call], &[])? == due,
+            "take {call}"
+        );
     }
-    assert!(rt; served);
+    let served = serve_failing(rt.alloc(), &[348], &[149])?;
+    assert!(rt; served == (SessionEnd::Served, 149, 2));
     Ok(())
 }
 
-// The advertisement is written in three calls, and the report in five.
 #[test]
 fn each_write_that_fails_ends_a_session(rt: HostRuntime) -> Result<(), Fail> {
-    for call in 0..8u64 {
-        let (end, entries) = serve_failing(rt.alloc(), &[], &[call])?;
-        assert_eq!(rt; end, SessionEnd::WriteFault);
-        assert_eq!(rt; entries, if call < 3 { 1 } else { 2 });
+    for call in 0..149u64 {
+        let entries = if call < 106 { 1 } else { 2 };
+        let due = (SessionEnd::WriteFault, call as usize, entries);
+        assert!(rt;
+            serve_failing(rt.alloc(), &[], &[call])? == due,
+            "put {call}"
+        );
     }
     Ok(())
 }
@@ -161,19 +169,22 @@ fn each_write_that_fails_ends_a_session(rt: HostRuntime) -> Result<(), Fail> {
 fn the_gate_stands_behind_an_opening(rt: HostRuntime) -> Result<(), Fail> {
     let alloc = rt.alloc();
     let mut desk = new_desk(alloc)?;
-    let mut gate = LastPlace { place: None };
+    let mut gate = LastPlace {
+        calls: 0,
+        place: None,
+    };
     let denied = b"002bcarol git-receive-pack 'gitolite-admin'".to_vec(alloc)?;
     let mut link = MemoryLink::new(denied, 3, Vec::new(alloc), Vec::new(alloc));
     assert_eq!(rt;
         session(alloc, &mut link, &mut desk, &mut gate),
         SessionEnd::Denied
     );
-    assert_eq!(rt; gate.place, None);
+    assert!(rt; gate.calls == 0 && gate.place == None);
     let mut link = MemoryLink::new(OPENING.to_vec(alloc)?, 3, Vec::new(alloc), Vec::new(alloc));
     assert_eq!(rt;
         session(alloc, &mut link, &mut desk, &mut gate),
         SessionEnd::NotBuilt
     );
-    assert_eq!(rt; gate.place, Some(1));
+    assert!(rt; gate.calls == 1 && gate.place == Some(1));
     Ok(())
 }

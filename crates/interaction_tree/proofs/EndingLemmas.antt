@@ -10,7 +10,7 @@ use Rattle.interaction_tree.specs.Traces.{Halt, Reading, Writing, Memory, Ended,
 use Rattle.interaction_tree.specs.Runs.{Runs}
 use Rattle.interaction_tree.specs.Order.{IsOrdered}
 use Rattle.interaction_tree.specs.Endings.{IsInput, TakesTurn}
-use Rattle.interaction_tree.proofs.TurnLemmas.{trace_ended, trace_reading, trace_failed}
+use Rattle.interaction_tree.proofs.TurnLemmas.{trace_ended, trace_reading, writing_used, memory_used, trace_short, trace_lacked}
 use Rattle.interaction_tree.proofs.OrderLemmas.{trace_writing}
 
 left_of : Option (List ℕ) → List ℕ
@@ -44,9 +44,9 @@ runs_turn a b d e t (Ended end) ordered p =
     }
 runs_turn a b d e t (Failed Reading) ordered p =
     let is = trace_reading b.left t p.read p.written p.own p.trace in
-    record { part = p.read; own = p.own; made = p.made; read = p.consumed; counted = p.counted; entries = rw is refl; written = rw is p.appended; risen = p.caused.0; may_fail = p.caused.1 }
+    record { part = p.read; own = p.own; made = p.made; read = p.consumed; counted = p.counted; used = rw is refl; waits = rw is refl; entries = rw is refl; written = rw is p.appended; risen = p.caused.0; may_fail = p.caused.1 }
 runs_turn a b d e t (Failed Writing) ordered p =
-    let begins = trace_failed b.left Writing t p.read p.written p.own p.trace in
+    let begins = trace_short b.left t p.read p.written p.own p.trace in
     record {
       part = p.read;
       bytes = p.written;
@@ -56,6 +56,7 @@ runs_turn a b d e t (Failed Writing) ordered p =
       made = p.made;
       read = p.consumed;
       counted = p.counted;
+      used = writing_used begins.0 b.left t p.read p.written p.own p.trace;
       entries = trace_writing false b.left t (λ w x. ⊤) p.read p.written p.own ordered p.trace;
       written = p.appended;
       begins = begins.2;
@@ -63,7 +64,7 @@ runs_turn a b d e t (Failed Writing) ordered p =
       may_fail = p.caused.1;
     }
 runs_turn a b d e t (Failed Memory) ordered p =
-    let begins = trace_failed b.left Memory t p.read p.written p.own p.trace in
+    let begins = trace_lacked b.left t p.read p.written p.own p.trace in
     record {
       part = p.read;
       bytes = p.written;
@@ -73,6 +74,7 @@ runs_turn a b d e t (Failed Memory) ordered p =
       made = p.made;
       read = p.consumed;
       counted = p.counted;
+      used = memory_used begins.0 b.left t p.read p.written p.own p.trace;
       entries = begins.3;
       written = p.appended;
       begins = begins.2;

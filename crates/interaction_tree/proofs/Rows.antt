@@ -1,16 +1,19 @@
 -- A small protocol, and what the definitions say of it: they compute.
-use Rattle.std.proofs.Common.{◌≡◌, ℕ, false, List, [], ◌∷◌, Result, Ok, Err, refl}
+use Rattle.std.proofs.Common.{◌≡◌, ℕ, false, List, [], ◌∷◌, Result, Ok, Err, refl, sym}
 use Rattle.std.specs.Prelude.{codes}
 use Rattle.std.specs.Bool.{⊤}
+use Rattle.pktline_core.specs.LinkState.{LinkState}
 use Rattle.pktline_core.specs.Packets as packets
 use Rattle.pktline_core.specs.Packets.{packet_front}
 use Rattle.pktline_core.specs.declared.packets.PktFault.{PktFault}
 use Rattle.hub_core.specs.declared.verdict.Want.TheVariants.{Read}
+use Rattle.hub_core.specs.Desk.{DeskView}
 use Rattle.interaction_tree.specs.Wanted.{Packet, front_of}
 use Rattle.interaction_tree.specs.Requests.{Request, Enter}
-use Rattle.interaction_tree.specs.Interaction.{Interaction, gives, ends, ◌>>=◌, write, read, ask}
-use Rattle.interaction_tree.specs.Turns.{Gave, Ended, Unanswered, Waiting, turn_over, turn, due}
+use Rattle.interaction_tree.specs.Interaction.{Interaction, gives, ends, writes, ◌>>=◌, write, read, ask}
+use Rattle.interaction_tree.specs.Turns.{Stop, Gave, Ended, Unanswered, Waiting, turn_over, turn, due}
 use Rattle.interaction_tree.specs.Order.{EntriesFirst, IsOrdered}
+use Rattle.interaction_tree.specs.Endings.{FailsReading, FailsWriting}
 use Rattle.interaction_tree.proofs.OrderLemmas.{order_bind}
 
 -- a name is read, its owner opens a repository, and is greeted; an input that ends inside the name is told so
@@ -53,6 +56,19 @@ waiting = refl
 bad_length : turn greeting (codes "0003bob") [] ≡ record { used = codes "0003"; requests = []; bytes = codes "bad"; stop = Ended 3 }
 unfolding turn_over greeting name_in ◌>>=◌ read write ask front_of packet_front
 bad_length = refl
+
+ended_waits : (stop : Stop ℕ (Unit {0})) → stop ≡ Ended 1 → stop ≡ Waiting → ⊥
+ended_waits stop ended waits = absurd cc
+
+-- a session that has ended fails no read
+ended_reads_no_more : (link link' : LinkState) (desk desk' : DeskView) → FailsReading {E = ℕ} {A = Unit {0}} link link' desk desk' (ends 1) → ⊥
+unfolding turn_over
+ended_reads_no_more link link' desk desk' fails = ended_waits (Ended 1) refl fails.waits
+
+-- nothing is read before a write that fails, where nothing is wanted
+writes_unread : (link link' : LinkState) (desk desk' : DeskView) → (fails : FailsWriting {E = ℕ} {A = Unit {0}} link link' desk desk' (writes (codes "hello") (ends 1))) → fails.part ≡ []
+unfolding turn_over
+writes_unread link link' desk desk' fails = sym fails.used
 
 -- an entry, and then bytes
 then_greets : List ℕ → Interaction ℕ (Unit {0})

@@ -9,6 +9,7 @@ use Rattle.pktline_core.specs.Links.{IsLater, KeepsReading, Writes, EndsWriting}
 use Rattle.pktline_core.specs.declared.links.WriteFault.{WriteFault}
 use Rattle.pktline_core.specs.declared.links.WriteFault.TheVariants as write
 use Rattle.pktline_core.proofs.LinkLemmas.{appends_more, consumes_more, later_same, later_more, risen_later}
+use Rattle.raw_pack.specs.Reading.{IsNoMore}
 use Rattle.hub_core.specs.Desk.{DeskView}
 use Rattle.interaction_tree.specs.Wanted.{Wanted, Value, Fault, front_of, Reply, shown}
 use Rattle.interaction_tree.specs.Requests.{OwnEntry, asked}
@@ -106,7 +107,7 @@ module _ (E : Type 0) (a b : LinkState) (d : DeskView) (bytes : List ℕ) where
   write_trace : (left : Option (List ℕ)) (done rest : List ℕ) (result : Result (Unit {0}) WriteFault) → bytes ≡ done ++ rest → EndsWriting a b rest result → IsTrace {E = E} left (written_as result) (write bytes) [] done []
   unfolding write
   write_trace left done rest (Ok unit) split end = inr ([], sym (append-nil bytes ∙ split ∙ ap (λ (l : List ℕ). done ++ l) end ∙ append-nil done), ((refl, refl, refl), refl))
-  write_trace left done rest (Err write.Failed) split end = inl ((refl, (rest, split)), refl)
+  write_trace left done rest (Err write.Failed) split end = inl ((refl, (rest, split, end.0)), refl)
   write_trace left done rest (Err write.NoMemory) split end = inl ((refl, (rest, split)), refl)
 
   write_caused : (rest : List ℕ) (result : Result (Unit {0}) WriteFault) → EndsWriting a b rest result → IsCaused {E = E} a b (written_as result)
@@ -156,8 +157,8 @@ module _ {E A : Type 0} (a b : LinkState) (d : DeskView) (taken : List ℕ) (tak
     runs_failed fault is caused = runs_taken (reads wanted cut f) (Err (Failed Reading)) caused (inl ((fault, is, refl), refl))
 
     -- memory lacked for it
-    pub runs_lacked : Runs a b d d (reads wanted cut f) (Err (Failed Memory))
-    runs_lacked = runs_taken (reads wanted cut f) (Err (Failed Memory)) tt (inl (inl refl, refl))
+    pub runs_lacked : IsNoMore (front_of wanted taken) (length taken) → Runs a b d d (reads wanted cut f) (Err (Failed Memory))
+    runs_lacked few = runs_taken (reads wanted cut f) (Err (Failed Memory)) tt (inl (inl (refl, few), refl))
 
     -- the input ended inside it: what is due then was written, or a beginning of it
     cut_trace : (left : Option (List ℕ)) (fault : Fault wanted) (out : Result A (Halt E)) (read written : List ℕ) (own : List OwnEntry) → front_of wanted taken ≡ Partial fault → IsAtEnd left

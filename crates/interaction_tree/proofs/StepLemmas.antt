@@ -82,8 +82,8 @@ module _ {E : Type 0} (a b : LinkState) (d : DeskView) (keeps : KeepsWriting a b
     runs_pack_failed r = runs_failed a b d r.taken (pack_takes a b keeps later (Err pack.ReadFault) r) Pack cut (λ reply. gives reply) r.decided.0.0 r.decided.0.1 (r.decided.1, r.decided.2)
 
     pub runs_pack_lacked : ReadsFront pack_front a b (Err pack.NoMemory) → Runs a b d d (read Pack cut) (Err (Failed Memory))
-    unfolding read
-    runs_pack_lacked r = runs_lacked a b d r.taken (pack_takes a b keeps later (Err pack.NoMemory) r) Pack cut (λ reply. gives reply)
+    unfolding read front_of
+    runs_pack_lacked r = runs_lacked a b d r.taken (pack_takes a b keeps later (Err pack.NoMemory) r) Pack cut (λ reply. gives reply) r.decided
 
     -- a refused pack, where the same is due whether its fault was read or the input ended inside it
     pub runs_pack_refused : {A : Type 0} (f : Reply Pack → Interaction E A) (c : LinkState) (e : DeskView) (fault : PackFault) (out : Result A (Halt E)) → IsOfPack fault → ReadsFront pack_front a b (Err fault) → KeepsReading b c

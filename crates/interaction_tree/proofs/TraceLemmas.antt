@@ -1,15 +1,22 @@
 -- Traces, one after the other.
-use Rattle.std.proofs.Common.{inl, inr, ℕ, List, [], ◌++◌, Option, Result, Ok, Err, refl, sym, ◌∙◌, ap, append_assoc}
+use Rattle.std.proofs.Common.{◌≡◌, inl, inr, ℕ, List, [], ◌++◌, Option, Result, Ok, Err, refl, sym, ◌∙◌, ap, subst, append_assoc}
+use Rattle.base_types.specs.Fronts.{Front, Partial}
+use Rattle.raw_pack.specs.Reading.{IsNoMore}
+use Rattle.interaction_tree.specs.Wanted.{Value, Fault, front_of}
 use Rattle.interaction_tree.specs.Requests.{OwnEntry}
 use Rattle.interaction_tree.specs.Interaction.{Interaction, gives, ends, writes, reads, asks, ◌>>=◌}
 use Rattle.interaction_tree.specs.Traces.{Reading, Writing, Memory, Halt, Ended, Failed, IsTrace}
+use Rattle.interaction_tree.proofs.FrontLemmas.{nothing_there}
 
 -- memory may lack at once
 pub trace_memory : {E A : Type 0} (left : Option (List ℕ)) (t : Interaction E A) → IsTrace left (Err (Failed Memory)) t [] [] []
 trace_memory left (gives a) = ((refl, refl), refl)
 trace_memory left (ends e) = ((refl, refl), refl)
 trace_memory left (writes bytes t) = inl ((refl, (bytes, refl)), refl)
-trace_memory left (reads wanted cut f) = inl (inl refl, refl)
+trace_memory left (reads wanted cut f) = inl (inl (refl, undecided (nothing_there wanted).0 (nothing_there wanted).1), refl)
+  where
+    undecided : (fault : Fault wanted) → front_of wanted [] ≡ Partial fault → IsNoMore (front_of wanted []) 0
+    undecided fault is = subst (λ (at : Front (Value wanted) (Fault wanted)). IsNoMore at 0) (sym is) tt
 trace_memory left (asks request f) = inl ((refl, refl), refl)
 
 module _ {E A B : Type 0} (k : A → Interaction E B) where

@@ -8,7 +8,7 @@ use Rattle.interaction_tree.specs.Requests.{OwnEntry, asked, log_before}
 use Rattle.interaction_tree.specs.Interaction.{Interaction}
 use Rattle.interaction_tree.specs.Turns.{Extent, Closed, Open, turn_over, turn, due}
 use Rattle.interaction_tree.specs.Turns as stop
-use Rattle.interaction_tree.specs.Traces.{Reading, Writing, Memory, Halt, Ended, Failed, Begins}
+use Rattle.interaction_tree.specs.Traces.{Reading, Writing, Memory, Halt, Ended, Failed, Begins, FallsShort}
 use Rattle.interaction_tree.specs.Runs.{MakesAll}
 
 -- the link's input, where it tells it
@@ -33,20 +33,23 @@ pub record EndsAsDue {E A : Type 0} (link link' : LinkState) (desk desk' : DeskV
   pub written : Appends link.written link'.written (turn t input (map log_before own)).bytes
   pub end_is : (turn t input (map log_before own)).stop ≡ stop.Ended end
 
--- After a part of the input a read failed. What was written is due of that part, and the own entries are the ones due by it.
+-- After a part of the input a read failed where more is wanted, and all of that part is used. What was written is due of it, and the own entries
+-- are the ones due by it.
 pub record FailsReading {E A : Type 0} (link link' : LinkState) (desk desk' : DeskView) (t : Interaction E A) : Type 0 where
   pub part : List ℕ
   pub own : List OwnEntry
   pub made : MakesAll desk desk' own
   pub read : Consumes link.left link'.left part
   pub counted : link'.given ≡ link.given + length part
+  pub used : (due t part (map log_before own)).used ≡ part
+  pub waits : (due t part (map log_before own)).stop ≡ stop.Waiting
   pub entries : map asked own ≡ (due t part (map log_before own)).requests
   pub written : Appends link.written link'.written (due t part (map log_before own)).bytes
   pub risen : HasRisen link.read_faults link'.read_faults
   pub may_fail : IsTrue link.may_fail
 
--- After a part of the input a write failed. The own entries are the ones due by that part, and what was written begins what is due of it or,
--- where all of the input was read, of the whole.
+-- After a part of the input a write failed, and all of that part is used. The own entries are the ones due by it, and what was written falls short
+-- of what is due of it or, where all of the input was read, of the whole.
 pub record FailsWriting {E A : Type 0} (link link' : LinkState) (desk desk' : DeskView) (t : Interaction E A) : Type 0 where
   pub part : List ℕ
   pub bytes : List ℕ
@@ -56,14 +59,15 @@ pub record FailsWriting {E A : Type 0} (link link' : LinkState) (desk desk' : De
   pub made : MakesAll desk desk' own
   pub read : Consumes link.left link'.left part
   pub counted : link'.given ≡ link.given + length part
+  pub used : (turn_over extent t part (map log_before own)).used ≡ part
   pub entries : map asked own ≡ (due t part (map log_before own)).requests
   pub written : Appends link.written link'.written bytes
-  pub begins : Begins bytes (turn_over extent t part (map log_before own)).bytes
+  pub begins : FallsShort bytes (turn_over extent t part (map log_before own)).bytes
   pub risen : HasRisen link.write_faults link'.write_faults
   pub may_fail : IsTrue link.may_fail
 
--- After a part of the input memory lacked. The own entries begin the ones due by that part, and what was written begins what is due of it or,
--- where all of the input was read, of the whole.
+-- After a part of the input memory lacked, and all of that part is used. The own entries begin the ones due by it, and what was written begins what
+-- is due of it or, where all of the input was read, of the whole.
 pub record LacksMemory {E A : Type 0} (link link' : LinkState) (desk desk' : DeskView) (t : Interaction E A) : Type 0 where
   pub part : List ℕ
   pub bytes : List ℕ
@@ -73,6 +77,7 @@ pub record LacksMemory {E A : Type 0} (link link' : LinkState) (desk desk' : Des
   pub made : MakesAll desk desk' own
   pub read : Consumes link.left link'.left part
   pub counted : link'.given ≡ link.given + length part
+  pub used : (turn_over extent t part (map log_before own)).used ≡ part
   pub entries : Begins (map asked own) (due t part (map log_before own)).requests
   pub written : Appends link.written link'.written bytes
   pub begins : Begins bytes (turn_over extent t part (map log_before own)).bytes

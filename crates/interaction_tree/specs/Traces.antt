@@ -1,7 +1,8 @@
 -- How code goes along an interaction.
-use Rattle.std.specs.Prelude.{◌≡◌, ◌⊎◌, ℕ, List, [], ◌∷◌, ◌++◌, length, Option, Result, Ok, Err}
+use Rattle.std.specs.Prelude.{◌≡◌, ◌⊎◌, ℕ, ◌<◌, List, [], ◌∷◌, ◌++◌, length, Option, Result, Ok, Err}
 use Rattle.std.specs.Io.KnownBytes.{IsAtEnd}
 use Rattle.base_types.specs.Fronts.{Partial}
+use Rattle.raw_pack.specs.Reading.{IsNoMore}
 use Rattle.interaction_tree.specs.Wanted.{Wanted, Value, Fault, front_of, shown}
 use Rattle.interaction_tree.specs.Requests.{OwnEntry, asked}
 use Rattle.interaction_tree.specs.Interaction.{Interaction, gives, ends, writes, reads, asks}
@@ -24,6 +25,10 @@ pub data Halt (E : Type 0) : Type 0 where
 abbrev pub Begins : {X : Type 0} → List X → List X → Type 0
 Begins {X} front whole = (rest : List X) × (whole ≡ front ++ rest)
 
+-- a list begins another, and isn't all of it
+abbrev pub FallsShort : {X : Type 0} → List X → List X → Type 0
+FallsShort {X} front whole = (rest : List X) × (whole ≡ front ++ rest) × (0 < length rest)
+
 -- the input ended inside what is wanted, by this fault
 abbrev pub IsCutOff : Option (List ℕ) → (wanted : Wanted) → List ℕ → Fault wanted → Type 0
 IsCutOff left wanted read fault = (front_of wanted read ≡ Partial fault) × IsAtEnd left
@@ -36,15 +41,15 @@ StandsStill left (Err (Ended e)) (reads wanted cut f) read written =
     (fault : Fault wanted) × IsCutOff left wanted read fault × (e ≡ (cut fault).end) × (written ≡ (cut fault).bytes)
 -- a read failed inside what is wanted
 StandsStill left (Err (Failed Reading)) (reads wanted cut f) read written = (fault : Fault wanted) × (front_of wanted read ≡ Partial fault) × (written ≡ [])
--- a write failed
-StandsStill left (Err (Failed Writing)) (writes bytes t) read written = (read ≡ []) × Begins written bytes
-StandsStill left (Err (Failed Writing)) (reads wanted cut f) read written = (fault : Fault wanted) × IsCutOff left wanted read fault × Begins written (cut fault).bytes
--- memory may lack anywhere, also after a part of what is wanted was read
+-- a write failed before the last byte
+StandsStill left (Err (Failed Writing)) (writes bytes t) read written = (read ≡ []) × FallsShort written bytes
+StandsStill left (Err (Failed Writing)) (reads wanted cut f) read written = (fault : Fault wanted) × IsCutOff left wanted read fault × FallsShort written (cut fault).bytes
+-- memory may lack anywhere, also after a part of what is wanted was read, or all of it, but no more
 StandsStill left (Err (Failed Memory)) (gives a) read written = (read ≡ []) × (written ≡ [])
 StandsStill left (Err (Failed Memory)) (ends e) read written = (read ≡ []) × (written ≡ [])
 StandsStill left (Err (Failed Memory)) (writes bytes t) read written = (read ≡ []) × Begins written bytes
 StandsStill left (Err (Failed Memory)) (reads wanted cut f) read written =
-    (written ≡ []) ⊎ ((fault : Fault wanted) × IsCutOff left wanted read fault × Begins written (cut fault).bytes)
+    ((written ≡ []) × IsNoMore (front_of wanted read) (length read)) ⊎ ((fault : Fault wanted) × IsCutOff left wanted read fault × Begins written (cut fault).bytes)
 StandsStill left (Err (Failed Memory)) (asks request f) read written = (read ≡ []) × (written ≡ [])
 StandsStill left _ _ read written = ⊥
 

@@ -1,5 +1,5 @@
 -- What calls on a link do.
-use Rattle.std.specs.Prelude.{◌≡◌, ℕ, ◌+◌, ◌≤◌, ◌<◌, List, [], ◌++◌, length, take, IsTrue, Result, Ok, Err}
+use Rattle.std.specs.Prelude.{◌≡◌, ⊤, ℕ, ◌+◌, ◌≤◌, ◌<◌, List, [], ◌++◌, length, take, IsTrue, Result, Ok, Err}
 use Rattle.std.specs.Io.KnownBytes.{Consumes, Appends, Keeps, IsAtEnd}
 use Rattle.base_types.specs.Counts.{HasRisen}
 use Rattle.pktline_core.specs.LinkState.{LinkState}
@@ -25,6 +25,15 @@ abbrev pub Puts : LinkState → LinkState → List ℕ → Put → Type 0
 Puts old new piece (put.Took n) = (1 ≤ n) × (n ≤ length piece) × Appends old.written new.written (take n piece)
 Puts old new piece put.Failed = HasRisen old.write_faults new.write_faults × IsTrue old.may_fail × Keeps old.written new.written
 Puts old new piece put.NoMemory = IsTrue old.may_lack × Keeps old.written new.written
+
+-- No failure is hidden: with every other answer the count of failed reads, or of failed writes, is as it was.
+abbrev pub TellsTake : LinkState → LinkState → Taken → Type 0
+TellsTake old new taken.Failed = ⊤
+TellsTake old new answer = new.read_faults ≡ old.read_faults
+
+abbrev pub TellsPut : LinkState → LinkState → Put → Type 0
+TellsPut old new put.Failed = ⊤
+TellsPut old new answer = new.write_faults ≡ old.write_faults
 
 -- What holds between a link and itself after any calls: no count falls, and what it may do is as it was.
 pub record IsLater (old new : LinkState) : Type 0 where
@@ -59,6 +68,11 @@ pub record TakesAll (old new : LinkState) (room : List ℕ) (result : Result (Un
   pub counted : new.given ≡ old.given + n
   pub ended : EndsTaking old new n (length room) result
 
+-- the same of several calls of `take`
+abbrev pub TellsReading : LinkState → LinkState → Result (Unit {0}) TakeFault → Type 0
+TellsReading old new (Err fault.Failed) = ⊤
+TellsReading old new answer = new.read_faults ≡ old.read_faults
+
 -- On Ok nothing was left out. A fault has its cause, and comes before the last byte was written.
 abbrev pub EndsWriting : LinkState → LinkState → List ℕ → Result (Unit {0}) WriteFault → Type 0
 EndsWriting old new rest (Ok unit) = rest ≡ []
@@ -72,3 +86,8 @@ pub record Writes (old new : LinkState) (bytes : List ℕ) (result : Result (Uni
   pub split : bytes ≡ done ++ rest
   pub appended : Appends old.written new.written done
   pub ended : EndsWriting old new rest result
+
+-- No failure is hidden, by several calls of `put`.
+abbrev pub TellsWriting : LinkState → LinkState → Result (Unit {0}) WriteFault → Type 0
+TellsWriting old new (Err write.Failed) = ⊤
+TellsWriting old new answer = new.write_faults ≡ old.write_faults

@@ -59,3 +59,8 @@ AnswersLeft (Some input) left answer = AnswersInput input left answer
 abbrev pub MovesReader : ReaderState → ReaderState → LinkState → LinkState → Result Packet PktFault → Type 0
 MovesReader old new before now (Ok packet) = (new.failed ≡ old.failed) × (new.offset + before.given ≡ old.offset + now.given)
 MovesReader old new before now (Err fault) = (new.failed ≡ true) × (new.offset ≡ old.offset)
+
+-- no failed read is hidden
+abbrev pub TellsFault : {V : Type 0} → LinkState → LinkState → Result V PktFault → Type 0
+TellsFault old new (Err ReadFault) = ⊤
+TellsFault old new answer = new.read_faults ≡ old.read_faults

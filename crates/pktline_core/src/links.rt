@@ -1,7 +1,7 @@
 // A link to a client, as contracts see it in both directions.
 ghost use Rattle.std.specs.Prelude.{◌≡◌, ◌^◌, ◌<◌, ◌≤◌, length};
 ghost use Rattle.pktline_core.specs.LinkState.{LinkState};
-ghost use Rattle.pktline_core.specs.Links.{Takes, Puts, TakesAll, Writes, IsLater, KeepsReading, KeepsWriting};
+ghost use Rattle.pktline_core.specs.Links.{Takes, Puts, TellsTake, TellsPut, TakesAll, TellsReading, Writes, TellsWriting, IsLater, KeepsReading, KeepsWriting};
 
 /// What one call of `take` did.
 #[derive(Clone, Copy, Debug, PartialEq, Eq)]
@@ -34,6 +34,7 @@ pub trait Source: Endpoint {
     fn take(&mut self, room: &mut [u8]) -> Taken
         requires { 0 < length room.old }
         ensures taken { Takes (Self.state self.old) (Self.state self.new) room.new result }
+        ensures tells { TellsTake (Self.state self.old) (Self.state self.new) result }
         ensures writing { KeepsWriting (Self.state self.old) (Self.state self.new) }
         ensures later { IsLater (Self.state self.old) (Self.state self.new) };
 
@@ -47,6 +48,7 @@ pub trait Sink: Endpoint {
     fn put(&mut self, piece: &[u8]) -> Put
         requires { 0 < length piece.now }
         ensures put { Puts (Self.state self.old) (Self.state self.new) piece.now result }
+        ensures tells { TellsPut (Self.state self.old) (Self.state self.new) result }
         ensures reading { KeepsReading (Self.state self.old) (Self.state self.new) }
         ensures later { IsLater (Self.state self.old) (Self.state self.new) };
 }
@@ -66,6 +68,7 @@ pub enum TakeFault {
 /// Fills the room with the next bytes, in as many calls of `take` as the source wants.
 pub fn take_all<S: Source>(source: &mut S, room: &mut [u8]) -> Result<(), TakeFault>
     ensures takes { TakesAll (S.state source.old) (S.state source.new) room.new result }
+    ensures tells { TellsReading (S.state source.old) (S.state source.new) result }
     ensures writing { KeepsWriting (S.state source.old) (S.state source.new) }
     ensures later { IsLater (S.state source.old) (S.state source.new) }
 {
@@ -92,6 +95,7 @@ pub enum WriteFault {
 /// Writes these bytes, in as many calls of `put` as the sink wants.
 pub fn write_all<S: Sink>(sink: &mut S, bytes: &[u8]) -> Result<(), WriteFault>
     ensures writes { Writes (S.state sink.old) (S.state sink.new) bytes.now result }
+    ensures tells { TellsWriting (S.state sink.old) (S.state sink.new) result }
     ensures reading { KeepsReading (S.state sink.old) (S.state sink.new) }
     ensures later { IsLater (S.state sink.old) (S.state sink.new) }
 {

@@ -1,7 +1,7 @@
 // A link over memory.
 ghost use Rattle.std.specs.Prelude.{◌≡◌, ◌<◌, ◌≤◌, ◌^◌, length};
 ghost use Rattle.std.proofs.Common.{arith};
-ghost use Rattle.pktline_core.specs.Links.{Takes, Puts, IsLater, KeepsReading, KeepsWriting};
+ghost use Rattle.pktline_core.specs.Links.{Takes, Puts, TellsTake, TellsPut, IsLater, KeepsReading, KeepsWriting};
 ghost use Rattle.pktline_core.specs.MemoryLinks.{new_memory, memory_state, take_answer, after_take, IsPutAnswer, after_put};
 
 use crate::links::{Endpoint, Link, Put, Sink, Source, Taken};
@@ -80,6 +80,7 @@ impl Source for MemoryLink {
     fn take(&mut self, room: &mut [u8]) -> Taken
         requires { 0 < length room.old }
         ensures taken { Takes (memory_state (memory_of self.old)) (memory_state (memory_of self.new)) room.new result }
+        ensures tells { TellsTake (memory_state (memory_of self.old)) (memory_state (memory_of self.new)) result }
         ensures writing { KeepsWriting (memory_state (memory_of self.old)) (memory_state (memory_of self.new)) }
         ensures later { IsLater (memory_state (memory_of self.old)) (memory_state (memory_of self.new)) }
         ensures answer { result ≡ take_answer (memory_of self.old) (length room.old) }
@@ -112,6 +113,7 @@ impl Sink for MemoryLink {
     fn put(&mut self, piece: &[u8]) -> Put
         requires { 0 < length piece.now }
         ensures put { Puts (memory_state (memory_of self.old)) (memory_state (memory_of self.new)) piece.now result }
+        ensures tells { TellsPut (memory_state (memory_of self.old)) (memory_state (memory_of self.new)) result }
         ensures reading { KeepsReading (memory_state (memory_of self.old)) (memory_state (memory_of self.new)) }
         ensures later { IsLater (memory_state (memory_of self.old)) (memory_state (memory_of self.new)) }
         ensures answer { IsPutAnswer (memory_of self.old) piece.now result }

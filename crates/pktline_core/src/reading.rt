@@ -4,7 +4,7 @@ ghost use Rattle.std.specs.Borrow.{sem};
 ghost use Rattle.std.specs.Io.BufRead.{Rests};
 ghost use Rattle.pktline_core.specs.Links.{IsLater, KeepsWriting};
 ghost use Rattle.pktline_core.specs.Packets.{digit_value, number_of};
-ghost use Rattle.pktline_core.specs.Reading.{answer_of, ReadsPacket, AnswersLeft, MovesReader};
+ghost use Rattle.pktline_core.specs.Reading.{answer_of, ReadsPacket, AnswersLeft, MovesReader, TellsFault};
 ghost use Rattle.pktline_core.specs.Heads.{ReadsHead, head_answer, IsWithin};
 ghost use Rattle.pktline_core.specs.contracts.reading.PktReader.{the_row};
 
@@ -61,6 +61,7 @@ impl PktReader {
         ensures told { AnswersLeft ((S.state source.old).left) ((S.state source.new).left) (answer_of result) }
         ensures* moves { sem 𝓛 (Rests the_row self.entry (λ new. MovesReader self.old new (S.state source.old) (S.state source.new) (answer_of result))) }
         ensures progress { OnOk result ((S.state source.old).given + 4 ≤ (S.state source.new).given) }
+        ensures tells { TellsFault (S.state source.old) (S.state source.new) result }
         ensures writing { KeepsWriting (S.state source.old) (S.state source.new) }
         ensures later { IsLater (S.state source.old) (S.state source.new) }
     {
@@ -80,6 +81,7 @@ impl PktReader {
         ensures told { AnswersLeft ((S.state source.old).left) ((S.state source.new).left) (head_answer self.new.buffer result) }
         ensures moves { MovesReader self.old self.new (S.state source.old) (S.state source.new) (head_answer self.new.buffer result) }
         ensures progress { OnOk result ((S.state source.old).given + 4 ≤ (S.state source.new).given) }
+        ensures tells { TellsFault (S.state source.old) (S.state source.new) result }
         ensures writing { KeepsWriting (S.state source.old) (S.state source.new) }
         ensures later { IsLater (S.state source.old) (S.state source.new) }
     {
@@ -124,6 +126,7 @@ enum Head {
 
 fn read_head<S: Source>(source: &mut S) -> Result<Head, PktFault>
     ensures reads { ReadsHead (S.state source.old) (S.state source.new) result }
+    ensures tells { TellsFault (S.state source.old) (S.state source.new) result }
     ensures writing { KeepsWriting (S.state source.old) (S.state source.new) }
     ensures later { IsLater (S.state source.old) (S.state source.new) }
 {

@@ -18,7 +18,7 @@ fn link_over(
 }
 
 // The input, what is read from its front, and how many bytes that takes.
-const ROWS: [(&[u8], Result<Pkt<'static>, PktFault>, usize); 18] = [
+const ROWS: [(&[u8], Result<Pkt<'static>, PktFault>, usize); 19] = [
     (b"0004", Ok(Pkt::Line(b"")), 4),
     (b"0009hello", Ok(Pkt::Line(b"hello")), 9),
     (b"000ahello\nmore", Ok(Pkt::Line(b"hello\n")), 10),
@@ -35,6 +35,7 @@ const ROWS: [(&[u8], Result<Pkt<'static>, PktFault>, usize); 18] = [
     (b" 004", Err(PktFault::BadLength), 4),
     (b"00@4", Err(PktFault::BadLength), 4),
     (b"fff0", Err(PktFault::Truncated), 4),
+    (b"0009hel", Err(PktFault::Truncated), 7),
     (b"xyz", Err(PktFault::Truncated), 3),
     (b"", Err(PktFault::Truncated), 0),
 ];
@@ -145,5 +146,19 @@ fn a_memory_link_fails_at_the_listed_calls_alone(rt: HostRuntime) -> Result<(), 
         assert!(rt; link.put(b"xyz") == answer);
         assert_eq!(rt; link.written(), written.as_bytes());
     }
+    Ok(())
+}
+
+#[test]
+fn faults_have_their_numbers(rt: HostRuntime) -> Result<(), Fail> {
+    for (fault, number) in [
+        (PktFault::Truncated, 1),
+        (PktFault::BadLength, 2),
+        (PktFault::ReadFault, 3),
+    ] {
+        assert_eq!(rt; fault as u8, number);
+    }
+    assert!(rt; TakeFault::Ended as u8 == 1 && TakeFault::Failed as u8 == 2);
+    assert!(rt; WriteFault::Failed as u8 == 1 && WriteFault::NoMemory as u8 == 2);
     Ok(())
 }

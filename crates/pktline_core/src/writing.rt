@@ -1,6 +1,6 @@
 // Packets, written to a sink.
 ghost use Rattle.std.specs.Prelude.{◌≡◌, ◌≤◌, ◌<◌, length};
-ghost use Rattle.pktline_core.specs.Links.{Writes, IsLater, KeepsReading};
+ghost use Rattle.pktline_core.specs.Links.{Writes, TellsWriting, IsLater, KeepsReading};
 ghost use Rattle.pktline_core.specs.Packets.{hex_digit, four_digits, spelling, Line, Flush};
 
 use crate::links::{Sink, WriteFault, write_all};
@@ -10,6 +10,7 @@ use crate::packets::MAX_PAYLOAD;
 pub fn write_pkt<S: Sink>(sink: &mut S, payload: &[u8]) -> Result<(), WriteFault>
     requires { length payload.now ≤ MAX_PAYLOAD }
     ensures writes { Writes (S.state sink.old) (S.state sink.new) (spelling (Line payload.now)) result }
+    ensures tells { TellsWriting (S.state sink.old) (S.state sink.new) result }
     ensures reading { KeepsReading (S.state sink.old) (S.state sink.new) }
     ensures later { IsLater (S.state sink.old) (S.state sink.new) }
 {
@@ -21,6 +22,7 @@ pub fn write_pkt<S: Sink>(sink: &mut S, payload: &[u8]) -> Result<(), WriteFault
 /// Writes a flush, `0000`.
 pub fn write_flush<S: Sink>(sink: &mut S) -> Result<(), WriteFault>
     ensures writes { Writes (S.state sink.old) (S.state sink.new) (spelling Flush) result }
+    ensures tells { TellsWriting (S.state sink.old) (S.state sink.new) result }
     ensures reading { KeepsReading (S.state sink.old) (S.state sink.new) }
     ensures later { IsLater (S.state sink.old) (S.state sink.new) }
 {

@@ -18,6 +18,11 @@ pub entry_cut_in_head : (entry sum : ℕ) (old new : LinkState) (before after : 
 unfolding pack_entry
 entry_cut_in_head entry sum old new before after fault r = reads_first (entry_head entry sum) _ old new before after after fault r
 
+-- memory lacked for the body
+pub entry_lacked : (entry sum : ℕ) (old new : LinkState) (before between after : Sha1) (head : Head) → Reads (entry_head entry sum) old new before between (Ok head) → Reads (pack_entry entry sum) old new before after (Err NoMemory)
+unfolding pack_entry
+entry_lacked entry sum old new before between after head r = reads_lacks (entry_head entry sum) _ old new before between after head r
+
 module _ (entry sum : ℕ) (old mid new : LinkState) (before between after : Sha1) where
   module _ (head : Head) (p : Reads (entry_head entry sum) old mid before between (Ok head)) (later : IsLater old mid) where
     pub entry_cut : (fault : PackFault) → Reads (bytes head.size (Truncated entry)) mid new between after (Err fault) → Reads (pack_entry entry sum) old new before after (Err fault)
@@ -40,7 +45,7 @@ module _ (entry sum : ℕ) (old mid new : LinkState) (before between after : Sha
 
       pub entry_refused : (fault : ObjFault) → (fault ≡ ObjFault.NoMemory) ⊎ (fault_of head.kind body ≡ Some fault) → Reads (pack_entry entry sum) old new before after (Err (fault_at entry fault))
       unfolding pack_entry
-      entry_refused ObjFault.NoMemory why = reads_then (entry_head entry sum) _ old mid new before between after head (Err NoMemory) p later (reads_lacks _ _ mid new between after after (Ok body) body_read)
+      entry_refused ObjFault.NoMemory why = reads_then (entry_head entry sum) _ old mid new before between after head (Err NoMemory) p later (reads_lacks _ _ mid new between after after body body_read)
       entry_refused (ObjFault.BadCommit i) (inl lacks) = absurd (cc)
       entry_refused (ObjFault.BadCommit i) (inr is) = refused (rw is)
       entry_refused (ObjFault.BadTree i) (inl lacks) = absurd (cc)

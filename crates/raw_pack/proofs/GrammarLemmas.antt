@@ -318,7 +318,7 @@ pack_by input n contents (Whole m found) are is whole =
     let end_is = end_spelled (sha1 (take m input)) found contents (take inner.0 (drop m input)) second in
     let cut : take n input ≡ take m input ++ take inner.0 (drop m input) = ap (λ (i : ℕ). take i input) inner.2 ∙ take-add m inner.0 input in
     let pack : IsPack (take n input) found =
-    (signed_is.entries, signed_is.are, cut ∙ ap (λ (l : List ℕ). take m input ++ l) end_is.0 ∙ ap (λ (l : List ℕ). l ++ sha1 l) signed_is.whole) in
+    (omega (arith, signed_is.within.few), signed_is.entries, signed_is.are, cut ∙ ap (λ (l : List ℕ). take m input ++ l) end_is.0 ∙ ap (λ (l : List ℕ). l ++ sha1 l) signed_is.whole) in
     record {
       within = omega (arith, inner.2, rest, within, length-drop m input);
       pack = subst (IsPack (take n input)) end_is.1 pack;

@@ -10,7 +10,7 @@ use Rattle.pktline_core.specs.LinkState.{LinkState}
 use Rattle.pktline_core.specs.Links.{IsLater, TakesAll}
 use Rattle.pktline_core.proofs.LinkLemmas.{consumes_more, risen_later}
 use Rattle.raw_pack.specs.Formats.{Format, gives, fails, wants, bytes, ◌>>=◌, front, behind, and_then}
-use Rattle.raw_pack.specs.Reading.{ShowsFault, DecidesFault, Decides, Reads, Leaves}
+use Rattle.raw_pack.specs.Reading.{ShowsFault, IsNoMore, DecidesFault, Decides, Reads, Leaves}
 use Rattle.pktline_core.specs.declared.links.TakeFault.TheVariants.{Ended, Failed}
 use Rattle.raw_pack.specs.declared.fault.PackFault.{PackFault}
 use Rattle.raw_pack.specs.declared.fault.PackFault.TheVariants.{NotAPack, Version, Delta, BadHead, BadObject, Truncated, TrailerDiffers, TooLarge, TooMany, ReadFault, NoMemory}
@@ -21,9 +21,20 @@ module _ {V : Type 0} where
   shows_behind k n new at fault (inl broken) = inl (ap (behind k) broken)
   shows_behind k n new at fault (inr (partial, end)) = inr (ap (behind k) partial, end)
 
+  pub no_more_behind : (k n : ℕ) (at : Front V PackFault) → IsNoMore at n → IsNoMore (behind k at) (k + n)
+  no_more_behind k n (Whole m v) few = omega (arith, few)
+  no_more_behind k n (Broken m fault) few = omega (arith, few)
+  no_more_behind k n (Partial fault) few = tt
+
+  -- what stands behind so many bytes is decided by no fewer
+  no_fewer : (n k : ℕ) (at : Front V PackFault) → n ≤ k → IsNoMore (behind k at) n
+  no_fewer n k (Whole m v) few = omega (arith, few)
+  no_fewer n k (Broken m fault) few = omega (arith, few)
+  no_fewer n k (Partial fault) few = tt
+
   fault_behind : (k n : ℕ) (old mid new : LinkState) (at : Front V PackFault) (fault : PackFault) → IsLater old mid → DecidesFault at n mid new fault → DecidesFault (behind k at) (k + n) old new fault
   fault_behind k n old mid new at ReadFault later d = ((d.0.0, ap (behind k) d.0.1), risen_later old.read_faults mid.read_faults new.read_faults later.read_faults d.1, rw later.may_fail at d.2)
-  fault_behind k n old mid new at NoMemory later d = tt
+  fault_behind k n old mid new at NoMemory later d = no_more_behind k n at d
   fault_behind k n old mid new at NotAPack later d = shows_behind k n new at NotAPack d
   fault_behind k n old mid new at (Version v) later d = shows_behind k n new at (Version v) d
   fault_behind k n old mid new at (Delta i) later d = shows_behind k n new at (Delta i) d
@@ -51,9 +62,14 @@ module _ {V W : Type 0} where
   shows_first n new at go fault (inl broken) = inl (ap (λ a. and_then a go) broken)
   shows_first n new at go fault (inr (partial, end)) = inr (ap (λ a. and_then a go) partial, end)
 
+  no_more_first : (n : ℕ) (at : Front V PackFault) (go : ℕ → V → Front W PackFault) → IsNoMore at n → IsNoMore (and_then at go) n
+  no_more_first n (Whole m v) go few = no_fewer n m (go m v) few
+  no_more_first n (Broken m fault) go few = few
+  no_more_first n (Partial fault) go few = tt
+
   pub fault_first : (n : ℕ) (old new : LinkState) (at : Front V PackFault) (go : ℕ → V → Front W PackFault) (fault : PackFault) → DecidesFault at n old new fault → DecidesFault (and_then at go) n old new fault
   fault_first n old new at go ReadFault d = ((d.0.0, ap (λ a. and_then a go) d.0.1), d.1, d.2)
-  fault_first n old new at go NoMemory d = tt
+  fault_first n old new at go NoMemory d = no_more_first n at go d
   fault_first n old new at go NotAPack d = shows_first n new at go NotAPack d
   fault_first n old new at go (Version v) d = shows_first n new at go (Version v) d
   fault_first n old new at go (Delta i) d = shows_first n new at go (Delta i) d
@@ -167,7 +183,7 @@ module _ {W : Type 0} where
   -- a fault other than a failing read is decided by what stands at the front
   told_fault : (n : ℕ) (old new : LinkState) (at : Front W PackFault) (fault : PackFault) → is_told fault ≡ true → at ≡ Broken n fault → DecidesFault at n old new fault
   told_fault n old new at ReadFault told is = absurd (cc)
-  told_fault n old new at NoMemory told is = tt
+  told_fault n old new at NoMemory told is = subst (λ (front : Front W PackFault). IsNoMore front n) (sym is) (omega arith)
   told_fault n old new at NotAPack told is = inl is
   told_fault n old new at (Version v) told is = inl is
   told_fault n old new at (Delta i) told is = inl is
@@ -214,10 +230,17 @@ module _ {V W : Type 0} where
       ∙ failed_here (length r.taken) fault (drop (length r.taken) r.taken)
       in record { taken = r.taken; consumed = r.consumed; counted = r.counted; hashed = tt; decided = told_fault (length r.taken) old new (front (f >>= g) r.taken) fault told shown }
 
-  -- want of memory claims nothing of what was taken
-  pub reads_lacks : (f : Format V PackFault) (h : Format W PackFault) (old new : LinkState) (before between after : Sha1) (answer : Result V PackFault)
-      → Reads f old new before between answer → Reads h old new before after (Err NoMemory)
-  reads_lacks f h old new before between after answer r = record { taken = r.taken; consumed = r.consumed; counted = r.counted; hashed = tt; decided = tt }
+  -- memory lacked behind what was read, before what follows
+  pub reads_lacks : (f : Format V PackFault) (g : V → Format W PackFault) (old new : LinkState) (before between after : Sha1) (v : V)
+      → Reads f old new before between (Ok v) → Reads (f >>= g) old new before after (Err NoMemory)
+  reads_lacks f g old new before between after v r = record {
+    taken = r.taken;
+    consumed = r.consumed;
+    counted = r.counted;
+    hashed = tt;
+    decided = subst (λ at. IsNoMore at (length r.taken)) (sym (front-bind g f r.taken))
+        (no_more_first (length r.taken) (front f r.taken) (λ n v. front (g v) (drop n r.taken)) (subst (λ at. IsNoMore at (length r.taken)) (sym r.decided) (omega arith)));
+  }
 
 module _ {V : Type 0} where
   pub leaves_whole : (f : Format V PackFault) (now : LinkState) (hasher : Sha1) → Leaves f f now now hasher hasher
@@ -251,6 +274,13 @@ module _ {V : Type 0} where
         (decides_behind (length p.taken) (length q.taken) old mid new (front rest q.taken) answer later q.decided));
   }
 
-  pub leaves_lacks : {U : Type 0} (whole rest : Format V PackFault) (h : Format U PackFault) (old mid : LinkState) (before between after : Sha1)
-      → Leaves whole rest old mid before between → Reads h old mid before after (Err NoMemory)
-  leaves_lacks whole rest h old mid before between after p = record { taken = p.taken; consumed = p.consumed; counted = p.counted; hashed = tt; decided = tt }
+  pub leaves_lacks : (whole rest : Format V PackFault) (old mid : LinkState) (before between after : Sha1)
+      → Leaves whole rest old mid before between → Reads whole old mid before after (Err NoMemory)
+  leaves_lacks whole rest old mid before between after p = record {
+    taken = p.taken;
+    consumed = p.consumed;
+    counted = p.counted;
+    hashed = tt;
+    decided = subst (λ at. IsNoMore at (length p.taken)) (ap (λ (l : List ℕ). front whole l) (append-nil p.taken))
+        (subst (λ at. IsNoMore at (length p.taken)) (sym (p.goes_on [])) (no_fewer (length p.taken) (length p.taken) (front rest []) (omega arith)));
+  }

@@ -4,7 +4,7 @@ use Rattle.std.proofs.lemmas.List.{take_at, drop_at, append-nil}
 use Rattle.std.specs.Io.KnownBytes.{Consumes, IsAtEnd}
 use Rattle.base_types.specs.Fronts.{Front, Whole, Broken, Partial}
 use Rattle.pktline_core.specs.LinkState.{LinkState}
-use Rattle.raw_pack.specs.Reading.{ShowsFault, Decides, ReadsFront, AnswersInput, AnswersLeft}
+use Rattle.raw_pack.specs.Reading.{ShowsFault, IsNoMore, Decides, ReadsFront, AnswersInput, AnswersLeft}
 use Rattle.raw_pack.specs.declared.fault.PackFault.{PackFault}
 use Rattle.raw_pack.specs.declared.fault.PackFault.TheVariants.{NotAPack, Version, Delta, BadHead, BadObject, Truncated, TrailerDiffers, TooLarge, TooMany, ReadFault, NoMemory}
 
@@ -24,7 +24,7 @@ module _ {V : Type 0} (at : List ℕ → Front V PackFault) (whole_stays : (xs y
     told_by : (answer : Result V PackFault) → new.left ≡ Some rest → Decides (at taken) (length taken) old new answer → AnswersInput at input (Some rest) answer
     told_by (Ok v) is d = (length taken, ap at consumed ∙ whole_stays taken rest (length taken) v d, left_is)
     told_by (Err ReadFault) is d = (length taken, (d.0.0, ap at (ap (take (length taken)) consumed ∙ take_at taken rest (length taken) refl) ∙ d.0.1), left_is)
-    told_by (Err NoMemory) is d = (length taken, left_is)
+    told_by (Err NoMemory) is d = (length taken, subst (λ (l : List ℕ). IsNoMore (at l) (length taken)) (sym (ap (take (length taken)) consumed ∙ take_at taken rest (length taken) refl)) d, left_is)
     told_by (Err NotAPack) is d = told_fault NotAPack is d
     told_by (Err (Version v)) is d = told_fault (Version v) is d
     told_by (Err (Delta i)) is d = told_fault (Delta i) is d

@@ -190,7 +190,7 @@ end_taken computed contents len =
     refl
 
 pack_taken : (xs : List ℕ) (contents : List Content) → IsPack xs contents → IsWithin contents → pack_front xs ≡ Whole (length xs) contents
-pack_taken xs contents (entries, are, is) within =
+pack_taken xs contents (few, entries, are, is) within =
     let part = signed entries contents in
     ap pack_front is
     ∙ front-pack (signed entries contents) (sha1 (signed entries contents)) contents (signed_taken entries contents are within)

@@ -39,6 +39,6 @@ AreEntries bytes (content ∷ contents) = (first : List ℕ) × (more : List ℕ
 abbrev pub signed : List ℕ → List Content → List ℕ
 signed entries contents = codes "PACK" ++ to_be_bytes w32 2 ++ to_be_bytes w32 (length contents) ++ entries
 
--- these bytes, all of them, are a pack of these objects
+-- these bytes, all of them, are a pack of these objects, which four bytes can count
 abbrev pub IsPack : List ℕ → List Content → Type 0
-IsPack bytes contents = (entries : List ℕ) × AreEntries entries contents × (bytes ≡ signed entries contents ++ sha1 (signed entries contents))
+IsPack bytes contents = (length contents < 4294967296) × (entries : List ℕ) × AreEntries entries contents × (bytes ≡ signed entries contents ++ sha1 (signed entries contents))

@@ -1,16 +1,18 @@
 -- What a reader of a pack's entries does.
-use Rattle.std.specs.Prelude.{◌≡◌, ℕ, ◌-◌, List, [], ◌∷◌, ◌++◌, length, Option, Some, None, Result, Ok, Err}
+use Rattle.std.specs.Prelude.{◌≡◌, ◌⊎◌, ⊤, IsTrue, ℕ, ◌-◌, List, [], ◌∷◌, ◌++◌, length, Option, Some, None, Result, Ok, Err}
 use Rattle.std.specs.Prelude.{Bool, if◌then◌else◌}
 use Rattle.std.specs.Option.{option_map}
 use Rattle.sha1.specs.Sha1.{Holds}
 use Rattle.sha1.specs.declared.Sha1.{Sha1}
 use Rattle.git_object.specs.Content.{Content}
+use Rattle.base_types.specs.Counts.{HasRisen}
 use Rattle.pktline_core.specs.LinkState.{LinkState}
 use Rattle.pktline_core.specs.Links.{IsLater}
 use Rattle.raw_pack.specs.Packs.{signed_part, pack_entries, pack_front}
 use Rattle.raw_pack.specs.Reading.{Leaves, ReadsFront}
 use Rattle.raw_pack.specs.declared.entry.PackEntry.{PackEntry}
 use Rattle.raw_pack.specs.declared.fault.PackFault.{PackFault}
+use Rattle.raw_pack.specs.declared.fault.PackFault.TheVariants.{ReadFault}
 
 pub record ReaderState : Type 0 where
   -- the SHA-1 of what was read, so far
@@ -69,6 +71,11 @@ GoesOn old new before after answer = (start : LinkState) (contents : List Conten
 -- a reader that has ended answers the same again, and takes nothing
 unfoldable pub Repeats : {S : Type 0} → S → S → ReaderState → ReaderState → Result (Option Content) PackFault → Type 0
 Repeats old new before after answer = (end : Result (Unit {0}) PackFault) → before.end ≡ Some end → (answer ≡ end_answer end) × (new ≡ old) × (after ≡ before)
+
+-- A failed read is told where a read failed in this call, or by a reader that ended with one.
+abbrev pub HasCause : {V : Type 0} → LinkState → LinkState → ReaderState → Result V PackFault → Type 0
+HasCause old new before (Err ReadFault) = (HasRisen old.read_faults new.read_faults × IsTrue old.may_fail) ⊎ (before.end ≡ Some (Err ReadFault))
+HasCause old new before answer = ⊤
 
 -- both
 pub record NextEntry {S : Type 0} (source source' : S) (old new : LinkState) (before after : ReaderState) (answer : Result (Option Content) PackFault) : Type 0 where

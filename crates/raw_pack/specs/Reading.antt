@@ -1,5 +1,5 @@
 -- What a step of reading a pack does.
-use Rattle.std.specs.Prelude.{◌≡◌, ◌⊎◌, ⊤, ℕ, ◌+◌, List, [], ◌++◌, length, take, drop, IsTrue, IfOk, Option, Some, None, Result, Ok, Err}
+use Rattle.std.specs.Prelude.{◌≡◌, ◌⊎◌, ⊤, ℕ, ◌+◌, ◌≤◌, List, [], ◌++◌, length, take, drop, IsTrue, IfOk, Option, Some, None, Result, Ok, Err}
 use Rattle.std.specs.Io.KnownBytes.{Consumes, IsAtEnd}
 use Rattle.sha1.specs.Sha1.{Holds}
 use Rattle.sha1.specs.declared.Sha1.{Sha1}
@@ -19,15 +19,26 @@ IsPartial at = (fault : PackFault) × (at ≡ Partial fault)
 abbrev pub ShowsFault : {V : Type 0} → Front V PackFault → ℕ → LinkState → PackFault → Type 0
 ShowsFault at taken new fault = (at ≡ Broken taken fault) ⊎ ((at ≡ Partial fault) × IsAtEnd new.left)
 
--- What was taken decides the answer. Want of memory claims nothing of it.
+-- so many bytes are no more than decide what stands at the front
+abbrev pub IsNoMore : {V F : Type 0} → Front V F → ℕ → Type 0
+IsNoMore (Whole n v) taken = taken ≤ n
+IsNoMore (Broken n fault) taken = taken ≤ n
+IsNoMore (Partial fault) taken = ⊤
+
+-- What was taken decides the answer. Where memory lacks, no more was taken than decides it.
 abbrev pub DecidesFault : {V : Type 0} → Front V PackFault → ℕ → LinkState → LinkState → PackFault → Type 0
 DecidesFault at taken old new ReadFault = IsPartial at × HasRisen old.read_faults new.read_faults × IsTrue old.may_fail
-DecidesFault at taken old new NoMemory = ⊤
+DecidesFault at taken old new NoMemory = IsNoMore at taken
 DecidesFault at taken old new fault = ShowsFault at taken new fault
 
 abbrev pub Decides : {V : Type 0} → Front V PackFault → ℕ → LinkState → LinkState → Result V PackFault → Type 0
 Decides at taken old new (Ok v) = at ≡ Whole taken v
 Decides at taken old new (Err fault) = DecidesFault at taken old new fault
+
+-- no failed read is hidden
+abbrev pub TellsFault : {V : Type 0} → LinkState → LinkState → Result V PackFault → Type 0
+TellsFault old new (Err ReadFault) = ⊤
+TellsFault old new answer = new.read_faults ≡ old.read_faults
 
 -- So many bytes were taken as decide the answer, and no more.
 pub record ReadsFront {V : Type 0} (at : List ℕ → Front V PackFault) (old new : LinkState) (answer : Result V PackFault) : Type 0 where
@@ -66,7 +77,7 @@ fault_at entry fault = BadObject entry
 abbrev pub AnswersInput : {V : Type 0} → (List ℕ → Front V PackFault) → List ℕ → Option (List ℕ) → Result V PackFault → Type 0
 AnswersInput at input left (Ok v) = (n : ℕ) × (at input ≡ Whole n v) × (left ≡ Some (drop n input))
 AnswersInput at input left (Err ReadFault) = (n : ℕ) × IsPartial (at (take n input)) × (left ≡ Some (drop n input))
-AnswersInput at input left (Err NoMemory) = (n : ℕ) × (left ≡ Some (drop n input))
+AnswersInput at input left (Err NoMemory) = (n : ℕ) × IsNoMore (at (take n input)) n × (left ≡ Some (drop n input))
 AnswersInput at input left (Err fault) = ((n : ℕ) × (at input ≡ Broken n fault) × (left ≡ Some (drop n input))) ⊎ ((at input ≡ Partial fault) × (left ≡ Some []))
 
 -- the same of what a source has left, before and after, where it tells it

@@ -3,7 +3,7 @@ ghost use Rattle.std.specs.Prelude.{◌≡◌, ◌≤◌, ◌<◌, IfOk};
 ghost use Rattle.pktline_core.specs.Links.{IsLater, KeepsWriting};
 ghost use Rattle.raw_pack.specs.Packs.{entry_count, entry_head, header, is_too_large, kind_of_bits, more_size, signature, version};
 ghost use Rattle.raw_pack.specs.Heads.{IsTaken};
-ghost use Rattle.raw_pack.specs.Reading.{Reads};
+ghost use Rattle.raw_pack.specs.Reading.{Reads, TellsFault};
 
 use crate::fault::PackFault;
 use crate::input::{take_byte, take_bytes, take_word};
@@ -30,6 +30,7 @@ pub const MAX_SUM: u64 = 268_435_456;
 /// `PACK`, the version 2, and the number of entries, which is the result.
 pub fn read_header<S: Source>(source: &mut S, hasher: &mut Sha1) -> Result<u32, PackFault>
     ensures reads { Reads header (S.state source.old) (S.state source.new) hasher.old hasher.new result }
+    ensures tells { TellsFault (S.state source.old) (S.state source.new) result }
     ensures writing { KeepsWriting (S.state source.old) (S.state source.new) }
     ensures later { IsLater (S.state source.old) (S.state source.new) }
 {
@@ -40,6 +41,7 @@ pub fn read_header<S: Source>(source: &mut S, hasher: &mut Sha1) -> Result<u32, 
 
 fn read_signature<S: Source>(source: &mut S, hasher: &mut Sha1) -> Result<(), PackFault>
     ensures reads { Reads signature (S.state source.old) (S.state source.new) hasher.old hasher.new result }
+    ensures tells { TellsFault (S.state source.old) (S.state source.new) result }
     ensures writing { KeepsWriting (S.state source.old) (S.state source.new) }
     ensures later { IsLater (S.state source.old) (S.state source.new) }
 {
@@ -53,6 +55,7 @@ fn read_signature<S: Source>(source: &mut S, hasher: &mut Sha1) -> Result<(), Pa
 
 fn read_version<S: Source>(source: &mut S, hasher: &mut Sha1) -> Result<(), PackFault>
     ensures reads { Reads version (S.state source.old) (S.state source.new) hasher.old hasher.new result }
+    ensures tells { TellsFault (S.state source.old) (S.state source.new) result }
     ensures writing { KeepsWriting (S.state source.old) (S.state source.new) }
     ensures later { IsLater (S.state source.old) (S.state source.new) }
 {
@@ -65,6 +68,7 @@ fn read_version<S: Source>(source: &mut S, hasher: &mut Sha1) -> Result<(), Pack
 
 fn read_count<S: Source>(source: &mut S, hasher: &mut Sha1) -> Result<u32, PackFault>
     ensures reads { Reads entry_count (S.state source.old) (S.state source.new) hasher.old hasher.new result }
+    ensures tells { TellsFault (S.state source.old) (S.state source.new) result }
     ensures writing { KeepsWriting (S.state source.old) (S.state source.new) }
     ensures later { IsLater (S.state source.old) (S.state source.new) }
 {
@@ -85,6 +89,7 @@ pub fn read_entry_head<S: Source>(
     requires { sum ≤ MAX_SUM }
     ensures reads { Reads (entry_head entry sum) (S.state source.old) (S.state source.new) hasher.old hasher.new result }
     ensures small { IfOk result (IsTaken sum) }
+    ensures tells { TellsFault (S.state source.old) (S.state source.new) result }
     ensures writing { KeepsWriting (S.state source.old) (S.state source.new) }
     ensures later { IsLater (S.state source.old) (S.state source.new) }
 {
@@ -141,6 +146,7 @@ fn read_more_size<S: Source>(
     requires low { low < 16 }
     ensures reads { Reads (more_size 4 entry sum kind low 16) (S.state source.old) (S.state source.new) hasher.old hasher.new result }
     ensures small { IfOk result (IsTaken sum) }
+    ensures tells { TellsFault (S.state source.old) (S.state source.new) result }
     ensures writing { KeepsWriting (S.state source.old) (S.state source.new) }
     ensures later { IsLater (S.state source.old) (S.state source.new) }
 {

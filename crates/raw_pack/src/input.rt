@@ -3,7 +3,7 @@ ghost use Rattle.std.specs.Prelude.{length};
 ghost use Rattle.pktline_core.specs.Links.{IsLater, KeepsWriting};
 ghost use Rattle.raw_pack.specs.Formats.{bytes};
 ghost use Rattle.raw_pack.specs.Packs.{byte, word};
-ghost use Rattle.raw_pack.specs.Reading.{Reads, filled};
+ghost use Rattle.raw_pack.specs.Reading.{Reads, TellsFault, filled};
 
 use crate::fault::PackFault;
 use pktline_core::{Source, TakeFault, take_all};
@@ -17,6 +17,7 @@ pub fn take_bytes<S: Source>(
     entry: u32,
 ) -> Result<(), PackFault>
     ensures reads { Reads (bytes (length room.old) (PackFault.Truncated entry)) (S.state source.old) (S.state source.new) hasher.old hasher.new (filled room.new result) }
+    ensures tells { TellsFault (S.state source.old) (S.state source.new) result }
     ensures writing { KeepsWriting (S.state source.old) (S.state source.new) }
     ensures later { IsLater (S.state source.old) (S.state source.new) }
 {
@@ -33,6 +34,7 @@ pub fn take_bytes<S: Source>(
 /// One byte.
 pub fn take_byte<S: Source>(source: &mut S, hasher: &mut Sha1, entry: u32) -> Result<u8, PackFault>
     ensures reads { Reads (byte entry) (S.state source.old) (S.state source.new) hasher.old hasher.new result }
+    ensures tells { TellsFault (S.state source.old) (S.state source.new) result }
     ensures writing { KeepsWriting (S.state source.old) (S.state source.new) }
     ensures later { IsLater (S.state source.old) (S.state source.new) }
 {
@@ -44,6 +46,7 @@ pub fn take_byte<S: Source>(source: &mut S, hasher: &mut Sha1, entry: u32) -> Re
 /// Four bytes of the header as a number, the highest first.
 pub fn take_word<S: Source>(source: &mut S, hasher: &mut Sha1) -> Result<u32, PackFault>
     ensures reads { Reads word (S.state source.old) (S.state source.new) hasher.old hasher.new result }
+    ensures tells { TellsFault (S.state source.old) (S.state source.new) result }
     ensures writing { KeepsWriting (S.state source.old) (S.state source.new) }
     ensures later { IsLater (S.state source.old) (S.state source.new) }
 {

@@ -4,7 +4,8 @@ ghost use Rattle.std.specs.Option.{option_map};
 ghost use Rattle.std.specs.Borrow.{sem};
 ghost use Rattle.std.specs.Io.BufRead.{Rests};
 ghost use Rattle.pktline_core.specs.Links.{IsLater, KeepsWriting};
-ghost use Rattle.raw_pack.specs.Readers.{Begins, GoesOn, NextEntry, Repeats, content_of, entry_answer, kept_answer};
+ghost use Rattle.raw_pack.specs.Reading.{TellsFault};
+ghost use Rattle.raw_pack.specs.Readers.{Begins, GoesOn, HasCause, NextEntry, Repeats, content_of, entry_answer, kept_answer};
 ghost use Rattle.raw_pack.specs.contracts.reader.PackReader.{the_row};
 
 use crate::entry::PackEntry;
@@ -45,6 +46,7 @@ impl PackReader {
     /// Reads the header of a pack. Each entry is read by a call of `next_entry` on the same source.
     pub fn begin<S: Source>(alloc: Global, source: &mut S) -> Result<PackReader, PackFault>
         ensures begins { Begins (S.state source.old) (S.state source.new) result }
+        ensures tells { TellsFault (S.state source.old) (S.state source.new) result }
         ensures writing { KeepsWriting (S.state source.old) (S.state source.new) }
         ensures later { IsLater (S.state source.old) (S.state source.new) }
     {
@@ -67,6 +69,8 @@ impl PackReader {
         source: &mut S,
     ) -> Result<Option<PackEntry<'_>>, PackFault>
         ensures* reads { sem 𝓛 (Rests the_row self.entry (λ new. NextEntry source.old source.new (S.state source.old) (S.state source.new) self.old new (entry_answer result))) }
+        ensures caused { HasCause (S.state source.old) (S.state source.new) self.old result }
+        ensures tells { TellsFault (S.state source.old) (S.state source.new) result }
         ensures writing { KeepsWriting (S.state source.old) (S.state source.new) }
         ensures later { IsLater (S.state source.old) (S.state source.new) }
     {
@@ -81,6 +85,8 @@ impl PackReader {
     fn advance<S: Source>(&mut self, source: &mut S) -> Result<bool, PackFault>
         ensures goes_on { GoesOn (S.state source.old) (S.state source.new) self.old self.new (kept_answer self.new result) }
         ensures repeats { Repeats source.old source.new self.old self.new (kept_answer self.new result) }
+        ensures caused { HasCause (S.state source.old) (S.state source.new) self.old result }
+        ensures tells { TellsFault (S.state source.old) (S.state source.new) result }
         ensures writing { KeepsWriting (S.state source.old) (S.state source.new) }
         ensures later { IsLater (S.state source.old) (S.state source.new) }
     {
@@ -100,6 +106,8 @@ impl PackReader {
         requires more { self.old.read < self.old.count }
         requires goes { self.old.end ≡ None }
         ensures goes_on { GoesOn (S.state source.old) (S.state source.new) self.old self.new (kept_answer self.new result) }
+        ensures caused { HasCause (S.state source.old) (S.state source.new) self.old result }
+        ensures tells { TellsFault (S.state source.old) (S.state source.new) result }
         ensures writing { KeepsWriting (S.state source.old) (S.state source.new) }
         ensures later { IsLater (S.state source.old) (S.state source.new) }
     {
@@ -121,6 +129,8 @@ impl PackReader {
         requires all { self.old.count ≤ self.old.read }
         requires goes { self.old.end ≡ None }
         ensures goes_on { GoesOn (S.state source.old) (S.state source.new) self.old self.new (kept_answer self.new result) }
+        ensures caused { HasCause (S.state source.old) (S.state source.new) self.old result }
+        ensures tells { TellsFault (S.state source.old) (S.state source.new) result }
         ensures writing { KeepsWriting (S.state source.old) (S.state source.new) }
         ensures later { IsLater (S.state source.old) (S.state source.new) }
     {

@@ -3,7 +3,7 @@ ghost use Rattle.std.specs.Prelude.{◌≡◌, ◌+◌, ◌≤◌, [], length, I
 ghost use Rattle.pktline_core.specs.Links.{IsLater, KeepsWriting};
 ghost use Rattle.raw_pack.specs.Formats.{front};
 ghost use Rattle.raw_pack.specs.Packs.{pack_entries, pack_entry, pack_front, trailer};
-ghost use Rattle.raw_pack.specs.Reading.{AnswersLeft, Reads, ReadsFront, fault_at};
+ghost use Rattle.raw_pack.specs.Reading.{AnswersLeft, Reads, ReadsFront, TellsFault, fault_at};
 
 use crate::fault::PackFault;
 use crate::head::{MAX_ENTRIES, MAX_SUM, read_entry_head, read_header};
@@ -24,6 +24,7 @@ pub fn read_object<S: Source>(
     requires { sum ≤ MAX_SUM }
     ensures reads { Reads (pack_entry entry sum) (S.state source.old) (S.state source.new) hasher.old hasher.new result }
     ensures small { IfOk result (λ object. sum + length object.body ≤ MAX_SUM) }
+    ensures tells { TellsFault (S.state source.old) (S.state source.new) result }
     ensures writing { KeepsWriting (S.state source.old) (S.state source.new) }
     ensures later { IsLater (S.state source.old) (S.state source.new) }
 {
@@ -56,6 +57,7 @@ pub fn read_entries<S: Source>(
 ) -> Result<ObjectList, PackFault>
     ensures reads { Reads (pack_entries count 0 0 []) (S.state source.old) (S.state source.new) hasher.old hasher.new result }
     ensures all { IfOk result (λ objects. length objects ≡ count) }
+    ensures tells { TellsFault (S.state source.old) (S.state source.new) result }
     ensures writing { KeepsWriting (S.state source.old) (S.state source.new) }
     ensures later { IsLater (S.state source.old) (S.state source.new) }
 {
@@ -76,6 +78,7 @@ pub fn read_trailer<S: Source>(
     count: u32,
 ) -> Result<(), PackFault>
     ensures reads { ReadsFront (front (trailer computed count)) (S.state source.old) (S.state source.new) result }
+    ensures tells { TellsFault (S.state source.old) (S.state source.new) result }
     ensures writing { KeepsWriting (S.state source.old) (S.state source.new) }
     ensures later { IsLater (S.state source.old) (S.state source.new) }
 {
@@ -95,6 +98,7 @@ pub fn read_trailer<S: Source>(
 pub fn read_pack<S: Source>(alloc: Global, source: &mut S) -> Result<ObjectList, PackFault>
     ensures reads { ReadsFront pack_front (S.state source.old) (S.state source.new) result }
     ensures told { AnswersLeft pack_front ((S.state source.old).left) ((S.state source.new).left) result }
+    ensures tells { TellsFault (S.state source.old) (S.state source.new) result }
     ensures writing { KeepsWriting (S.state source.old) (S.state source.new) }
     ensures later { IsLater (S.state source.old) (S.state source.new) }
 {

@@ -71,21 +71,29 @@ fn a_pack_is_read(rt: HostRuntime) -> Result<(), Fail> {
 }
 
 // Where the pack is changed, to what, the fault, and how many bytes show it.
-const FAULTS: [(usize, &[u8], PackFault, usize); 15] = [
+const FAULTS: [(usize, &[u8], PackFault, usize); 18] = [
     (3, b"k", PackFault::NotAPack, 4),
     (7, b"\x03", PackFault::Version(3), 8),
     (4, b"\x01\0\0\x02", PackFault::Version(16_777_218), 8),
     (8, b"\0\x01\x86\xa1", PackFault::TooMany(100_001), 12),
+    (8, b"\0\x01\x86\xa0", PackFault::Delta(2), 172),
     (12, b"\x60", PackFault::Delta(0), 13),
     (12, b"\xf0", PackFault::Delta(0), 13),
     (12, b"\x00", PackFault::BadHead(0), 13),
     (12, b"\xd0", PackFault::BadHead(0), 13),
     (13, b"\0", PackFault::BadHead(0), 14),
     (170, b"\xa0\0", PackFault::BadHead(1), 172),
+    (12, b"\xb1\x80\x80\xc0\0", PackFault::BadHead(0), 17),
     (12, b"\xbf\xff\xff\xff\xff", PackFault::TooLarge(0), 17),
     (12, b"\xb1\x80\x80\x40", PackFault::TooLarge(0), 16),
     (12, b"\xb0\x80\x80\x40", PackFault::Truncated(0), 192),
     (17, b"f", PackFault::BadObject(0), 170),
+    (
+        170,
+        b"\xaa\x03100644 b\000000000000000000000100644 a\000000000000000000000",
+        PackFault::BadObject(1),
+        230,
+    ),
     (
         190,
         b"\xda",

@@ -1,4 +1,4 @@
-use Rattle.std.proofs.Common.{rules, ◌≡◌, ◌+◌, ◌-◌, ◌++◌, ◌∷◌, [], suc, Ok, ◌∙◌, ap, arith, length-append}
+use Rattle.std.proofs.Common.{rules, ◌≡◌, ◌+◌, ◌-◌, ◌++◌, ◌∷◌, [], suc, Ok, refl, ◌∙◌, ap, arith, length-append}
 use Rattle.std.proofs.lemmas.Result.{err_from_is_err_and}
 use Rattle.hub_core.proofs.ListLemmas.{all_pushed}
 use Rattle.interaction_tree.proofs.RunLemmas.{runs_memory}
@@ -14,6 +14,8 @@ loop-init g c =
     let is : c.push.new.self ≡ c.args.first ∷ [] = search rules in
     record {
       runs = λ b desk out ran. rw (taking_is c.args.first) (rw is at ran);
+      reads = refl;
+      puts = refl;
       ready = c.requires.ready;
       count = rw is;
       short = rw is (c.requires.short, tt);
@@ -52,6 +54,8 @@ loop-preserved g c =
     record {
       runs = λ b desk out ran.
           c.loop.invariant.runs b desk out (further_goes _ _ desk c.loop.commands _ _ may c.take_further.result (c.take_further.ensures.runs desk) b c.in-Some.command out (c.in_ok-command.was ∙ ap (λ o. Ok o) c.in-Some.is) (rw pushed at ran));
+      reads = c.in_ok-command.ensures.tells.0 ∙ c.loop.invariant.reads;
+      puts = c.in_ok-command.ensures.tells.1 ∙ c.loop.invariant.puts;
       ready = c.in_ok-command.ensures.ready;
       count = rw pushed (omega (arith, length-append c.loop.commands (c.in-Some.command ∷ []), c.loop.invariant.count));
       short = rw pushed (all_pushed HasShortName c.loop.commands c.in-Some.command c.loop.invariant.short (search rules));

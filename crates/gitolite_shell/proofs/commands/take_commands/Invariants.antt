@@ -16,6 +16,8 @@ invariant-loop g l = record {
   runs : (b : LinkState) (desk : DeskView) (out : Result (List Command) (Halt SessionEnd))
       → Runs (g.L.Endpoint.state l.link) b desk desk (still_taking l.commands (10000 - l.counter)) out
       → Runs (g.L.Endpoint.state l.initial.link) b desk desk (taking_commands l.fn.first) out;
+  reads : (g.L.Endpoint.state l.link).read_faults ≡ (g.L.Endpoint.state l.initial.link).read_faults;
+  puts : (g.L.Endpoint.state l.link).write_faults ≡ (g.L.Endpoint.state l.initial.link).write_faults;
   ready : IsReady l.reader (g.L.Endpoint.state l.link);
   count : length l.commands ≡ l.counter;
   short : HaveShortNames l.commands;

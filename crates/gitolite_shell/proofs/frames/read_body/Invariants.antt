@@ -8,6 +8,7 @@ invariant-loop-room g l = record {
   takes : Takes (g.S.Endpoint.state l.initial.source) (g.S.Endpoint.state l.source) l.body.items;
   within : length l.body.items ≤ l.size;
   room : length l.room.items ≡ min l.size 65536;
+  tells : (g.S.Endpoint.state l.source).read_faults ≡ (g.S.Endpoint.state l.initial.source).read_faults;
   later : IsLater (g.S.Endpoint.state l.initial.source) (g.S.Endpoint.state l.source);
 }
 

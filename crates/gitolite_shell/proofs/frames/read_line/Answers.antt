@@ -1,4 +1,4 @@
-use Rattle.std.proofs.Common.{◌≡◌, ◌++◌, ◌∷◌, [], rules}
+use Rattle.std.proofs.Common.{◌≡◌, ◌++◌, ◌∷◌, [], ◌∙◌, rules}
 use Rattle.pktline_core.proofs.LinkLemmas.{later_more}
 use Rattle.gitolite_shell.proofs.FrameLemmas.{no_feed_more}
 use Rattle.gitolite_shell.proofs.ReadingLemmas.{takes_more}
@@ -12,5 +12,6 @@ loop-source-preserved g c =
       takes = rw more (takes_more _ _ _ _ _ c.loop-source.invariant.takes taken);
       no_feed = rw more (no_feed_more c.loop-source.line.items c.in-Some.byte c.loop-source.invariant.no_feed c.if-byte-eq10.false);
       within = search rules;
+      tells = c.in_ok-byte.ensures.tells ∙ c.loop-source.invariant.tells;
       later = later_more _ _ _ c.loop-source.invariant.later c.take_byte.ensures.later;
     }

@@ -1,4 +1,4 @@
-use Rattle.std.proofs.Common.{◌≤◌, ◌-◌, length}
+use Rattle.std.proofs.Common.{◌≡◌, ◌≤◌, ◌-◌, length}
 use Rattle.pktline_core.specs.Links.{IsLater}
 use Rattle.gitolite_shell.specs.ReadingFrames.{HasNoFeed, Takes}
 use Rattle.gitolite_shell.proofs.frames.read_line.Given as goal
@@ -8,6 +8,7 @@ invariant-loop-source g l = record {
   takes : Takes (g.S.Endpoint.state l.initial.source) (g.S.Endpoint.state l.source) l.line.items;
   no_feed : HasNoFeed l.line.items;
   within : length l.line.items ≤ 18;
+  tells : (g.S.Endpoint.state l.source).read_faults ≡ (g.S.Endpoint.state l.initial.source).read_faults;
   later : IsLater (g.S.Endpoint.state l.initial.source) (g.S.Endpoint.state l.source);
 }
 

@@ -1,4 +1,4 @@
-use Rattle.std.proofs.Common.{◌∙◌, ap}
+use Rattle.std.proofs.Common.{◌∙◌, ap, refl}
 use Rattle.std.proofs.lemmas.Result.{err_from_is_err_and}
 use Rattle.gitolite_shell.proofs.StepLemmas.{says, says_exits}
 use Rattle.gitolite_shell.proofs.AdvertisementLemmas.{rest_text, rest_more, rest_none, advertisement_is, short_rest, short_first, keeps_same, keeps_more}
@@ -9,6 +9,8 @@ loop-name-init g c =
     let all = c.into_iter-name-iterator.ensures.into_iter_gives ∙ c.refs-name-items.ensures in
     record {
       writes = λ c' desk out ran. rw all at ran;
+      reads = refl;
+      puts = refl;
       reading = keeps_same _;
       short = rw all c.requires.names;
     }
@@ -28,6 +30,8 @@ loop-name-preserved g c =
     record {
       writes = λ c' desk out ran.
           c.loop-name.invariant.writes c' desk out (rw more (says _ _ desk _ _ c.advertise_ref.result c' c.in_ok-advertise_ref.field-0 out c.in_ok-advertise_ref.was (rw c.bytes.ensures at (c.advertise_ref.ensures.runs desk)) ran));
+      reads = c.in_ok-advertise_ref.ensures.tells.0 ∙ c.loop-name.invariant.reads;
+      puts = c.in_ok-advertise_ref.ensures.tells.1 ∙ c.loop-name.invariant.puts;
       reading = keeps_more _ _ _ c.loop-name.invariant.reading c.advertise_ref.ensures.reading;
       short = short_rest _ _ _ c.in-Some.ensures.steps c.loop-name.invariant.short;
     }

@@ -3,17 +3,13 @@ use Rattle.gitolite_shell.specs.Session.{receiving, commanding}
 use Rattle.gitolite_shell.proofs.StepLemmas.{exits, goes}
 use Rattle.gitolite_shell.proofs.receiving.receive.Goals as goal
 
-pub returns-in_err-advertise : goal.returns-in_err-advertise
+pub returns-in_err-advertise-clause-runs : goal.returns-in_err-advertise-clause-runs
 unfolding receiving
-returns-in_err-advertise g c = record {
-  runs =
-      let p = err_from_is_err_and c.from_residual.result c.from_residual.ensures.1 in
-      exits _ _ _ _ _ _ c.advertise.result _ _ _ c.in_err-advertise.was p.1 p.2 (rw c.repo.ensures.repo at (c.advertise.ensures.runs (g.K.Desk.view c.args.desk.now)));
-}
+returns-in_err-advertise-clause-runs g c =
+    let p = err_from_is_err_and c.from_residual.result c.from_residual.ensures.1 in
+    exits _ _ _ _ _ _ c.advertise.result _ _ _ c.in_err-advertise.was p.1 p.2 (rw c.repo.ensures.repo at (c.advertise.ensures.runs (g.K.Desk.view c.args.desk.now)))
 
-pub returns : goal.returns
+pub returns-clause-runs : goal.returns-clause-runs
 unfolding receiving
-returns g c = record {
-  runs =
-      goes _ _ _ _ _ (λ u. commanding _ c.args.pin) c.advertise.result _ _ c.in_ok-advertise.field-0 _ c.in_ok-advertise.was (rw c.repo.ensures.repo at (c.advertise.ensures.runs (g.K.Desk.view c.args.desk.now))) c.receive_command.ensures.runs;
-}
+returns-clause-runs g c =
+    goes _ _ _ _ _ (λ u. commanding _ c.args.pin) c.advertise.result _ _ c.in_ok-advertise.field-0 _ c.in_ok-advertise.was (rw c.repo.ensures.repo at (c.advertise.ensures.runs (g.K.Desk.view c.args.desk.now))) c.receive_command.ensures.runs

@@ -4,25 +4,19 @@ use Rattle.gitolite_shell.specs.Texts.{report}
 use Rattle.gitolite_shell.proofs.StepLemmas.{says, says_exits}
 use Rattle.gitolite_shell.proofs.reports.report.Goals as goal
 
-pub returns-in_err-say : goal.returns-in_err-say
+pub returns-in_err-say-clause-runs : goal.returns-in_err-say-clause-runs
 unfolding report
-returns-in_err-say g c = record {
-  runs = λ desk.
-      let p = err_from_is_err_and c.from_residual.result c.from_residual.ensures.1 in
-      rw append_assoc (says_exits _ _ desk _ _ c.say.result _ _ _ c.in_err-say.was p.1 p.2 (c.say.ensures.runs desk));
-}
+returns-in_err-say-clause-runs g c = λ desk.
+    let p = err_from_is_err_and c.from_residual.result c.from_residual.ensures.1 in
+    rw append_assoc (says_exits _ _ desk _ _ c.say.result _ _ _ c.in_err-say.was p.1 p.2 (c.say.ensures.runs desk))
 
-pub returns-in_err-report_all : goal.returns-in_err-report_all
+pub returns-in_err-report_all-clause-runs : goal.returns-in_err-report_all-clause-runs
 unfolding report
-returns-in_err-report_all g c = record {
-  runs = λ desk.
-      let p = err_from_is_err_and c.from_residual-in_err-report_all.result c.from_residual-in_err-report_all.ensures.1 in
-      rw append_assoc (says _ _ desk _ _ c.say.result _ _ _ c.in_ok-say.was (c.say.ensures.runs desk) (says_exits _ _ desk _ _ c.report_all.result _ _ _ c.in_err-report_all.was p.1 p.2 (c.report_all.ensures.runs desk)));
-}
+returns-in_err-report_all-clause-runs g c = λ desk.
+    let p = err_from_is_err_and c.from_residual-in_err-report_all.result c.from_residual-in_err-report_all.ensures.1 in
+    rw append_assoc (says _ _ desk _ _ c.say.result _ _ _ c.in_ok-say.was (c.say.ensures.runs desk) (says_exits _ _ desk _ _ c.report_all.result _ _ _ c.in_err-report_all.was p.1 p.2 (c.report_all.ensures.runs desk)))
 
-pub returns : goal.returns
+pub returns-clause-runs : goal.returns-clause-runs
 unfolding report
-returns g c = record {
-  runs = λ desk.
-      rw append_assoc (says _ _ desk _ _ c.say.result _ _ _ c.in_ok-say.was (c.say.ensures.runs desk) (says _ _ desk _ _ c.report_all.result _ _ _ c.in_ok-report_all.was (c.report_all.ensures.runs desk) (c.say_flush.ensures.runs desk)));
-}
+returns-clause-runs g c = λ desk.
+    rw append_assoc (says _ _ desk _ _ c.say.result _ _ _ c.in_ok-say.was (c.say.ensures.runs desk) (says _ _ desk _ _ c.report_all.result _ _ _ c.in_ok-report_all.was (c.report_all.ensures.runs desk) (c.say_flush.ensures.runs desk)))

@@ -1,4 +1,4 @@
-use Rattle.std.proofs.Common.{drop, Result}
+use Rattle.std.proofs.Common.{◌≡◌, drop, Result}
 use Rattle.std.specs.Slice.Iter.{iter_rest}
 use Rattle.pktline_core.specs.LinkState.{LinkState}
 use Rattle.hub_core.specs.Desk.{DeskView}
@@ -14,4 +14,6 @@ invariant-loop-command g l = record {
   writes : (b : LinkState) (desk : DeskView) (out : Result (Unit {0}) (Halt SessionEnd))
       → Runs (g.L.Endpoint.state l.link) b desk desk (write (statuses_left l.commands (drop l.command-index l.commands) (iter_rest l.told))) out
       → Runs (g.L.Endpoint.state l.initial.link) b desk desk (write (statuses_left l.commands l.commands l.outcomes)) out;
+  reads : (g.L.Endpoint.state l.link).read_faults ≡ (g.L.Endpoint.state l.initial.link).read_faults;
+  puts : (g.L.Endpoint.state l.link).write_faults ≡ (g.L.Endpoint.state l.initial.link).write_faults;
 }

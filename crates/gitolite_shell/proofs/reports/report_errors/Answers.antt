@@ -1,4 +1,4 @@
-use Rattle.std.proofs.Common.{rules, ◌≡◌, ◌<◌, ◌≤◌, length, get_or}
+use Rattle.std.proofs.Common.{rules, ◌≡◌, ◌<◌, ◌≤◌, length, get_or, refl, ◌∙◌}
 use Rattle.std.proofs.lemmas.Result.{err_from_is_err_and}
 use Rattle.gitolite_shell.proofs.StepLemmas.{says, says_exits, says_nothing}
 use Rattle.gitolite_shell.proofs.AdvertisementLemmas.{keeps_same, keeps_more}
@@ -6,7 +6,7 @@ use Rattle.gitolite_shell.proofs.ReportLemmas.{errors_all, errors_more, errors_e
 use Rattle.gitolite_shell.proofs.reports.report_errors.Goals as goal
 
 pub loop-command-init : goal.loop-command-init
-loop-command-init g c = record { writes = λ b desk out ran. ran; reading = keeps_same _ }
+loop-command-init g c = record { writes = λ b desk out ran. ran; reads = refl; puts = refl; reading = keeps_same _ }
 
 pub report_error-requires : goal.report_error-requires
 report_error-requires g c =
@@ -31,6 +31,8 @@ loop-command-preserved g c =
     record {
       writes = λ b desk out ran.
           c.loop-command.invariant.writes b desk out (rw (errors_more c.args.commands.now c.loop-command.command-index _ within is) (says _ _ desk _ _ c.report_error.result b c.in_ok-report_error.field-0 out c.in_ok-report_error.was (c.report_error.ensures.runs desk) ran));
+      reads = c.in_ok-report_error.ensures.tells.0 ∙ c.loop-command.invariant.reads;
+      puts = c.in_ok-report_error.ensures.tells.1 ∙ c.loop-command.invariant.puts;
       reading = keeps_more _ _ _ c.loop-command.invariant.reading c.report_error.ensures.reading;
     }
 

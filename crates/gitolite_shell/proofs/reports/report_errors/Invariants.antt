@@ -1,4 +1,4 @@
-use Rattle.std.proofs.Common.{drop, Result}
+use Rattle.std.proofs.Common.{◌≡◌, drop, Result}
 use Rattle.pktline_core.specs.LinkState.{LinkState}
 use Rattle.pktline_core.specs.Links.{KeepsReading}
 use Rattle.hub_core.specs.Desk.{DeskView}
@@ -14,5 +14,7 @@ invariant-loop-command g l = record {
   writes : (b : LinkState) (desk : DeskView) (out : Result (Unit {0}) (Halt SessionEnd))
       → Runs (g.L.Endpoint.state l.link) b desk desk (write (errors_left (drop l.command-index l.commands))) out
       → Runs (g.L.Endpoint.state l.initial.link) b desk desk (write (errors_left l.commands)) out;
+  reads : (g.L.Endpoint.state l.link).read_faults ≡ (g.L.Endpoint.state l.initial.link).read_faults;
+  puts : (g.L.Endpoint.state l.link).write_faults ≡ (g.L.Endpoint.state l.initial.link).write_faults;
   reading : KeepsReading (g.L.Endpoint.state l.initial.link) (g.L.Endpoint.state l.link);
 }

@@ -1,10 +1,10 @@
-use Rattle.std.proofs.Common.{◌≡◌, [], Err, refl, arith, rules}
+use Rattle.std.proofs.Common.{◌≡◌, [], Err, refl, ◌∙◌, arith, rules}
 use Rattle.pktline_core.proofs.LinkLemmas.{later_same, later_more}
 use Rattle.gitolite_shell.proofs.ScriptLemmas.{advances_none, advances_next, count_frames, given_more, runs_end, stops}
 use Rattle.gitolite_shell.proofs.script.run_script.Goals as goal
 
 pub loop-taken-init : goal.loop-taken-init
-loop-taken-init g c = record { so_far = ([], advances_none _ _ _ c.requires, refl, refl); input = later_same _; output = later_same _ }
+loop-taken-init g c = record { so_far = ([], advances_none _ _ _ c.requires, refl, refl); tells_input = refl; tells_output = refl; input = later_same _; output = later_same _ }
 
 pub returns-in_err-taken-clause-err : goal.returns-in_err-taken-clause-err
 returns-in_err-taken-clause-err g c =
@@ -28,6 +28,8 @@ loop-taken-preserved g c =
     let so_far = c.loop-taken.invariant.so_far in
     record {
       so_far = advances_next _ _ _ _ _ _ _ _ _ c.loop-taken.number c.loop-taken.offset c.in-Some.taken so_far.0 so_far.1 so_far.2 so_far.3 one;
+      tells_input = c.in_ok-taken.ensures.tells_input ∙ c.loop-taken.invariant.tells_input;
+      tells_output = c.in_ok-taken.ensures.tells_output ∙ c.loop-taken.invariant.tells_output;
       input = later_more _ _ _ c.loop-taken.invariant.input c.advance.ensures.input;
       output = later_more _ _ _ c.loop-taken.invariant.output c.advance.ensures.output;
     }

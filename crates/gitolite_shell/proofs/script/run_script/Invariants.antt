@@ -10,6 +10,8 @@ invariant-loop-taken g l = record {
   so_far : (bodies : List (List ℕ))
       × Advances (g.I.Endpoint.state l.initial.input) (g.I.Endpoint.state l.input) (g.O.Endpoint.state l.initial.output) (g.O.Endpoint.state l.output) (g.K.Desk.view l.initial.desk) (g.K.Desk.view l.desk) 1 bodies
       × (l.number ≡ 1 + length bodies) × (l.offset ≡ length (flat_map frame_text bodies));
+  tells_input : (g.I.Endpoint.state l.input).read_faults ≡ (g.I.Endpoint.state l.initial.input).read_faults;
+  tells_output : (g.O.Endpoint.state l.output).write_faults ≡ (g.O.Endpoint.state l.initial.output).write_faults;
   input : IsLater (g.I.Endpoint.state l.initial.input) (g.I.Endpoint.state l.input);
   output : IsLater (g.O.Endpoint.state l.initial.output) (g.O.Endpoint.state l.output);
 }

@@ -3,17 +3,13 @@ use Rattle.gitolite_shell.specs.Session.{serving, receiving}
 use Rattle.gitolite_shell.proofs.StepLemmas.{exits, goes}
 use Rattle.gitolite_shell.proofs.session.serve_asked.Goals as goal
 
-pub returns-in_err-pin : goal.returns-in_err-pin
+pub returns-in_err-pin-clause-runs : goal.returns-in_err-pin-clause-runs
 unfolding serving
-returns-in_err-pin g c = record {
-  runs =
-      let p = err_from_is_err_and c.from_residual.result c.from_residual.ensures.1 in
-      exits _ _ _ _ _ _ c.enter.result _ _ _ c.in_err-pin.was p.1 p.2 c.enter.ensures.runs;
-}
+returns-in_err-pin-clause-runs g c =
+    let p = err_from_is_err_and c.from_residual.result c.from_residual.ensures.1 in
+    exits _ _ _ _ _ _ c.enter.result _ _ _ c.in_err-pin.was p.1 p.2 c.enter.ensures.runs
 
-pub returns : goal.returns
+pub returns-clause-runs : goal.returns-clause-runs
 unfolding serving
-returns g c = record {
-  runs =
-      goes _ _ _ _ _ (λ opening. receiving _ opening) c.enter.result _ _ c.in_ok-pin.pin _ c.in_ok-pin.was c.enter.ensures.runs (rw c.in_ok-pin.ensures.admin at c.receive.ensures.runs);
-}
+returns-clause-runs g c =
+    goes _ _ _ _ _ (λ opening. receiving _ opening) c.enter.result _ _ c.in_ok-pin.pin _ c.in_ok-pin.was c.enter.ensures.runs (rw c.in_ok-pin.ensures.admin at c.receive.ensures.runs)

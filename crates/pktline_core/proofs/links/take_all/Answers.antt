@@ -16,6 +16,7 @@ loop-filled-preserved g c =
       within = omega (arith, length-append front c.take.new.room, len, got.1);
       consumed = rw both (consumes_more _ _ _ front (take c.in-Got.count c.take.new.room) before got.2);
       counted = omega (arith, so_far.counted, got.3);
+      tells = c.in-Got.ensures.tells ∙ so_far.tells;
       writing = writing_more _ _ _ so_far.writing c.take.ensures.writing;
       later = later_more _ _ _ so_far.later c.take.ensures.later;
     }

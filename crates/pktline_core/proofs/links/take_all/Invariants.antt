@@ -8,6 +8,7 @@ invariant-loop-filled g l = record {
   within : l.filled ≤ length l.room;
   consumed : Consumes ((g.S.Endpoint.state l.initial.source).left) ((g.S.Endpoint.state l.source).left) (take l.filled l.room);
   counted : (g.S.Endpoint.state l.source).given ≡ (g.S.Endpoint.state l.initial.source).given + l.filled;
+  tells : (g.S.Endpoint.state l.source).read_faults ≡ (g.S.Endpoint.state l.initial.source).read_faults;
   writing : KeepsWriting (g.S.Endpoint.state l.initial.source) (g.S.Endpoint.state l.source);
   later : IsLater (g.S.Endpoint.state l.initial.source) (g.S.Endpoint.state l.source);
 }

@@ -13,6 +13,7 @@ loop-rest-preserved g c =
         before.1 ∙ ap (λ (l : List ℕ). before.0 ++ l) (sym (take-append-drop c.in-Took.count rest)) ∙ sym (append_assoc before.0 (take c.in-Took.count rest) (drop c.in-Took.count rest)) ∙ ap (λ (l : List ℕ). (before.0 ++ take c.in-Took.count rest) ++ l) (sym c.split_at.ensures.back),
         appends_more _ _ _ before.0 (take c.in-Took.count rest) before.2 put.2,
       );
+      tells = c.in-Took.ensures.tells ∙ c.loop-rest.invariant.tells;
       reading = reading_more _ _ _ c.loop-rest.invariant.reading c.put.ensures.reading;
       later = later_more _ _ _ c.loop-rest.invariant.later c.put.ensures.later;
     }

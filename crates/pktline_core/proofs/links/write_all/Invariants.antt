@@ -6,6 +6,7 @@ use Rattle.pktline_core.proofs.links.write_all.Given as goal
 abbrev pub invariant-loop-rest : goal.invariant-loop-rest
 invariant-loop-rest g l = record {
   bytes : (done : List ℕ) × (l.bytes ≡ done ++ l.rest) × Appends ((g.S.Endpoint.state l.initial.sink).written) ((g.S.Endpoint.state l.sink).written) done;
+  tells : (g.S.Endpoint.state l.sink).write_faults ≡ (g.S.Endpoint.state l.initial.sink).write_faults;
   reading : KeepsReading (g.S.Endpoint.state l.initial.sink) (g.S.Endpoint.state l.sink);
   later : IsLater (g.S.Endpoint.state l.initial.sink) (g.S.Endpoint.state l.sink);
 }

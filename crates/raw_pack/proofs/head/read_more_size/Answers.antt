@@ -54,6 +54,7 @@ loop-left-preserved g c =
     let below = size_below (c.loop-left.left - 1) c.loop-left.unit c.loop-left.size c.from.result (c.loop-left.invariant.unit (c.loop-left.left - 1) (omega arith)) bits c.loop-left.invariant.size in
     record {
       leaves = rw part (size_more _ _ _ _ _ _ _ _ _ _ c.loop-left.left (c.loop-left.left - 1) _ _ (omega arith) c.loop-left.invariant.leaves c.in_ok-next.next (omega arith) c.in_ok-next.ensures.reads);
+      tells = c.in_ok-next.ensures.tells ∙ c.loop-left.invariant.tells;
       writing = writing_more _ _ _ c.loop-left.invariant.writing c.take_byte.ensures.writing;
       later = later_more _ _ _ c.loop-left.invariant.later c.take_byte.ensures.later;
       few = omega (arith, c.loop-left.invariant.few);

@@ -1,4 +1,4 @@
-use Rattle.std.proofs.Common.{◌≡◌, ◌-◌, ◌+◌, ◌++◌, ◌∷◌, [], Err, rules, refl, arith, length-append}
+use Rattle.std.proofs.Common.{◌≡◌, ◌-◌, ◌+◌, ◌++◌, ◌∷◌, [], Err, rules, refl, arith, length-append, ◌∙◌}
 use Rattle.pktline_core.proofs.LinkLemmas.{later_same, later_more, writing_more}
 use Rattle.raw_pack.specs.declared.fault.PackFault.TheVariants.{NoMemory}
 use Rattle.raw_pack.proofs.ReadLemmas.{leaves_whole, leaves_lacks}
@@ -10,6 +10,7 @@ loop-entry-init g c =
     let all : c.args.count - 0 ≡ c.args.count = omega arith in
     record {
       leaves = rw (all, c.new-objects.ensures) (leaves_whole _ _ _);
+      tells = refl;
       writing = record { written = refl; write_faults = refl };
       later = later_same _;
       sum = omega arith;
@@ -27,7 +28,7 @@ pub returns-in_err-push-clause-reads : goal.returns-in_err-push-clause-reads
 returns-in_err-push-clause-reads g c =
     let answer : c.from_residual-in_err-push.result ≡ Err NoMemory = search rules in
     rw answer
-    (leaves_lacks _ _ _ _ _ _ _ _ (entries_more _ _ _ _ _ _ _ _ _ c.loop-entry.invariant.leaves (c.args.count - (c.loop-entry.entry + 1)) (omega arith) _ _ c.in_ok-object.object c.in_ok-object.ensures.reads))
+    (leaves_lacks _ _ _ _ _ _ _ (entries_more _ _ _ _ _ _ _ _ _ c.loop-entry.invariant.leaves (c.args.count - (c.loop-entry.entry + 1)) (omega arith) _ _ c.in_ok-object.object c.in_ok-object.ensures.reads))
 
 pub loop-entry-preserved : goal.loop-entry-preserved
 loop-entry-preserved g c =
@@ -35,6 +36,7 @@ loop-entry-preserved g c =
     record {
       leaves = rw (pushed, c.body.ensures.body)
           (entries_more _ _ _ _ _ _ _ _ _ c.loop-entry.invariant.leaves (c.args.count - (c.loop-entry.entry + 1)) (omega arith) _ _ c.in_ok-object.object c.in_ok-object.ensures.reads);
+      tells = c.in_ok-object.ensures.tells ∙ c.loop-entry.invariant.tells;
       writing = writing_more _ _ _ c.loop-entry.invariant.writing c.read_object.ensures.writing;
       later = later_more _ _ _ c.loop-entry.invariant.later c.read_object.ensures.later;
       sum = rw c.body.ensures.body c.in_ok-object.ensures.small;

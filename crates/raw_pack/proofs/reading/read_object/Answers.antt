@@ -1,12 +1,18 @@
 use Rattle.std.proofs.Common.{◌≡◌, length, Err, rules, arith}
 use Rattle.std.proofs.lemmas.List.{with_items_is}
-use Rattle.raw_pack.proofs.EntryLemmas.{entry_cut_in_head, entry_cut, entry_whole, entry_refused}
+use Rattle.raw_pack.specs.declared.fault.PackFault.TheVariants.{NoMemory}
+use Rattle.raw_pack.proofs.EntryLemmas.{entry_cut_in_head, entry_lacked, entry_cut, entry_whole, entry_refused}
 use Rattle.raw_pack.proofs.reading.read_object.Goals as goal
 
 pub returns-in_err-head-clause-reads : goal.returns-in_err-head-clause-reads
 returns-in_err-head-clause-reads g c =
     let answer : c.from_residual.result ≡ Err c.in_err-head.field-0.0 = search rules in
     rw answer (entry_cut_in_head _ _ _ _ _ _ c.in_err-head.field-0.0 c.in_err-head.ensures.reads)
+
+pub returns-in_err-body-clause-reads : goal.returns-in_err-body-clause-reads
+returns-in_err-body-clause-reads g c =
+    let answer : c.from_residual-in_err-body.result ≡ Err NoMemory = search rules in
+    rw answer (entry_lacked _ _ _ _ _ _ _ c.in_ok-head.head c.in_ok-head.ensures.reads)
 
 pub returns-in_err-take_bytes-clause-reads : goal.returns-in_err-take_bytes-clause-reads
 returns-in_err-take_bytes-clause-reads g c =
