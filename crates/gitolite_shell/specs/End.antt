@@ -39,7 +39,7 @@ HasCause old new ReadFault = HasRisen old.read_faults new.read_faults × IsTrue 
 HasCause old new WriteFault = HasRisen old.write_faults new.write_faults × IsTrue old.may_fail
 HasCause old new end = ⊤
 
--- No failure of the link is hidden: but for the one that an end tells, none was counted.
+-- No failure of the link is hidden: where the end is no fault of a direction, no failure of it was counted.
 abbrev pub HidesNone : LinkState → LinkState → SessionEnd → Type 0
 HidesNone old new ReadFault = new.write_faults ≡ old.write_faults
 HidesNone old new WriteFault = new.read_faults ≡ old.read_faults

@@ -51,7 +51,7 @@ pub record TakesNoLine (old new : LinkState) : Type 0 where
   pub no_feed : HasNoFeed part
   pub ended : (17 < length part) ⊎ ((0 < length part) × IsAtEnd new.left)
 
--- a read failed inside a line, of which so far no more than the first line of a frame has was taken
+-- a read failed inside a line, of which at most as many bytes were taken as a first line has
 pub record FailsInLine (old new : LinkState) : Type 0 where
   pub part : List ℕ
   pub no_feed : HasNoFeed part
@@ -112,7 +112,8 @@ pub record TakesNoFrame (old new : LinkState) : Type 0 where
   pub some : 0 < length part
   pub bad : (rest : List ℕ) → IsRest new.left rest → BeginsNoFrame (part ++ rest)
 
--- More is wanted behind this part of a frame: its first line isn't whole and has no more bytes than one may have, or its body or last line feed isn't there.
+-- More is wanted behind this part: it is a line without its line feed that isn't too long for a first one, perhaps empty and perhaps none of a frame;
+-- or a good first line, behind which the body or the last line feed isn't whole.
 abbrev pub WantsMore : List ℕ → Type 0
 WantsMore part =
     (HasNoFeed part × (length part ≤ 17))

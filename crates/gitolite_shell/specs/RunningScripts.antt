@@ -64,7 +64,7 @@ StopsWriting sink sink' text InputFault = ⊥
 StopsWriting sink sink' text OutputFault = WritesPart sink sink' text
 StopsWriting sink sink' text NoMemory = ⊤
 
--- a read failed inside a frame, and nothing else was done
+-- a read failed before the next frame or inside it, and nothing else was done
 pub record FailsAtRead (source source' sink sink' : LinkState) (old new : DeskView) : Type 0 where
   pub read : FailsInFrame source source'
   pub sink_is : sink' ≡ sink
@@ -97,7 +97,7 @@ abbrev pub IsReadOf : Option (List ℕ) → List ℕ → List ℕ → Type 0
 IsReadOf left part rest = (more : List ℕ) × IsRest left more × (rest ≡ part ++ more)
 
 -- A script was run to its end, or to a bad frame: the input is a script, and what was printed, and the log from one to another, are that script's.
--- Of what follows the frames a part was read, a byte at least where it is bad.
+-- Of what follows the frames a part was read, a byte at least where the script is bad.
 pub record RunsScript (source source' sink sink' : LinkState) (admin : Name) (log log' : List Entry) (bad : Bool) : Type 0 where
   pub input : List ℕ
   pub bodies : List (List ℕ)
@@ -112,7 +112,7 @@ pub record RunsScript (source source' sink sink' : LinkState) (admin : Name) (lo
   pub written : Appends sink.written sink'.written (script admin bodies rest log).output
   pub log_is : log' ≡ (script admin bodies rest log).log
 
--- A read failed inside a frame: the sessions of all frames that were read whole were served and printed.
+-- A read failed before a frame or inside it: the sessions of all frames that were read whole were served and printed.
 pub record StopsAtRead (source source' sink sink' : LinkState) (admin : Name) (log log' : List Entry) : Type 0 where
   pub bodies : List (List ℕ)
   pub part : List ℕ
@@ -145,7 +145,7 @@ pub record StopsTelling (source source' : LinkState) (admin : Name) (log log' : 
   pub short : FallsShort printed (script admin done rest log).output
   pub log_is : log' ≡ (sessions admin 1 done log).log
 
--- A write failed. The sessions of these frames were served and printed whole; then the next session was served, or a frame was found to be bad, and a beginning of that was printed.
+-- A write failed. The sessions of these frames were served and printed whole; then the next session was served, or a frame was found to be bad, and a beginning of what is printed of that, not all of it.
 pub record StopsAtWrite (source source' sink sink' : LinkState) (admin : Name) (log log' : List Entry) : Type 0 where
   pub done : List (List ℕ)
   pub more : List ℕ

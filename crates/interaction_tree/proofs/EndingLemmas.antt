@@ -46,20 +46,20 @@ runs_turn a b d e t (Failed Reading) ordered p =
     let is = trace_reading b.left t p.read p.written p.own p.trace in
     record { part = p.read; own = p.own; made = p.made; read = p.consumed; counted = p.counted; used = rw is refl; waits = rw is refl; entries = rw is refl; written = rw is p.appended; risen = p.caused.0; may_fail = p.caused.1 }
 runs_turn a b d e t (Failed Writing) ordered p =
-    let begins = trace_short b.left t p.read p.written p.own p.trace in
+    let short = trace_short b.left t p.read p.written p.own p.trace in
     record {
       part = p.read;
       bytes = p.written;
       own = p.own;
-      extent = begins.0;
-      is_extent = begins.1;
+      extent = short.0;
+      is_extent = short.1;
       made = p.made;
       read = p.consumed;
       counted = p.counted;
-      used = writing_used begins.0 b.left t p.read p.written p.own p.trace;
+      used = writing_used short.0 b.left t p.read p.written p.own p.trace;
       entries = trace_writing false b.left t (λ w x. ⊤) p.read p.written p.own ordered p.trace;
       written = p.appended;
-      begins = begins.2;
+      short = short.2;
       risen = p.caused.0;
       may_fail = p.caused.1;
     }

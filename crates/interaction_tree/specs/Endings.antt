@@ -62,7 +62,7 @@ pub record FailsWriting {E A : Type 0} (link link' : LinkState) (desk desk' : De
   pub used : (turn_over extent t part (map log_before own)).used ≡ part
   pub entries : map asked own ≡ (due t part (map log_before own)).requests
   pub written : Appends link.written link'.written bytes
-  pub begins : FallsShort bytes (turn_over extent t part (map log_before own)).bytes
+  pub short : FallsShort bytes (turn_over extent t part (map log_before own)).bytes
   pub risen : HasRisen link.write_faults link'.write_faults
   pub may_fail : IsTrue link.may_fail
 

@@ -68,7 +68,7 @@ pub record TakesAll (old new : LinkState) (room : List ℕ) (result : Result (Un
   pub counted : new.given ≡ old.given + n
   pub ended : EndsTaking old new n (length room) result
 
--- the same of several calls of `take`
+-- No failure is hidden, by several calls of `take`.
 abbrev pub TellsReading : LinkState → LinkState → Result (Unit {0}) TakeFault → Type 0
 TellsReading old new (Err fault.Failed) = ⊤
 TellsReading old new answer = new.read_faults ≡ old.read_faults

@@ -72,12 +72,12 @@ GoesOn old new before after answer = (start : LinkState) (contents : List Conten
 unfoldable pub Repeats : {S : Type 0} → S → S → ReaderState → ReaderState → Result (Option Content) PackFault → Type 0
 Repeats old new before after answer = (end : Result (Unit {0}) PackFault) → before.end ≡ Some end → (answer ≡ end_answer end) × (new ≡ old) × (after ≡ before)
 
--- A failed read is told where a read failed in this call, or by a reader that ended with one.
+-- A failed read is told only where one failed in this call and the source may fail, or by a reader that ended with one.
 abbrev pub HasCause : {V : Type 0} → LinkState → LinkState → ReaderState → Result V PackFault → Type 0
 HasCause old new before (Err ReadFault) = (HasRisen old.read_faults new.read_faults × IsTrue old.may_fail) ⊎ (before.end ≡ Some (Err ReadFault))
 HasCause old new before answer = ⊤
 
--- both
+-- a reader goes on, and one that has ended repeats its answer
 pub record NextEntry {S : Type 0} (source source' : S) (old new : LinkState) (before after : ReaderState) (answer : Result (Option Content) PackFault) : Type 0 where
   pub goes_on : GoesOn old new before after answer
   pub repeats : Repeats source source' before after answer

@@ -19,13 +19,13 @@ IsPartial at = (fault : PackFault) × (at ≡ Partial fault)
 abbrev pub ShowsFault : {V : Type 0} → Front V PackFault → ℕ → LinkState → PackFault → Type 0
 ShowsFault at taken new fault = (at ≡ Broken taken fault) ⊎ ((at ≡ Partial fault) × IsAtEnd new.left)
 
--- so many bytes are no more than decide what stands at the front
+-- so many bytes are no more than decide what stands at the front; where nothing is decided yet, any number is
 abbrev pub IsNoMore : {V F : Type 0} → Front V F → ℕ → Type 0
 IsNoMore (Whole n v) taken = taken ≤ n
 IsNoMore (Broken n fault) taken = taken ≤ n
 IsNoMore (Partial fault) taken = ⊤
 
--- What was taken decides the answer. Where memory lacks, no more was taken than decides it.
+-- What was taken decides the answer. Where memory lacks, no more was taken than decides what stands at the front.
 abbrev pub DecidesFault : {V : Type 0} → Front V PackFault → ℕ → LinkState → LinkState → PackFault → Type 0
 DecidesFault at taken old new ReadFault = IsPartial at × HasRisen old.read_faults new.read_faults × IsTrue old.may_fail
 DecidesFault at taken old new NoMemory = IsNoMore at taken

@@ -3,7 +3,7 @@ use Rattle.std.specs.Prelude.{◌≡◌, ◌↔◌, ℕ, ◌≤◌, ◌==◌, Bo
 use Rattle.refex.specs.Pattern.{Bytes}
 use Rattle.refex.specs.Text.{Atom, Member, Byte, Kind, range, either_of, every_other, is_alphanumeric, kind, begins_with, bytes_of, item}
 
--- which bytes stand for themselves in a class: in first place any but the backslash, and behind it no `]` and no dash
+-- which bytes stand for themselves in a class: in first place any but the backslash; behind it any but the backslash, `]` and the dash
 abbrev pub is_plain : Bool → ℕ → Bool
 is_plain true b = not (b == 92)
 is_plain false b = not (b == 92) && not (b == 93) && not (b == 45)
@@ -24,7 +24,7 @@ pub data IsEntry (first : Bool) (rest : List ℕ) : (ℕ → Bool) → List ℕ 
   from_to : {a b : ℕ} {word more : List ℕ} → IsMember (is_plain first) (45 ∷ more ++ rest) (Byte a) word → IsMember is_plain_end rest (Byte b) more → a ≤ b
       → IsEntry first rest (range a b) (word ++ 45 ∷ more)
 
--- one entry after another, and perhaps a dash in last place
+-- one entry after another, one at least where the first place is still free, and perhaps a dash in last place
 pub data AreEntries : Bool → List (ℕ → Bool) → List ℕ → Type 0 where
   none : AreEntries false [] []
   dash : AreEntries false (range 45 45 ∷ []) (45 ∷ [])
@@ -36,6 +36,7 @@ abbrev pub any_of : List (ℕ → Bool) → ℕ → Bool
 any_of [] = λ _. false
 any_of (f ∷ fs) = either_of f (any_of fs)
 
+-- a class of these bytes: those of its entries or, behind `[^`, every other byte
 pub data IsClass : (ℕ → Bool) → List ℕ → Type 0 where
   these : {sets : List (ℕ → Bool)} {word : List ℕ} → AreEntries true sets word → begins_with 94 word ≡ false → IsClass (any_of sets) (91 ∷ word ++ 93 ∷ [])
   others : {sets : List (ℕ → Bool)} {word : List ℕ} → AreEntries true sets word → IsClass (every_other (any_of sets)) (91 ∷ 94 ∷ word ++ 93 ∷ [])

@@ -46,10 +46,10 @@ pub data AreItems : Hole → List Item → List ℕ → Type 0 where
       → AreItems holes.User (Atom (Bytes (range 47 47)) ∷ Atom Name ∷ Atom (Bytes (range 47 47)) ∷ xs) (codes "/USER/" ++ rest)
   creator : {xs : List Item} {rest : List ℕ} → AreItems holes.Nothing xs rest → AreItems holes.Creator (Atom Name ∷ xs) (codes "CREATOR" ++ rest)
 
--- the text is written like this; a `^` in front means nothing
+-- the text is written as this pattern; a `^` in front means nothing
 abbrev pub IsWritten : Hole → List ℕ → Pattern → Type 0
 IsWritten hole text p = (xs : List Item) × (AreItems hole xs text ⊎ ((rest : List ℕ) × (text ≡ codes "^" ++ rest) × AreItems hole xs rest)) × Reads alternation xs p
 
--- a text spells a pattern exactly where it is one's written form
+-- a text spells a pattern exactly where it is written as that pattern
 abbrev pub PatternsAreRead : Type 0
 PatternsAreRead = (hole : Hole) (text : List ℕ) (p : Pattern) → Spells hole text p ↔ IsWritten hole text p
