@@ -102,16 +102,16 @@ fn many_creates(alloc: Global, further: u32) -> Result<Vec<u8>, NoMemory>
 #[test]
 fn ten_thousand_commands_are_pushed_and_one_more_is_not_built(rt: HostRuntime) -> Result<(), Fail> {
     let alloc = rt.alloc();
-    let mut desk = new_desk(alloc)?;
-    let (end, written) = serve(alloc, &mut desk, &many_creates(alloc, 9_999)?, 65_520)?;
-    assert_eq!(rt; end, SessionEnd::Served);
-    assert!(rt; written.ends_with(b"0018ok refs/heads/19998\n0000"));
-    assert_eq!(rt; desk.into_hub().into_log().len(), 2);
-    let mut desk = new_desk(alloc)?;
-    let (end, written) = serve(alloc, &mut desk, &many_creates(alloc, 10_000)?, 65_520)?;
-    assert_eq!(rt; end, SessionEnd::NotBuilt);
-    assert!(rt; written.ends_with(b"0011ERR not built"));
-    assert_eq!(rt; desk.into_hub().into_log().len(), 1);
+    let last = b"0018ok refs/heads/19998\n0000".as_slice();
+    for (further, due, text, entries) in [
+        (9_999, SessionEnd::Served, last, 2),
+        (10_000, SessionEnd::NotBuilt, b"0011ERR not built", 1),
+    ] {
+        let mut desk = new_desk(alloc)?;
+        let (end, written) = serve(alloc, &mut desk, &many_creates(alloc, further)?, 65_520)?;
+        assert!(rt; end == due && written.ends_with(text));
+        assert_eq!(rt; desk.into_hub().into_log().len(), entries);
+    }
     Ok(())
 }
 

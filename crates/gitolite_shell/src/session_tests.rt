@@ -23,7 +23,13 @@ const TRAILER: [u8; 20] = [
 pub const EMPTY: &[u8] =
     b"00660000000000000000000000000000000000000000 capabilities^{}\0report-status delete-refs no-thin atomic\n0000";
 
+const MASTER: &[u8] =
+    b"00681c73cda3964d5dd51bdaad94efd235c910cf59de refs/heads/master\0report-status delete-refs no-thin atomic\n0000";
+
 pub const DONE: &[u8] = b"000eunpack ok\n0019ok refs/heads/master\n0000";
+
+const TOLD: &[u8] =
+    b"000eunpack ok\n0059ng refs/heads/master not advertised, it was 1c73cda3964d5dd51bdaad94efd235c910cf59de\n0000";
 
 // An opening, a create of a branch, and its pack.
 pub fn first_push(alloc: Global) -> Result<Vec<u8>, NoMemory> {
@@ -96,26 +102,16 @@ impl Gate for LastPlace {
 #[test]
 fn a_first_push_is_done_and_a_second_is_told(rt: HostRuntime) -> Result<(), Fail> {
     let alloc = rt.alloc();
-    let mut desk = new_desk(alloc)?;
     let input = first_push(alloc)?;
     assert_eq!(rt; input.len(), 348);
-    let (end, written) = serve(alloc, &mut desk, &input, 65_520)?;
-    assert_eq!(rt; end, SessionEnd::Served);
-    let mut reply = EMPTY.to_vec(alloc)?;
-    reply.extend_from_slice(DONE)?;
-    assert_eq!(rt; reply.len(), 149);
-    assert!(rt; written == reply);
-    let (end, written) = serve(alloc, &mut desk, &input, 1)?;
-    assert_eq!(rt; end, SessionEnd::Served);
-    assert_eq!(rt; written.len(), 215);
-    assert!(rt;
-        written.ends_with(
-            b"0059ng refs/heads/master not advertised, it was 1c73cda3964d5dd51bdaad94efd235c910cf59de\n0000"
-        )
-    );
+    let mut desk = new_desk(alloc)?;
+    for (most, refs, report) in [(65_520, EMPTY, DONE), (1, MASTER, TOLD)] {
+        let (end, written) = serve(alloc, &mut desk, &input, most)?;
+        assert!(rt; end == SessionEnd::Served && written.len() == refs.len() + report.len());
+        assert!(rt; written.starts_with(refs) && written.ends_with(report));
+    }
     let log = desk.into_hub().into_log();
-    assert_eq!(rt; log.len(), 4);
-    assert!(rt; is_granted(&log, 0) && is_granted(&log, 2));
+    assert!(rt; log.len() == 4 && is_granted(&log, 0) && is_granted(&log, 2));
     assert!(rt; told(&log, 1) == Some(&Outcome::Done));
     assert!(rt; matches!(told(&log, 3), Some(Outcome::NotAdvertised(_))));
     Ok(())
@@ -173,18 +169,15 @@ fn the_gate_stands_behind_an_opening(rt: HostRuntime) -> Result<(), Fail> {
         calls: 0,
         place: None,
     };
-    let denied = b"002bcarol git-receive-pack 'gitolite-admin'".to_vec(alloc)?;
-    let mut link = MemoryLink::new(denied, 3, Vec::new(alloc), Vec::new(alloc));
-    assert_eq!(rt;
-        session(alloc, &mut link, &mut desk, &mut gate),
-        SessionEnd::Denied
-    );
-    assert!(rt; gate.calls == 0 && gate.place == None);
-    let mut link = MemoryLink::new(OPENING.to_vec(alloc)?, 3, Vec::new(alloc), Vec::new(alloc));
-    assert_eq!(rt;
-        session(alloc, &mut link, &mut desk, &mut gate),
-        SessionEnd::NotBuilt
-    );
-    assert!(rt; gate.calls == 1 && gate.place == Some(1));
+    let denied = b"002bcarol git-receive-pack 'gitolite-admin'".as_slice();
+    for (input, due, calls, place) in [
+        (denied, SessionEnd::Denied, 0, None),
+        (OPENING, SessionEnd::NotBuilt, 1, Some(1)),
+    ] {
+        let input = input.to_vec(alloc)?;
+        let mut link = MemoryLink::new(input, 3, Vec::new(alloc), Vec::new(alloc));
+        assert_eq!(rt; session(alloc, &mut link, &mut desk, &mut gate), due);
+        assert!(rt; gate.calls == calls && gate.place == place);
+    }
     Ok(())
 }

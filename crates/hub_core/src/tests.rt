@@ -34,6 +34,15 @@ fn open<D: Desk>(
     }
 }
 
+// The pin of an opening of `testing` for writing, which is granted.
+fn pin<D: Desk>(alloc: Global, desk: &mut D, user: &[u8]) -> Result<Pin, Fail>
+    ensures write { IfOk result (λ pin. pin.pinned.want ≡ Want.Write) }
+    ensures stands { IfOk result (λ pin. Stands pin (known (D.view desk.new))) }
+    ensures keeps { KeepsPins (D.view desk.old) (D.view desk.new) }
+{
+    Ok(open(alloc, desk, user, b"testing")?.ok_or("a pin")?)
+}
+
 // A push that is judged by its pin.
 fn push<D: Desk>(
     alloc: Global,
@@ -169,28 +178,30 @@ fn create<D: Desk>(
     Ok(push(alloc, desk, pin, pack, commands, atomic)?)
 }
 
-// Two openings before two creates of one branch, and a third create of it by an opening behind them.
-fn create_thrice<D: Desk>(
-    alloc: Global,
-    desk: &mut D,
-) -> Result<(OutcomeList, OutcomeList, OutcomeList), Fail> {
-    let first = open(alloc, desk, b"carol", b"testing")?.ok_or("first")?;
-    let second = open(alloc, desk, b"dave", b"testing")?.ok_or("second")?;
+// Two openings before two creates of one tag.
+fn create_twice<D: Desk>(alloc: Global, desk: &mut D) -> Result<(OutcomeList, OutcomeList), Fail> {
+    let first = pin(alloc, desk, b"carol")?;
+    let second = pin(alloc, desk, b"dave")?;
     let done = create(alloc, desk, first, b"1", b"a", false)?;
     let stale = create(alloc, desk, second, b"2", b"a", false)?;
-    let third = open(alloc, desk, b"carol", b"testing")?.ok_or("third")?;
-    let late = create(alloc, desk, third, b"3", b"a", false)?;
-    Ok((done, stale, late))
+    Ok((done, stale))
+}
+
+// An opening, and a create of the tag by it.
+fn create_once<D: Desk>(alloc: Global, desk: &mut D) -> Result<OutcomeList, Fail> {
+    let pin = pin(alloc, desk, b"carol")?;
+    create(alloc, desk, pin, b"3", b"a", false)
 }
 
 #[test]
 fn a_create_is_judged_by_its_opening_and_then_by_the_refs(rt: HostRuntime) -> Result<(), Fail> {
     let alloc = rt.alloc();
     let mut desk = new_desk(alloc)?;
-    let (done, stale, late) = create_thrice(alloc, &mut desk)?;
+    let (done, stale) = create_twice(alloc, &mut desk)?;
     assert!(rt; is_told(&done, &Outcome::Done));
     let one = blob_id(alloc, b"1")?;
     assert!(rt; is_told(&stale, &Outcome::Stale(one)));
+    let late = create_once(alloc, &mut desk)?;
     assert!(rt; is_told(&late, &Outcome::NotAdvertised(one)));
     let hub = desk.into_hub();
     assert!(rt; testing_has(alloc, &hub, b"refs/tags/a", 1, one)?);
@@ -201,8 +212,8 @@ fn a_create_is_judged_by_its_opening_and_then_by_the_refs(rt: HostRuntime) -> Re
 
 // Three creates, of which another push has made the second since the opening.
 fn overtaken<D: Desk>(alloc: Global, desk: &mut D, atomic: bool) -> Result<OutcomeList, Fail> {
-    let first = open(alloc, desk, b"carol", b"testing")?.ok_or("first")?;
-    let second = open(alloc, desk, b"dave", b"testing")?.ok_or("second")?;
+    let first = pin(alloc, desk, b"carol")?;
+    let second = pin(alloc, desk, b"dave")?;
     let _done = create(alloc, desk, second, b"1", b"b", true)?;
     create(alloc, desk, first, b"2", b"abc", atomic)
 }
@@ -210,32 +221,29 @@ fn overtaken<D: Desk>(alloc: Global, desk: &mut D, atomic: bool) -> Result<Outco
 #[test]
 fn an_atomic_push_with_a_refusal_changes_nothing(rt: HostRuntime) -> Result<(), Fail> {
     let alloc = rt.alloc();
+    let one = blob_id(alloc, b"1")?;
     let mut desk = new_desk(alloc)?;
     let told = overtaken(alloc, &mut desk, true)?;
-    assert!(rt; is_overtaken(&told, &Outcome::AtomicOther(1), blob_id(alloc, b"1")?));
+    assert!(rt; is_overtaken(&told, &Outcome::AtomicOther(1), one));
     let hub = desk.into_hub();
     assert!(rt; testing_has(alloc, &hub, b"refs/tags/a", 1, ObjectId::zero())?);
+    assert_eq!(rt; hub.ref_count(), 1);
     Ok(())
 }
 
 #[test]
 fn another_push_does_what_is_not_refused(rt: HostRuntime) -> Result<(), Fail> {
     let alloc = rt.alloc();
+    let (one, two) = (blob_id(alloc, b"1")?, blob_id(alloc, b"2")?);
     let mut desk = new_desk(alloc)?;
     let told = overtaken(alloc, &mut desk, false)?;
-    assert!(rt; is_overtaken(&told, &Outcome::Done, blob_id(alloc, b"1")?));
+    assert!(rt; is_overtaken(&told, &Outcome::Done, one));
     let hub = desk.into_hub();
-    assert!(rt; testing_has(alloc, &hub, b"refs/tags/a", 2, blob_id(alloc, b"2")?)?);
-    assert!(rt; testing_has(alloc, &hub, b"refs/tags/b", 2, blob_id(alloc, b"1")?)?);
+    for (name, value) in [(b"refs/tags/a", two), (b"refs/tags/b", one)] {
+        assert!(rt; testing_has(alloc, &hub, name, 2, value)?);
+    }
     assert_eq!(rt; hub.ref_count(), 3);
     Ok(())
-}
-
-// One create of a ref with this text, at a blob of the pack.
-fn create_named<D: Desk>(alloc: Global, desk: &mut D, name: &[u8]) -> Result<OutcomeList, Fail>
-    requires { length name.now ≤ 1024 }
-{
-    command_named(alloc, desk, name, ObjectId::zero())
 }
 
 // One command for a ref with this text, from this old value to a blob of the pack.
@@ -247,7 +255,7 @@ fn command_named<D: Desk>(
 ) -> Result<OutcomeList, Fail>
     requires { length name.now ≤ 1024 }
 {
-    let pin = open(alloc, desk, b"carol", b"testing")?.ok_or("a pin")?;
+    let pin = pin(alloc, desk, b"carol")?;
     let mut commands = CommandList::new(alloc);
     commands.push(Command {
         old,
@@ -260,18 +268,28 @@ fn command_named<D: Desk>(
 #[test]
 fn a_ref_needs_a_name_and_no_ref_in_its_way(rt: HostRuntime) -> Result<(), Fail> {
     let alloc = rt.alloc();
-    let mut desk = new_desk(alloc)?;
-    let bad = create_named(alloc, &mut desk, b"refs/tags/a..b")?;
-    assert!(rt; is_told(&bad, &Outcome::BadName));
-    let branch = create_named(alloc, &mut desk, b"refs/heads/a")?;
-    assert!(rt; is_told(&branch, &Outcome::WrongKind(blob_id(alloc, b"1")?)));
-    let done = create_named(alloc, &mut desk, b"refs/tags/a")?;
-    assert!(rt; is_told(&done, &Outcome::Done));
-    let below = create_named(alloc, &mut desk, b"refs/tags/a/b")?;
+    let blob = blob_id(alloc, b"1")?;
     let first = RefName::parse(alloc, b"refs/tags/a")?.ok_or("a name")?;
-    assert!(rt; is_told(&below, &Outcome::DirFile(first)));
-    let absent = command_named(alloc, &mut desk, b"refs/tags/c", blob_id(alloc, b"1")?)?;
-    assert!(rt; is_told(&absent, &Outcome::NotAdvertised(ObjectId::zero())));
+    let mut desk = new_desk(alloc)?;
+    let rows = [
+        (
+            b"refs/tags/a..b".as_slice(),
+            ObjectId::zero(),
+            Outcome::BadName,
+        ),
+        (b"refs/heads/a", ObjectId::zero(), Outcome::WrongKind(blob)),
+        (b"refs/tags/a", ObjectId::zero(), Outcome::Done),
+        (b"refs/tags/a/b", ObjectId::zero(), Outcome::DirFile(first)),
+        (
+            b"refs/tags/c",
+            blob,
+            Outcome::NotAdvertised(ObjectId::zero()),
+        ),
+    ];
+    for (name, old, due) in &rows {
+        let told = command_named(alloc, &mut desk, name, *old)?;
+        assert!(rt; is_told(&told, due));
+    }
     assert_eq!(rt; desk.into_hub().ref_count(), 1);
     Ok(())
 }
@@ -285,7 +303,7 @@ fn create_at_nothing<D: Desk>(
     requires some { 0 < length letters.now }
     requires few { length letters.now ≤ 10000 }
 {
-    let pin = open(alloc, desk, b"carol", b"testing")?.ok_or("a pin")?;
+    let pin = pin(alloc, desk, b"carol")?;
     let commands = creates(alloc, letters, ObjectId { bytes: [7; 20] })?;
     Ok(push(alloc, desk, pin, ObjectList::new(alloc), commands, false)?)
 }

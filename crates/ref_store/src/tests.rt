@@ -18,6 +18,10 @@ fn blob(alloc: Global, body: &str) -> Result<Object, Fail> {
     Ok(Object::parse(alloc, Kind::Blob, body.as_bytes()).map_err(|_| "a blob")?)
 }
 
+fn ref_name(alloc: Global, text: &[u8]) -> Result<RefName, Fail> {
+    Ok(RefName::parse(alloc, text)?.ok_or("a name")?)
+}
+
 #[test]
 fn names_that_keep_the_rule(rt: HostRuntime) -> Result<(), Fail> {
     let texts =
@@ -44,7 +48,7 @@ fn a_ref_name_has_1024_bytes_at_most(rt: HostRuntime) -> Result<(), Fail> {
     for _ in 0..1013 {
         text.push(b'a')?;
     }
-    let name = RefName::parse(rt.alloc(), &text)?.ok_or("a name")?;
+    let name = ref_name(rt.alloc(), &text)?;
     assert!(rt; name.bytes() == text.as_slice());
     text.push(b'a')?;
     assert!(rt; RefName::parse(rt.alloc(), &text)?.is_none());
@@ -55,8 +59,8 @@ fn a_ref_name_has_1024_bytes_at_most(rt: HostRuntime) -> Result<(), Fail> {
 fn beside(alloc: Global, first: &str, second: &str) -> Result<Option<RefName>, Fail> {
     let id = ObjectId { bytes: [7; 20] };
     let mut repo = Repo::empty(alloc)?;
-    let first = RefName::parse(alloc, first.as_bytes())?.ok_or("a name")?;
-    let second = RefName::parse(alloc, second.as_bytes())?.ok_or("a name")?;
+    let first = ref_name(alloc, first.as_bytes())?;
+    let second = ref_name(alloc, second.as_bytes())?;
     let Applied::Moved = repo.apply(&first, ObjectId::zero(), id) else {
         return Err(Fail::from("a first ref"));
     };
@@ -122,15 +126,20 @@ fn segments_are_joined_while_the_one_before_has_fewer_than_twice_as_many(
     let alloc = rt.alloc();
     let mut repo = Repo::empty(alloc)?;
     assert_eq!(rt; repo.segments(), 0);
-    for (body, segments) in [("a", 1), ("b", 1), ("c", 2), ("d", 1)] {
-        assert_eq!(rt; segments_of(&mut repo, alloc, &[body])?, segments, "{body}");
+    for (bodies, count, segments) in [
+        (["a"].as_slice(), 1, 1),
+        (&["b"], 2, 1),
+        (&["c"], 3, 2),
+        (&["d"], 4, 1),
+        (&["d", "a"], 4, 1),
+        (&["e"], 5, 2),
+        (&["f"], 6, 2),
+        (&["g"], 7, 3),
+        (&["h", "i"], 9, 1),
+    ] {
+        assert!(rt; repo.add_objects(&blobs(alloc, bodies)?) == Added::Added);
+        assert_eq!(rt; (repo.count(), repo.segments()), (count, segments));
     }
-    assert!(rt; repo.add_objects(&blobs(alloc, &["d", "a"])?) == Added::Added);
-    assert_eq!(rt; (repo.count(), repo.segments()), (4, 1));
-    assert_eq!(rt; segments_of(&mut repo, alloc, &["e", "f"])?, 2);
-    assert_eq!(rt; segments_of(&mut repo, alloc, &["g"])?, 3);
-    assert!(rt; repo.add_objects(&blobs(alloc, &["h", "i"])?) == Added::Added);
-    assert_eq!(rt; (repo.count(), repo.segments()), (9, 1));
     Ok(())
 }
 
@@ -205,15 +214,22 @@ fn the_first_so_many_may_end_inside_an_older_segment(rt: HostRuntime) -> Result<
 fn a_ref_moves_from_its_value_alone(rt: HostRuntime) -> Result<(), Fail> {
     let alloc = rt.alloc();
     let (a, b) = (ObjectId { bytes: [1; 20] }, ObjectId { bytes: [2; 20] });
-    let name = RefName::parse(alloc, b"refs/heads/a")?.ok_or("a name")?;
+    let name = ref_name(alloc, b"refs/heads/a")?;
     let mut repo = Repo::empty(alloc)?;
-    assert!(rt; matches!(repo.apply(&name, a, b), Applied::Stale(id) if id == ObjectId::zero()));
-    assert!(rt; matches!(repo.apply(&name, ObjectId::zero(), a), Applied::Moved));
-    assert!(rt; matches!(repo.apply(&name, ObjectId::zero(), b), Applied::Stale(id) if id == a));
-    assert!(rt; matches!(repo.apply(&name, a, b), Applied::Moved));
-    assert_eq!(rt; repo.ref_count(), 1);
-    assert!(rt; matches!(repo.apply(&name, b, ObjectId::zero()), Applied::Moved));
-    assert_eq!(rt; repo.ref_count(), 0);
+    for (old, new, stale, count) in [
+        (a, b, Some(ObjectId::zero()), 0),
+        (ObjectId::zero(), a, None, 1),
+        (ObjectId::zero(), b, Some(a), 1),
+        (a, b, None, 1),
+        (b, ObjectId::zero(), None, 0),
+    ] {
+        match repo.apply(&name, old, new) {
+            Applied::Moved => assert!(rt; stale.is_none()),
+            Applied::Stale(id) => assert!(rt; stale == Some(id)),
+            Applied::DirFile(_) | Applied::NoMemory => return Err(Fail::from("a move")),
+        }
+        assert_eq!(rt; repo.ref_count(), count);
+    }
     assert!(rt; name.clone()? == name);
     Ok(())
 }
