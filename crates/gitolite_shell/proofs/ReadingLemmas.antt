@@ -1,12 +1,12 @@
 -- Steps of reading a frame, one after the other.
-use Rattle.std.proofs.Common.{◌≡◌, ◌⊎◌, ℕ, ◌+◌, ◌<◌, ◌≤◌, List, [], ◌∷◌, ◌++◌, length, Option, Some, None, sym, ◌∙◌, ap, subst, inl, inr, arith, append_assoc, length-append}
+use Rattle.std.proofs.Common.{◌≡◌, ◌⊎◌, ℕ, ◌+◌, ◌-◌, ◌<◌, ◌≤◌, List, [], ◌∷◌, ◌++◌, length, Option, Some, None, refl, sym, ◌∙◌, ap, subst, inl, inr, arith, append_assoc, length-append}
 use Rattle.std.proofs.lemmas.List.{append-nil}
 use Rattle.std.specs.Io.KnownBytes.{IsAtEnd}
 use Rattle.pktline_core.specs.LinkState.{LinkState}
 use Rattle.pktline_core.specs.Links.{IsLater}
 use Rattle.pktline_core.proofs.LinkLemmas.{consumes_more, risen_later}
 use Rattle.gitolite_shell.specs.Frames.{head_text, frame_text, BeginsNoFrame}
-use Rattle.gitolite_shell.specs.ReadingFrames.{StopsAtByte, Takes, FailsAfter, HasNoFeed, IsRest, TakesNoLine, StopsInLine, IsSizeIn, HasNoSize, TakesBody, StopsInBody, TakesFrame, TakesNoFrame, WantsMore, StopsInFrame}
+use Rattle.gitolite_shell.specs.ReadingFrames.{StopsAtByte, Takes, FailsAfter, HasNoFeed, IsRest, TakesNoLine, StopsInLine, IsSizeIn, HasNoSize, TakesBody, StopsInBody, TakesFrame, TakesNoFrame, EndsInside, GoesNoFurther, StopsInFrame}
 use Rattle.gitolite_shell.specs.declared.frames.FrameFault.{FrameFault}
 use Rattle.gitolite_shell.specs.declared.frames.FrameFault.TheVariants.{Bad, ReadFault, NoMemory}
 use Rattle.gitolite_shell.proofs.FrameLemmas.{begins_line, begins_long, begins_cut, begins_short, begins_open}
@@ -36,40 +36,52 @@ no_rest (Some xs) rest ended is = is ∙ ended
 at_end : (left : Option (List ℕ)) (part rest : List ℕ) → IsAtEnd left → IsRest left rest → BeginsNoFrame part → BeginsNoFrame (part ++ rest)
 at_end left part rest ended is bad = subst BeginsNoFrame (sym (ap (λ (l : List ℕ). part ++ l) (no_rest left rest ended is) ∙ append-nil part)) bad
 
-some_part : (part : List ℕ) (left : Option (List ℕ)) → (17 < length part) ⊎ ((0 < length part) × IsAtEnd left) → 0 < length part
-some_part part left (inl long) = omega arith
+some_part : (part : List ℕ) (left : Option (List ℕ)) → (length part ≡ 18) ⊎ ((0 < length part) × (length part ≤ 17) × IsAtEnd left) → 0 < length part
+some_part part left (inl long) = omega (arith, long)
 some_part part left (inr cut) = cut.0
 
-bad_part : (part rest : List ℕ) (left : Option (List ℕ)) → HasNoFeed part → (17 < length part) ⊎ ((0 < length part) × IsAtEnd left) → IsRest left rest → BeginsNoFrame (part ++ rest)
-bad_part part rest left none (inl long) is = begins_long part rest none long
-bad_part part rest left none (inr cut) is = at_end left part rest cut.1 is (begins_cut part none)
+bad_part : (part rest : List ℕ) (left : Option (List ℕ)) → HasNoFeed part → (length part ≡ 18) ⊎ ((0 < length part) × (length part ≤ 17) × IsAtEnd left) → IsRest left rest → BeginsNoFrame (part ++ rest)
+bad_part part rest left none (inl long) is = begins_long part rest none (omega (arith, long))
+bad_part part rest left none (inr cut) is = at_end left part rest cut.2 is (begins_cut part none)
+
+split_last : (n : ℕ) (part : List ℕ) → HasNoFeed part → length part ≡ n + 1 → (front : List ℕ) × (last : ℕ) × (part ≡ front ++ last ∷ []) × HasNoFeed front × (length front ≡ n)
+split_last n [] none is = absurd (omega (arith, is))
+split_last n (b ∷ []) none is = ([], b, refl, tt, omega (arith, is))
+split_last n (b ∷ c ∷ part) none is =
+    let ih = split_last (n - 1) (c ∷ part) none.1 (omega (arith, is)) in
+    (b ∷ ih.0, ih.1, ap (λ (l : List ℕ). b ∷ l) ih.2, (none.0, ih.3), omega (arith, is, ih.4))
+
+no_further : (part : List ℕ) (left : Option (List ℕ)) → HasNoFeed part → (length part ≡ 18) ⊎ ((0 < length part) × (length part ≤ 17) × IsAtEnd left) → GoesNoFurther part
+no_further part left none (inl long) = let split = split_last 17 part none long in inr (split.0, split.1, split.2, inl (split.3, omega (arith, split.4)))
+no_further part left none (inr cut) = inl (inl (none, cut.1))
 
 no_line : (a b : LinkState) → TakesNoLine a b → TakesNoFrame a b
-no_line a b t = record { part = t.part; takes = t.takes; some = some_part t.part b.left t.ended; bad = λ rest is. bad_part t.part rest b.left t.no_feed t.ended is }
+no_line a b t = record { part = t.part; takes = t.takes; some = some_part t.part b.left t.ended; bad = λ rest is. bad_part t.part rest b.left t.no_feed t.ended is; no_further = no_further t.part b.left t.no_feed t.ended }
 
 pub line_stops : (a b : LinkState) (fault : FrameFault) → StopsInLine a b fault → StopsInFrame a b fault
 line_stops a b Bad t = no_line a b t
 line_stops a b ReadFault t = record { part = t.part; none = begins_cut t.part t.no_feed; wants = inl (t.no_feed, t.short); fails = t.fails }
-line_stops a b NoMemory t = tt
+line_stops a b NoMemory t = record { part = t.part; none = begins_cut t.part t.no_feed; inside = inl (t.no_feed, t.short); takes = t.takes }
 
 module _ (a b : LinkState) (line : List ℕ) (first : Takes a b (line ++ 10 ∷ [])) where
   some_line : (more : List ℕ) → 0 < length ((line ++ 10 ∷ []) ++ more)
   some_line more = omega (arith, length-append (line ++ 10 ∷ []) more, length-append line (10 ∷ []))
 
-  pub no_size : HasNoFeed line → HasNoSize line → TakesNoFrame a b
-  no_size none other = record {
+  pub no_size : HasNoFeed line → length line ≤ 17 → HasNoSize line → TakesNoFrame a b
+  no_size none few other = record {
     part = line ++ 10 ∷ [];
     takes = first;
     some = omega (arith, length-append line (10 ∷ []));
     bad = λ rest is. subst BeginsNoFrame (sym (append_assoc line (10 ∷ []) rest)) (begins_line line rest none other);
+    no_further = inr (line, 10, refl, inl (none, few));
   }
 
   module _ (n : ℕ) (size : IsSizeIn line n) where
     short : (part : List ℕ) → length part ≤ n → BeginsNoFrame ((line ++ 10 ∷ []) ++ part)
     short part less = subst (λ (l : List ℕ). BeginsNoFrame ((l ++ 10 ∷ []) ++ part)) (sym size.head) (begins_short n size.small part less)
 
-    wants : (part : List ℕ) → length part ≤ n → WantsMore ((line ++ 10 ∷ []) ++ part)
-    wants part less = inr (n, part, size.small, append_assoc line (10 ∷ []) part ∙ ap (λ (l : List ℕ). l ++ 10 ∷ part) size.head, less)
+    inside : (most : ℕ) (part : List ℕ) → length part ≤ n → EndsInside most ((line ++ 10 ∷ []) ++ part)
+    inside most part less = inr (n, part, size.small, append_assoc line (10 ∷ []) part ∙ ap (λ (l : List ℕ). l ++ 10 ∷ part) size.head, less)
 
     ended : (c : LinkState) (part : List ℕ) → Takes b c part → length part ≤ n → IsAtEnd c.left → TakesNoFrame a c
     ended c part more less end = record {
@@ -77,12 +89,13 @@ module _ (a b : LinkState) (line : List ℕ) (first : Takes a b (line ++ 10 ∷ 
       takes = takes_more a b c (line ++ 10 ∷ []) part first more;
       some = some_line part;
       bad = λ rest is. at_end c.left ((line ++ 10 ∷ []) ++ part) rest end is (short part less);
+      no_further = inl (inside 17 part less);
     }
 
     pub body_stops : (c : LinkState) (fault : FrameFault) → IsLater a b → StopsInBody b c n fault → StopsInFrame a c fault
     body_stops c Bad later t = ended c t.part t.takes (omega (arith, t.short)) t.ended
-    body_stops c ReadFault later t = record { part = (line ++ 10 ∷ []) ++ t.part; none = short t.part (omega (arith, t.short)); wants = wants t.part (omega (arith, t.short)); fails = fails_more a b c (line ++ 10 ∷ []) t.part first later t.fails }
-    body_stops c NoMemory later t = tt
+    body_stops c ReadFault later t = record { part = (line ++ 10 ∷ []) ++ t.part; none = short t.part (omega (arith, t.short)); wants = inside 17 t.part (omega (arith, t.short)); fails = fails_more a b c (line ++ 10 ∷ []) t.part first later t.fails }
+    body_stops c NoMemory later t = record { part = (line ++ 10 ∷ []) ++ t.part; none = short t.part t.within; inside = inside 18 t.part t.within; takes = takes_more a b c (line ++ 10 ∷ []) t.part first t.takes }
 
     module _ (c d : LinkState) (body : List ℕ) (second : TakesBody b c n body) where
       both : Takes a c ((line ++ 10 ∷ []) ++ body)
@@ -107,6 +120,7 @@ module _ (a b : LinkState) (line : List ℕ) (first : Takes a b (line ++ 10 ∷ 
         bad = λ rest is. subst BeginsNoFrame
             (sym (append_assoc ((line ++ 10 ∷ []) ++ body) (byte ∷ []) rest ∙ append_assoc (line ++ 10 ∷ []) body (byte ∷ rest)))
             (subst (λ (l : List ℕ). BeginsNoFrame ((l ++ 10 ∷ []) ++ (body ++ byte ∷ rest))) (sym size.head) (begins_open n size.small body rest byte second.sized other));
+        no_further = inr ((line ++ 10 ∷ []) ++ body, byte, refl, inside 17 body (omega (arith, second.sized)));
       }
 
       pub cut_off : Takes c d [] → IsAtEnd d.left → TakesNoFrame a d
@@ -114,5 +128,5 @@ module _ (a b : LinkState) (line : List ℕ) (first : Takes a b (line ++ 10 ∷ 
 
       pub byte_stops : (fault : FrameFault) → IsLater a c → StopsAtByte c d fault → StopsInFrame a d fault
       byte_stops Bad later stop = absurd stop
-      byte_stops ReadFault later stop = record { part = (line ++ 10 ∷ []) ++ body; none = short body (omega (arith, second.sized)); wants = wants body (omega (arith, second.sized)); fails = fails_here a c d ((line ++ 10 ∷ []) ++ body) both later stop }
-      byte_stops NoMemory later stop = tt
+      byte_stops ReadFault later stop = record { part = (line ++ 10 ∷ []) ++ body; none = short body (omega (arith, second.sized)); wants = inside 17 body (omega (arith, second.sized)); fails = fails_here a c d ((line ++ 10 ∷ []) ++ body) both later stop }
+      byte_stops NoMemory later stop = absurd stop

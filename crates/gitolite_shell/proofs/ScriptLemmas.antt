@@ -1,35 +1,45 @@
 -- One session more of a script, and its end.
 use Rattle.std.proofs.Common.{◌≡◌, ◌⊎◌, inl, inr, ℕ, ◌+◌, ◌<◌, ◌≤◌, true, false, IsTrue, List, [], ◌∷◌, ◌++◌, length, Option, Some, None, Result, Ok, Err, refl, sym, ◌∙◌, ap, subst, arith, append_assoc, length-append}
-use Rattle.std.specs.Prelude.{IfOk, is_some}
+use Rattle.std.specs.Prelude.{IfOk, IfErr, is_some, codes, decimal}
 use Rattle.std.specs.List.{flat_map}
 use Rattle.std.proofs.lemmas.List.{append-nil}
 use Rattle.std.proofs.lemmas.List.Concat.{flat_map-append}
 use Rattle.std.proofs.KnownBytes.{Appends-nil, Consumes-nil}
 use Rattle.std.specs.Io.KnownBytes.{Appends, Consumes}
+use Rattle.base_types.specs.Counts.{HasRisen}
 use Rattle.pktline_core.specs.LinkState.{LinkState}
 use Rattle.pktline_core.specs.Links.{IsLater}
 use Rattle.pktline_core.proofs.LinkLemmas.{appends_more, risen_later}
 use Rattle.hub_core.specs.declared.entry.Entry.{Entry}
 use Rattle.hub_core.specs.Name.{Name}
 use Rattle.hub_core.specs.Desk.{DeskView}
-use Rattle.interaction_tree.specs.Traces.{FallsShort}
+use Rattle.interaction_tree.specs.Traces.{Failure, Failed, Begins, FallsShort}
 use Rattle.interaction_tree.specs.Turns as stop
 use Rattle.interaction_tree.specs.Alone.{TurnAlone}
-use Rattle.interaction_tree.specs.Endings.{IsInput, EndsAsDue}
+use Rattle.interaction_tree.specs.Endings.{IsInput, EndsAsDue, LacksMemory, TakesTurn}
 use Rattle.interaction_tree.proofs.DeskLemmas.{makes_grows, makes_alone}
-use Rattle.interaction_tree.proofs.AloneLemmas.{alone_is}
+use Rattle.interaction_tree.proofs.AloneLemmas.{alone_is, alone_begins}
 use Rattle.gitolite_shell.specs.declared.end.SessionEnd.{SessionEnd}
+use Rattle.gitolite_shell.specs.declared.end.SessionEnd.TheVariants as end
+use Rattle.gitolite_shell.specs.End.{halt_of, HasCause}
 use Rattle.gitolite_shell.specs.Session.{session}
 use Rattle.gitolite_shell.specs.Frames.{head_text, frame_text, AreBodies, BeginsNoFrame}
-use Rattle.gitolite_shell.specs.ReadingFrames.{Takes, IsRest, TakesFrame}
+use Rattle.gitolite_shell.specs.ReadingFrames.{Takes, IsRest, TakesFrame, TakesNoFrame, GoesNoFurther}
 use Rattle.gitolite_shell.specs.Script.{end_word, stop_word, reply_text, fault_text, served_alone, Printed, sessions, bad_offset, last_line, script}
-use Rattle.gitolite_shell.specs.RunningScripts.{Serves, Advances, AdvancesOne, FindsEnd, FindsBad, FailsAtRead, ServesPart, TellsPart, StopsAdvancing, RunsScript, StopsAtRead, StopsAtWrite, StopsScript}
+use Rattle.gitolite_shell.specs.RunningScripts.{Serves, Advances, AdvancesOne, FindsEnd, FindsBad, MayLackAfter, FailsAtRead, LacksAtRead, LacksSession, LacksServing, ServesPart, TellsPart, StopsAdvancing, RunsScript, StopsAtRead, StopsServing, StopsTelling, StopsAtWrite, StopsForMemory, StopsScript}
 use Rattle.gitolite_shell.specs.declared.script.ScriptFault.{ScriptFault}
 use Rattle.gitolite_shell.specs.declared.script.ScriptFault.TheVariants.{BadScript, InputFault, OutputFault, NoMemory}
 use Rattle.gitolite_shell.proofs.FrameLemmas.{begins_none}
 use Rattle.gitolite_shell.proofs.ReadingLemmas.{takes_more, no_rest}
 
 -- I. One session
+
+-- the whole input, of which this was taken
+input_of : (left left' : Option (List ℕ)) (taken : List ℕ) → Consumes left left' taken → (more : List ℕ) × IsRest left' more × IsInput left (taken ++ more)
+input_of None None taken consumed = ([], refl, tt)
+input_of None (Some rest) taken consumed = (rest, refl, tt)
+input_of (Some input) None taken consumed = absurd consumed
+input_of (Some input) (Some rest) taken consumed = (rest, refl, consumed)
 
 -- over a link that tells its bytes, alone at its hub
 alone_turn : (a b : LinkState) (old new : DeskView) (body out : List ℕ) (end : SessionEnd) → a.left ≡ Some body → a.written ≡ Some [] → b.written ≡ Some out → IsTrue old.alone
@@ -52,9 +62,40 @@ serves a b old new number body out word text end left empty written alone ends w
       alone = subst IsTrue (sym grows.alone) alone;
     }
 
+-- where memory lacked in it
+pub session_lacks : (a b : LinkState) (old new : DeskView) (body : List ℕ) → a.left ≡ Some body → IsTrue old.alone → LacksMemory a b old new (session old.admin) → LacksSession old new body
+unfolding served_alone
+session_lacks a b old new body left alone lacks =
+    let whole = input_of a.left b.left lacks.part lacks.read in
+    let input : body ≡ lacks.part ++ whole.0 = subst (λ (l : Option (List ℕ)). IsInput l (lacks.part ++ whole.0)) left whole.2 in
+    record {
+      goes_on = (makes_grows old new lacks.own lacks.made).seen;
+      within = rw input (alone_begins old.admin (session old.admin) lacks.part whole.0 lacks.own old.seen new.seen (makes_alone old new lacks.own alone lacks.made) lacks.entries);
+    }
+
+-- over a link that can't fail only memory may lack
+pub only_memory : (a b : LinkState) (old new : DeskView) (end : SessionEnd) (failure : Failure) → a.may_fail ≡ false → HasCause a b end → halt_of end ≡ Failed failure
+    → TakesTurn a b old new (session old.admin) (halt_of end) → LacksMemory a b old new (session old.admin)
+only_memory a b old new end.ReadFault failure cannot cause is turn = absurd (let may : false ≡ true = sym cannot ∙ cause.1 in cc)
+only_memory a b old new end.WriteFault failure cannot cause is turn = absurd (let may : false ≡ true = sym cannot ∙ cause.1 in cc)
+only_memory a b old new end.NoMemory failure cannot cause is turn = turn
+only_memory a b old new end.Served failure cannot cause is turn = absurd cc
+only_memory a b old new end.Denied failure cannot cause is turn = absurd cc
+only_memory a b old new end.NoRepo failure cannot cause is turn = absurd cc
+only_memory a b old new (end.BadPack fault) failure cannot cause is turn = absurd cc
+only_memory a b old new end.NotBuilt failure cannot cause is turn = absurd cc
+
+-- a session that was served, whose reply had no room
+pub serves_unsaid : (old new : DeskView) (number : ℕ) (body text : List ℕ) → Begins old.seen new.seen → Serves old new number body text → LacksSession old new body
+serves_unsaid old new number body text goes_on served = record { goes_on = goes_on; within = ([], sym served.seen ∙ sym (append-nil new.seen)) }
+
 pub if_ok : {V E : Type 0} (P Q : V → Type 0) (result : Result V E) → ((v : V) → P v → Q v) → IfOk result P → IfOk result Q
 if_ok P Q (Ok v) more p = more v p
 if_ok P Q (Err e) more p = tt
+
+pub if_err : {V E : Type 0} (P : Type 0) (result : Result V E) → P → IfErr result (λ e. P)
+if_err P (Ok v) p = tt
+if_err P (Err e) p = p
 
 -- II. Sessions one after the other
 
@@ -134,16 +175,18 @@ count_frames (body ∷ bodies) = omega (arith, count_frames bodies, some_frame b
 
 -- III. The end of a script
 
--- the whole input, of which this was taken
-input_of : (left left' : Option (List ℕ)) (taken : List ℕ) → Consumes left left' taken → (more : List ℕ) × IsRest left' more × IsInput left (taken ++ more)
-input_of None None taken consumed = ([], refl, tt)
-input_of None (Some rest) taken consumed = (rest, refl, tt)
-input_of (Some input) None taken consumed = absurd consumed
-input_of (Some input) (Some rest) taken consumed = (rest, refl, consumed)
+some_fault : (offset : ℕ) → 0 < length (fault_text offset)
+unfolding fault_text
+some_fault offset = omega (arith, length-append (codes "bad script at ") (decimal offset ++ 10 ∷ []))
+
+-- a frame is bad, and the line that says so had no room
+pub untold : (source source' sink : LinkState) (desk : DeskView) (number offset : ℕ) → TakesNoFrame source source' → StopsAdvancing source source' sink sink desk desk number offset NoMemory
+untold source source' sink desk number offset bad =
+    inr (inr (inr (record { read = bad; part = record { bytes = []; short = (fault_text offset, refl, some_fault offset); written = Appends-nil sink.written }; desk_is = refl }, inl refl)))
 
 runs_to : (s s' s'' k k' k'' : LinkState) (d d' d'' : DeskView) (bodies : List (List ℕ)) (part : List ℕ) (at : Option ℕ)
     → Advances s s' k k' d d' 1 bodies → Takes s' s'' part → ((more : List ℕ) → IsRest s''.left more → BeginsNoFrame (part ++ more) × (bad_offset bodies (part ++ more) ≡ at))
-    → (IsTrue (is_some at) → 0 < length part) → Appends k'.written k''.written (last_line at) → d'' ≡ d' → RunsScript s s'' k k'' d.admin d.seen d''.seen (is_some at)
+    → (IsTrue (is_some at) → (0 < length part) × GoesNoFurther part) → Appends k'.written k''.written (last_line at) → d'' ≡ d' → RunsScript s s'' k k'' d.admin d.seen d''.seen (is_some at)
 unfolding script
 runs_to s s' s'' k k' k'' d d' d'' bodies part at advances last follows some wrote same =
     let takes = takes_more s s' s'' (flat_map frame_text bodies) part advances.takes last in
@@ -158,7 +201,8 @@ runs_to s s' s'' k k' k'' d d' d'' bodies part at advances last follows some wro
       is_script = record { frames = append_assoc (flat_map frame_text bodies) part whole.0; small = advances.small; stops = here.0 };
       bad_is = ap is_some here.1;
       follows = (whole.0, whole.1, refl);
-      some = some;
+      some = λ bad. (some bad).0;
+      no_further = λ bad. (some bad).1;
       takes = takes;
       written = rw here.1 (appends_more k.written k'.written k''.written _ _ advances.written wrote);
       log_is = ap (λ (e : DeskView). e.seen) same ∙ advances.seen;
@@ -178,7 +222,7 @@ pub runs_bad : (s s' s'' k k' k'' : LinkState) (d d' d'' : DeskView) (bodies : L
     → FindsBad s' s'' k' k'' d' d'' offset → RunsScript s s'' k k'' d.admin d.seen d''.seen true
 runs_bad s s' s'' k k' k'' d d' d'' bodies offset advances is bad =
     runs_to s s' s'' k k' k'' d d' d'' bodies bad.read.part (Some offset) advances bad.read.takes
-    (λ more rest. (bad.read.bad more rest, bad_some bodies bad.read.part more offset bad.read.some is)) (λ bad_is. bad.read.some) bad.written bad.desk_is
+    (λ more rest. (bad.read.bad more rest, bad_some bodies bad.read.part more offset bad.read.some is)) (λ bad_is. (bad.read.some, bad.read.no_further)) bad.written bad.desk_is
 
 -- IV. The loop
 
@@ -196,6 +240,9 @@ advances_next s s' s'' k k' k'' d d' d'' number offset taken bodies advances cou
 )
 
 module _ (s s' s'' k k' k'' : LinkState) (d d' d'' : DeskView) (bodies : List (List ℕ)) (advances : Advances s s' k k' d d' 1 bodies) where
+  out : List ℕ
+  out = (sessions d.admin 1 bodies d.seen).output
+
   stops_read : IsLater s s' → FailsAtRead s' s'' k' k'' d' d'' → StopsAtRead s s'' k k'' d.admin d.seen d''.seen
   stops_read later fails = record {
     bodies = bodies;
@@ -209,70 +256,114 @@ module _ (s s' s'' k k' k'' : LinkState) (d d' d'' : DeskView) (bodies : List (L
     risen = risen_later s.read_faults s'.read_faults s''.read_faults later.read_faults fails.read.fails.risen;
   }
 
-  more_short : (out bytes text : List ℕ) → FallsShort bytes text → FallsShort (out ++ bytes) (out ++ text)
-  more_short out bytes text short = (short.0, ap (λ (l : List ℕ). out ++ l) short.1 ∙ sym (append_assoc out bytes short.0), short.2)
+  more_short : (bytes text : List ℕ) → FallsShort bytes text → FallsShort (out ++ bytes) (out ++ text)
+  more_short bytes text short = (short.0, ap (λ (l : List ℕ). out ++ l) short.1 ∙ sym (append_assoc out bytes short.0), short.2)
 
-  stops_told : (offset : ℕ) → offset ≡ length (flat_map frame_text bodies) → IsLater k k' → TellsPart s' s'' k' k'' d' d'' offset → StopsAtWrite s s'' k k'' d.admin d.seen d''.seen
-  unfolding script
-  stops_told offset place later tells =
+  told : (offset : ℕ) → offset ≡ length (flat_map frame_text bodies) → (tells : TellsPart s' s'' k' k'' d' d'' offset) → StopsTelling s s'' d.admin d.seen d''.seen bodies (out ++ tells.part.bytes)
+  unfolding script out
+  told offset place tells =
       let takes = takes_more s s' s'' (flat_map frame_text bodies) tells.read.part advances.takes tells.read.takes in
       let whole = input_of s.left s''.left (flat_map frame_text bodies ++ tells.read.part) takes.consumed in
-      let out : List ℕ = (sessions d.admin 1 bodies d.seen).output in
-      let short = more_short out tells.part.bytes (fault_text offset) tells.part.short in
+      let short = more_short tells.part.bytes (fault_text offset) tells.part.short in
       record {
-        done = bodies;
-        more = tells.part.bytes;
-        written = appends_more k.written k'.written k''.written out tells.part.bytes advances.written tells.part.written;
-        stops =
-            inr (record {
-              rest = tells.read.part ++ whole.0;
-              part = tells.read.part;
-              told = subst (IsInput s.left) (append_assoc (flat_map frame_text bodies) tells.read.part whole.0) whole.2;
-              small = advances.small;
-              none = tells.read.bad whole.0 whole.1;
-              follows = (whole.0, whole.1, refl);
-              some = tells.read.some;
-              takes = takes;
-              short = rw (bad_some bodies tells.read.part whole.0 offset tells.read.some place) short;
-              log_is = ap (λ (e : DeskView). e.seen) tells.desk_is ∙ advances.seen;
-            });
-        risen = risen_later k.write_faults k'.write_faults k''.write_faults later.write_faults tells.part.risen;
+        rest = tells.read.part ++ whole.0;
+        part = tells.read.part;
+        told = subst (IsInput s.left) (append_assoc (flat_map frame_text bodies) tells.read.part whole.0) whole.2;
+        small = advances.small;
+        none = tells.read.bad whole.0 whole.1;
+        follows = (whole.0, whole.1, refl);
+        some = tells.read.some;
+        no_further = tells.read.no_further;
+        takes = takes;
+        short = rw (bad_some bodies tells.read.part whole.0 offset tells.read.some place) short;
+        log_is = ap (λ (e : DeskView). e.seen) tells.desk_is ∙ advances.seen;
       }
 
-  stops_served : (number : ℕ) → number ≡ 1 + length bodies → IsLater k k' → ServesPart s' s'' k' k'' d' d'' number → StopsAtWrite s s'' k k'' d.admin d.seen d''.seen
-  stops_served number count later part =
-      let all : List (List ℕ) = bodies ++ part.body ∷ [] in
-      let out : List ℕ = (sessions d.admin 1 bodies d.seen).output in
-      let one = one_session d.admin number part.body (sessions d.admin 1 bodies d.seen).log in
-      let printed = rw (advances.admin, advances.seen) at part.serves.printed in
-      let seen = rw (advances.admin, advances.seen) at part.serves.seen in
-      let more = sessions_more d.admin 1 number bodies (part.body ∷ []) d.seen count in
-      let takes = takes_more s s' s'' (flat_map frame_text bodies) (frame_text part.body) advances.takes part.read.takes in
-      let frames : flat_map frame_text bodies ++ frame_text part.body ≡ flat_map frame_text all =
-      ap (λ (l : List ℕ). flat_map frame_text bodies ++ l) (sym (append-nil (frame_text part.body))) ∙ sym (flat_map-append frame_text bodies (part.body ∷ [])) in
-      record {
-        done = bodies;
-        more = part.part.bytes;
-        written = appends_more k.written k'.written k''.written out part.part.bytes advances.written part.part.written;
-        stops =
-            inl (record {
-              body = part.body;
-              small = bodies_more bodies (part.body ∷ []) advances.small (part.read.small, tt);
-              takes = subst (λ (l : List ℕ). Takes s s'' l) frames takes;
-              short = rw (more, one, ← printed) (more_short out part.part.bytes part.text part.part.short);
-              log_is = rw (more, one) seen;
-            });
-        risen = risen_later k.write_faults k'.write_faults k''.write_faults later.write_faults part.part.risen;
+  frames_more : (body : List ℕ) → flat_map frame_text bodies ++ frame_text body ≡ flat_map frame_text (bodies ++ body ∷ [])
+  frames_more body = ap (λ (l : List ℕ). flat_map frame_text bodies ++ l) (sym (append-nil (frame_text body))) ∙ sym (flat_map-append frame_text bodies (body ∷ []))
+
+  one_more : (number : ℕ) → number ≡ 1 + length bodies → (body : List ℕ)
+      → sessions d.admin 1 (bodies ++ body ∷ []) d.seen ≡ record {
+        output = out ++ reply_text number (stop_word (served_alone d'.admin body d'.seen).stop) (served_alone d'.admin body d'.seen).bytes;
+        log = (served_alone d'.admin body d'.seen).log;
       }
+  unfolding out
+  one_more number count body =
+      subst (λ (p : Name × List Entry). sessions d.admin 1 (bodies ++ body ∷ []) d.seen ≡ record { output = out ++ reply_text number (stop_word (served_alone p.0 body p.1).stop) (served_alone p.0 body p.1).bytes; log = (served_alone p.0 body p.1).log })
+      (λ i. (sym advances.admin i, sym advances.seen i))
+      (sessions_more d.admin 1 number bodies (body ∷ []) d.seen count ∙ ap (λ (p : Printed). record { output = out ++ p.output; log = p.log }) (one_session d.admin number body (sessions d.admin 1 bodies d.seen).log))
+
+  served : (number : ℕ) → number ≡ 1 + length bodies → (part : ServesPart s' s'' k' k'' d' d'' number) → StopsServing s s'' d.admin d.seen d''.seen bodies (out ++ part.part.bytes)
+  served number count part = record {
+    body = part.body;
+    small = bodies_more bodies (part.body ∷ []) advances.small (part.read.small, tt);
+    takes = subst (λ (l : List ℕ). Takes s s'' l) (frames_more part.body) (takes_more s s' s'' (flat_map frame_text bodies) (frame_text part.body) advances.takes part.read.takes);
+    short = rw (one_more number count part.body, ← part.serves.printed) (more_short part.part.bytes part.text part.part.short);
+    log_is = rw (one_more number count part.body) part.serves.seen;
+  }
+
+  wrote : (bytes : List ℕ) → Appends k'.written k''.written bytes → Appends k.written k''.written (out ++ bytes)
+  unfolding out
+  wrote bytes appended = appends_more k.written k'.written k''.written out bytes advances.written appended
 
   stops_write : (number offset : ℕ) → number ≡ 1 + length bodies → offset ≡ length (flat_map frame_text bodies) → IsLater k k'
-      → ServesPart s' s'' k' k'' d' d'' number ⊎ TellsPart s' s'' k' k'' d' d'' offset → StopsAtWrite s s'' k k'' d.admin d.seen d''.seen
-  stops_write number offset count place later (inl part) = stops_served number count later part
-  stops_write number offset count place later (inr tells) = stops_told offset place later tells
+      → ServesPart s' s'' k' k'' d' d'' number ⊎ TellsPart s' s'' k' k'' d' d'' offset → HasRisen k'.write_faults k''.write_faults → StopsAtWrite s s'' k k'' d.admin d.seen d''.seen
+  unfolding out
+  stops_write number offset count place later (inl part) risen =
+      record { done = bodies; more = part.part.bytes; written = wrote part.part.bytes part.part.written; stops = inl (served number count part); risen = risen_later k.write_faults k'.write_faults k''.write_faults later.write_faults risen }
+  stops_write number offset count place later (inr tells) risen =
+      record { done = bodies; more = tells.part.bytes; written = wrote tells.part.bytes tells.part.written; stops = inr (told offset place tells); risen = risen_later k.write_faults k'.write_faults k''.write_faults later.write_faults risen }
+
+  may_lack : (bytes : List ℕ) → IsLater k k' → MayLackAfter k' bytes → MayLackAfter k bytes
+  may_lack bytes later may = rw later.may_lack at may
+
+  -- where nothing more was printed
+  unsaid : k'' ≡ k' → Appends k.written k''.written (out ++ [])
+  unsaid same = wrote [] (rw same (Appends-nil k'.written))
+
+  stops_memory : (number offset : ℕ) → number ≡ 1 + length bodies → offset ≡ length (flat_map frame_text bodies) → IsLater k k'
+      → LacksAtRead s' s'' k' k'' d' d'' ⊎ LacksServing s' s'' k' k'' d' d'' ⊎ ((part : ServesPart s' s'' k' k'' d' d'' number) × MayLackAfter k' part.part.bytes) ⊎ ((tells : TellsPart s' s'' k' k'' d' d'' offset) × MayLackAfter k' tells.part.bytes)
+      → StopsForMemory s s'' k k'' d.admin d.seen d''.seen
+  unfolding out
+  stops_memory number offset count place later (inl lacks) = record {
+    done = bodies;
+    more = [];
+    written = unsaid lacks.sink_is;
+    may_lack = inl refl;
+    stops =
+        inl (record {
+          part = lacks.read.part;
+          small = advances.small;
+          none = lacks.read.none;
+          inside = lacks.read.inside;
+          takes = takes_more s s' s'' (flat_map frame_text bodies) lacks.read.part advances.takes lacks.read.takes;
+          nothing = refl;
+          log_is = ap (λ (e : DeskView). e.seen) lacks.desk_is ∙ advances.seen;
+        });
+  }
+  stops_memory number offset count place later (inr (inl lacks)) = record {
+    done = bodies;
+    more = [];
+    written = unsaid lacks.sink_is;
+    may_lack = inl refl;
+    stops =
+        inr (inl (record {
+          body = lacks.body;
+          small = bodies_more bodies (lacks.body ∷ []) advances.small (lacks.read.small, tt);
+          takes = subst (λ (l : List ℕ). Takes s s'' l) (frames_more lacks.body) (takes_more s s' s'' (flat_map frame_text bodies) (frame_text lacks.body) advances.takes lacks.read.takes);
+          nothing = refl;
+          goes_on = rw advances.seen at lacks.lacks.goes_on;
+          within = rw (one_more number count lacks.body) lacks.lacks.within;
+        }));
+  }
+  stops_memory number offset count place later (inr (inr (inl (part, may)))) =
+      record { done = bodies; more = part.part.bytes; written = wrote part.part.bytes part.part.written; may_lack = may_lack part.part.bytes later may; stops = inr (inr (inl (served number count part))) }
+  stops_memory number offset count place later (inr (inr (inr (tells, may)))) =
+      record { done = bodies; more = tells.part.bytes; written = wrote tells.part.bytes tells.part.written; may_lack = may_lack tells.part.bytes later may; stops = inr (inr (inr (told offset place tells))) }
 
 pub stops : (s s' s'' k k' k'' : LinkState) (d d' d'' : DeskView) (bodies : List (List ℕ)) (number offset : ℕ) (fault : ScriptFault) → Advances s s' k k' d d' 1 bodies → number ≡ 1 + length bodies
     → offset ≡ length (flat_map frame_text bodies) → IsLater s s' → IsLater k k' → StopsAdvancing s' s'' k' k'' d' d'' number offset fault → StopsScript s s'' k k'' d.admin d.seen d''.seen fault
 stops s s' s'' k k' k'' d d' d'' bodies number offset BadScript advances count place input output stop = runs_bad s s' s'' k k' k'' d d' d'' bodies offset advances place stop
 stops s s' s'' k k' k'' d d' d'' bodies number offset InputFault advances count place input output stop = stops_read s s' s'' k k' k'' d d' d'' bodies advances input stop
-stops s s' s'' k k' k'' d d' d'' bodies number offset OutputFault advances count place input output stop = stops_write s s' s'' k k' k'' d d' d'' bodies advances number offset count place output stop
-stops s s' s'' k k' k'' d d' d'' bodies number offset NoMemory advances count place input output stop = tt
+stops s s' s'' k k' k'' d d' d'' bodies number offset OutputFault advances count place input output stop = stops_write s s' s'' k k' k'' d d' d'' bodies advances number offset count place output stop.0 stop.1
+stops s s' s'' k k' k'' d d' d'' bodies number offset NoMemory advances count place input output stop = stops_memory s s' s'' k k' k'' d d' d'' bodies advances number offset count place output stop

@@ -40,15 +40,15 @@ HasCause old new WriteFault = HasRisen old.write_faults new.write_faults × IsTr
 HasCause old new end = ⊤
 
 -- No failure of the link is hidden: where the end is no fault of a direction, no failure of it was counted.
-abbrev pub HidesNone : LinkState → LinkState → SessionEnd → Type 0
-HidesNone old new ReadFault = new.write_faults ≡ old.write_faults
-HidesNone old new WriteFault = new.read_faults ≡ old.read_faults
-HidesNone old new end = (new.read_faults ≡ old.read_faults) × (new.write_faults ≡ old.write_faults)
+abbrev pub TellsEnd : LinkState → LinkState → SessionEnd → Type 0
+TellsEnd old new ReadFault = new.write_faults ≡ old.write_faults
+TellsEnd old new WriteFault = new.read_faults ≡ old.read_faults
+TellsEnd old new end = (new.read_faults ≡ old.read_faults) × (new.write_faults ≡ old.write_faults)
 
 -- the same of a function of a session
 abbrev pub TellsLink : {A : Type 0} → LinkState → LinkState → Result A SessionEnd → Type 0
 TellsLink old new (Ok value) = (new.read_faults ≡ old.read_faults) × (new.write_faults ≡ old.write_faults)
-TellsLink old new (Err end) = HidesNone old new end
+TellsLink old new (Err end) = TellsEnd old new end
 
 -- over a link whose counts didn't rise the end is the interaction's, or memory lacked
 abbrev pub IsSure : LinkState → LinkState → SessionEnd → Type 0

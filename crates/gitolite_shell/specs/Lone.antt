@@ -1,5 +1,5 @@
 -- How a run of the program ends.
-use Rattle.std.specs.Prelude.{◌≡◌, ◌⊎◌, ⊤, ℕ, Bool, true, false, List, [], Some, None, Result, Ok, Err}
+use Rattle.std.specs.Prelude.{◌≡◌, ◌⊎◌, ℕ, Bool, true, false, IsTrue, List, [], Some, None, Result, Ok, Err}
 use Rattle.std.specs.Io.KnownBytes.{Appends}
 use Rattle.base_types.specs.Counts.{HasRisen}
 use Rattle.pktline_core.specs.LinkState.{LinkState}
@@ -7,7 +7,7 @@ use Rattle.hub_core.specs.declared.entry.Entry.{Entry}
 use Rattle.hub_core.specs.Name.{Name}
 use Rattle.hub_core.specs.Desk.{DeskView}
 use Rattle.gitolite_shell.specs.Words.{script_admin, usage_line}
-use Rattle.gitolite_shell.specs.RunningScripts.{RunsScript, StopsAtRead, StopsAtWrite, WritesPart}
+use Rattle.gitolite_shell.specs.RunningScripts.{RunsScript, StopsAtRead, StopsAtWrite, StopsForMemory, WritesPart}
 use Rattle.gitolite_shell.specs.declared.script.ScriptFault.{ScriptFault}
 use Rattle.gitolite_shell.specs.declared.script.ScriptFault.TheVariants as fault
 use Rattle.gitolite_shell.specs.declared.lone.Status.{Status}
@@ -51,10 +51,25 @@ pub record FailsOutput (words : List (List ℕ)) (source source' sink sink' : Li
   pub asked : script_admin words ≡ Some admin
   pub stops : StopsAtWrite source source' sink sink' admin [] log
 
--- the words were refused, and a part of the usage was printed
+-- the words were refused, and a write failed before all of the usage was printed
 pub record FailsUsage (words : List (List ℕ)) (source source' sink sink' : LinkState) (log : List Entry) : Type 0 where
   pub refused : script_admin words ≡ None
   pub part : WritesPart sink sink' usage_line
+  pub risen : HasRisen sink.write_faults sink'.write_faults
+  pub source_is : source' ≡ source
+  pub log_is : log ≡ []
+
+-- The words ask for a script, which was left where memory lacked, perhaps before anything was read.
+pub record LacksInScript (words : List (List ℕ)) (source source' sink sink' : LinkState) (log : List Entry) : Type 0 where
+  pub admin : Name
+  pub asked : script_admin words ≡ Some admin
+  pub stops : StopsForMemory source source' sink sink' admin [] log
+
+-- the words were refused, and memory lacked before all of the usage was printed
+pub record LacksInUsage (words : List (List ℕ)) (source source' sink sink' : LinkState) (log : List Entry) : Type 0 where
+  pub refused : script_admin words ≡ None
+  pub part : WritesPart sink sink' usage_line
+  pub may_lack : IsTrue sink.may_lack
   pub source_is : source' ≡ source
   pub log_is : log ≡ []
 
@@ -65,9 +80,9 @@ EndsWith words source source' sink sink' log BadScript = RunsWords words source 
 EndsWith words source source' sink sink' log Usage = RefusesWords words source source' sink sink' log
 EndsWith words source source' sink sink' log InputFault = FailsInput words source source' sink sink' log
 EndsWith words source source' sink sink' log OutputFault = FailsUsage words source source' sink sink' log ⊎ FailsOutput words source source' sink sink' log
-EndsWith words source source' sink sink' log NoMemory = ⊤
+EndsWith words source source' sink sink' log NoMemory = LacksInUsage words source source' sink sink' log ⊎ LacksInScript words source source' sink sink' log
 
--- A run ended with this number and this log. Where memory lacked nothing is said of it.
+-- A run ended with this number and this log.
 pub record EndsRun (words : List (List ℕ)) (source source' sink sink' : LinkState) (number : ℕ) (log : List Entry) : Type 0 where
   pub status : Status
   pub number_is : number ≡ status_number status
@@ -80,8 +95,8 @@ EndsSurely words source source' sink sink' number =
     → ((script_admin words ≡ None) × ((number ≡ 1) ⊎ (number ≡ 4))) ⊎ (((admin : Name) × (script_admin words ≡ Some admin)) × ((number ≡ 0) ⊎ (number ≡ 4) ⊎ (number ≡ 7)))
 
 -- A run that doesn't end with 2 had no failed read of its input, and one that doesn't end with 3 no failed write of its output.
-abbrev pub HidesNoFault : LinkState → LinkState → LinkState → LinkState → ℕ → Type 0
-HidesNoFault source source' sink sink' number = ((number ≡ 2) ⊎ (source'.read_faults ≡ source.read_faults)) × ((number ≡ 3) ⊎ (sink'.write_faults ≡ sink.write_faults))
+abbrev pub TellsStatus : LinkState → LinkState → LinkState → LinkState → ℕ → Type 0
+TellsStatus source source' sink sink' number = ((number ≡ 2) ⊎ (source'.read_faults ≡ source.read_faults)) × ((number ≡ 3) ⊎ (sink'.write_faults ≡ sink.write_faults))
 
 -- how a script's end is told
 abbrev pub status_of : Result (Unit {0}) ScriptFault → Status

@@ -39,17 +39,17 @@ StopsAtByte old new Bad = ⊥
 StopsAtByte old new ReadFault = FailsAfter old new []
 StopsAtByte old new NoMemory = ⊥
 
--- A line, and its line feed; or the input was at its end.
+-- A line of at most as many bytes as a first line has, and its line feed; or the input was at its end.
 abbrev pub TakesLine : LinkState → LinkState → Option (List ℕ) → Type 0
-TakesLine old new (Some line) = Takes old new (line ++ 10 ∷ []) × HasNoFeed line
+TakesLine old new (Some line) = Takes old new (line ++ 10 ∷ []) × HasNoFeed line × (length line ≤ 17)
 TakesLine old new None = Takes old new [] × IsAtEnd new.left
 
--- Bytes without a line feed: more of them than the first line of a frame has, or all that are left.
+-- Bytes without a line feed: one more than the first line of a frame has, or as many at most and all that are left.
 pub record TakesNoLine (old new : LinkState) : Type 0 where
   pub part : List ℕ
   pub takes : Takes old new part
   pub no_feed : HasNoFeed part
-  pub ended : (17 < length part) ⊎ ((0 < length part) × IsAtEnd new.left)
+  pub ended : (length part ≡ 18) ⊎ ((0 < length part) × (length part ≤ 17) × IsAtEnd new.left)
 
 -- a read failed inside a line, of which at most as many bytes were taken as a first line has
 pub record FailsInLine (old new : LinkState) : Type 0 where
@@ -58,10 +58,17 @@ pub record FailsInLine (old new : LinkState) : Type 0 where
   pub short : length part ≤ 17
   pub fails : FailsAfter old new part
 
+-- memory lacked in a line, of which at most one byte more was taken than a first line has
+pub record LacksInLine (old new : LinkState) : Type 0 where
+  pub part : List ℕ
+  pub no_feed : HasNoFeed part
+  pub short : length part ≤ 18
+  pub takes : Takes old new part
+
 abbrev pub StopsInLine : LinkState → LinkState → FrameFault → Type 0
 StopsInLine old new Bad = TakesNoLine old new
 StopsInLine old new ReadFault = FailsInLine old new
-StopsInLine old new NoMemory = ⊤
+StopsInLine old new NoMemory = LacksInLine old new
 
 -- digits of no number below 2 ^ 32
 abbrev pub IsNoNumber : List ℕ → Type 0
@@ -94,10 +101,16 @@ pub record FailsInBody (old new : LinkState) (size : ℕ) : Type 0 where
   pub short : length part < size
   pub fails : FailsAfter old new part
 
+-- memory lacked inside it, or behind its last byte
+pub record LacksInBody (old new : LinkState) (size : ℕ) : Type 0 where
+  pub part : List ℕ
+  pub within : length part ≤ size
+  pub takes : Takes old new part
+
 abbrev pub StopsInBody : LinkState → LinkState → ℕ → FrameFault → Type 0
 StopsInBody old new size Bad = TakesPart old new size
 StopsInBody old new size ReadFault = FailsInBody old new size
-StopsInBody old new size NoMemory = ⊤
+StopsInBody old new size NoMemory = LacksInBody old new size
 
 -- The next frame, and no byte behind it; or the input was at its end.
 pub record TakesFrame (old new : LinkState) (taken : ℕ) (body : List ℕ) : Type 0 where
@@ -105,19 +118,28 @@ pub record TakesFrame (old new : LinkState) (taken : ℕ) (body : List ℕ) : Ty
   pub counted : taken ≡ length (frame_text body)
   pub small : length body ≤ largest_body
 
+-- This part ends inside a frame: it is a line without its line feed and of so many bytes at most, perhaps empty and perhaps none of a frame;
+-- or a good first line, behind which the body or the last line feed isn't whole.
+abbrev pub EndsInside : ℕ → List ℕ → Type 0
+EndsInside most part =
+    (HasNoFeed part × (length part ≤ most))
+    ⊎ ((size : ℕ) × (body : List ℕ) × (size ≤ largest_body) × (part ≡ head_text size ++ 10 ∷ body) × (length body ≤ size))
+
+-- More is wanted behind this part: a line without its line feed isn't too long for a first one.
+abbrev pub WantsMore : List ℕ → Type 0
+WantsMore part = EndsInside 17 part
+
+-- No byte was taken behind the one that shows that no frame stands here: this part ends inside a frame, or all of it but its last byte does.
+abbrev pub GoesNoFurther : List ℕ → Type 0
+GoesNoFurther part = EndsInside 17 part ⊎ ((front : List ℕ) × (last : ℕ) × (part ≡ front ++ last ∷ []) × EndsInside 17 front)
+
 -- What was taken shows that no frame stands here, or the input ended before.
 pub record TakesNoFrame (old new : LinkState) : Type 0 where
   pub part : List ℕ
   pub takes : Takes old new part
   pub some : 0 < length part
   pub bad : (rest : List ℕ) → IsRest new.left rest → BeginsNoFrame (part ++ rest)
-
--- More is wanted behind this part: it is a line without its line feed that isn't too long for a first one, perhaps empty and perhaps none of a frame;
--- or a good first line, behind which the body or the last line feed isn't whole.
-abbrev pub WantsMore : List ℕ → Type 0
-WantsMore part =
-    (HasNoFeed part × (length part ≤ 17))
-    ⊎ ((size : ℕ) × (body : List ℕ) × (size ≤ largest_body) × (part ≡ head_text size ++ 10 ∷ body) × (length body ≤ size))
+  pub no_further : GoesNoFurther part
 
 -- a read failed before a whole frame was taken, where more is wanted
 pub record FailsInFrame (old new : LinkState) : Type 0 where
@@ -126,10 +148,17 @@ pub record FailsInFrame (old new : LinkState) : Type 0 where
   pub wants : WantsMore part
   pub fails : FailsAfter old new part
 
+-- memory lacked before a whole frame was taken; a line without its line feed may be one byte too long for a first one
+pub record LacksInFrame (old new : LinkState) : Type 0 where
+  pub part : List ℕ
+  pub none : BeginsNoFrame part
+  pub inside : EndsInside 18 part
+  pub takes : Takes old new part
+
 abbrev pub StopsInFrame : LinkState → LinkState → FrameFault → Type 0
 StopsInFrame old new Bad = TakesNoFrame old new
 StopsInFrame old new ReadFault = FailsInFrame old new
-StopsInFrame old new NoMemory = ⊤
+StopsInFrame old new NoMemory = LacksInFrame old new
 
 -- no failed read is hidden
 abbrev pub TellsRead : {V : Type 0} → LinkState → LinkState → Result V FrameFault → Type 0

@@ -7,10 +7,10 @@ use Rattle.pktline_core.specs.LinkState.{LinkState}
 use Rattle.hub_core.specs.declared.entry.Entry.{Entry}
 use Rattle.hub_core.specs.Name.{Name}
 use Rattle.hub_core.specs.Desk.{DeskView}
-use Rattle.interaction_tree.specs.Traces.{FallsShort}
+use Rattle.interaction_tree.specs.Traces.{Begins, FallsShort}
 use Rattle.interaction_tree.specs.Endings.{IsInput}
 use Rattle.gitolite_shell.specs.Frames.{frame_text, AreBodies, BeginsNoFrame, IsScript}
-use Rattle.gitolite_shell.specs.ReadingFrames.{Takes, IsRest, TakesFrame, TakesNoFrame, WantsMore, FailsInFrame}
+use Rattle.gitolite_shell.specs.ReadingFrames.{Takes, IsRest, TakesFrame, TakesNoFrame, EndsInside, GoesNoFurther, WantsMore, FailsInFrame, LacksInFrame}
 use Rattle.gitolite_shell.specs.Script.{stop_word, reply_text, fault_text, served_alone, sessions, bad_offset, script}
 use Rattle.gitolite_shell.specs.declared.script.ScriptFault.{ScriptFault}
 use Rattle.gitolite_shell.specs.declared.script.ScriptFault.TheVariants.{BadScript, InputFault, OutputFault, NoMemory}
@@ -50,25 +50,47 @@ pub record FindsBad (source source' sink sink' : LinkState) (old new : DeskView)
   pub written : Appends sink.written sink'.written (fault_text offset)
   pub desk_is : new ≡ old
 
--- a beginning of a text was written, and a write failed before its last byte
+-- a beginning of a text was written, and not all of it
 pub record WritesPart (sink sink' : LinkState) (text : List ℕ) : Type 0 where
   pub bytes : List ℕ
   pub short : FallsShort bytes text
   pub written : Appends sink.written sink'.written bytes
-  pub risen : HasRisen sink.write_faults sink'.write_faults
+
+-- where memory lacked, none of a text was written, or its sink is one that may lack memory
+abbrev pub MayLackAfter : LinkState → List ℕ → Type 0
+MayLackAfter sink bytes = (bytes ≡ []) ⊎ IsTrue sink.may_lack
 
 -- why a text was not written
 abbrev pub StopsWriting : LinkState → LinkState → List ℕ → ScriptFault → Type 0
 StopsWriting sink sink' text BadScript = ⊥
 StopsWriting sink sink' text InputFault = ⊥
-StopsWriting sink sink' text OutputFault = WritesPart sink sink' text
-StopsWriting sink sink' text NoMemory = ⊤
+StopsWriting sink sink' text OutputFault = WritesPart sink sink' text × HasRisen sink.write_faults sink'.write_faults
+StopsWriting sink sink' text NoMemory = WritesPart sink sink' text × IsTrue sink.may_lack
 
 -- a read failed before the next frame or inside it, and nothing else was done
 pub record FailsAtRead (source source' sink sink' : LinkState) (old new : DeskView) : Type 0 where
   pub read : FailsInFrame source source'
   pub sink_is : sink' ≡ sink
   pub desk_is : new ≡ old
+
+-- memory lacked before the next frame or inside it, and nothing else was done
+pub record LacksAtRead (source source' sink sink' : LinkState) (old new : DeskView) : Type 0 where
+  pub read : LacksInFrame source source'
+  pub sink_is : sink' ≡ sink
+  pub desk_is : new ≡ old
+
+-- Memory lacked in a session, or where its reply was put together: of the entries that are due of it a beginning was made.
+pub record LacksSession (old new : DeskView) (body : List ℕ) : Type 0 where
+  pub goes_on : Begins old.seen new.seen
+  pub within : Begins new.seen (served_alone old.admin body old.seen).log
+
+-- the next frame was read, and memory lacked in its session, of which nothing was printed
+pub record LacksServing (source source' sink sink' : LinkState) (old new : DeskView) : Type 0 where
+  pub taken : ℕ
+  pub body : List ℕ
+  pub read : TakesFrame source source' taken body
+  pub lacks : LacksSession old new body
+  pub sink_is : sink' ≡ sink
 
 -- the next session was served, and a part of what is printed of it was written
 pub record ServesPart (source source' sink sink' : LinkState) (old new : DeskView) (number : ℕ) : Type 0 where
@@ -89,15 +111,20 @@ pub record TellsPart (source source' sink sink' : LinkState) (old new : DeskView
 abbrev pub StopsAdvancing : LinkState → LinkState → LinkState → LinkState → DeskView → DeskView → ℕ → ℕ → ScriptFault → Type 0
 StopsAdvancing source source' sink sink' old new number offset BadScript = FindsBad source source' sink sink' old new offset
 StopsAdvancing source source' sink sink' old new number offset InputFault = FailsAtRead source source' sink sink' old new
-StopsAdvancing source source' sink sink' old new number offset OutputFault = ServesPart source source' sink sink' old new number ⊎ TellsPart source source' sink sink' old new offset
-StopsAdvancing source source' sink sink' old new number offset NoMemory = ⊤
+StopsAdvancing source source' sink sink' old new number offset OutputFault =
+    (ServesPart source source' sink sink' old new number ⊎ TellsPart source source' sink sink' old new offset) × HasRisen sink.write_faults sink'.write_faults
+StopsAdvancing source source' sink sink' old new number offset NoMemory =
+    LacksAtRead source source' sink sink' old new
+    ⊎ LacksServing source source' sink sink' old new
+    ⊎ ((serves : ServesPart source source' sink sink' old new number) × MayLackAfter sink serves.part.bytes)
+    ⊎ ((tells : TellsPart source source' sink sink' old new offset) × MayLackAfter sink tells.part.bytes)
 
 -- Of what follows the frames this part was read: all of it, where the source doesn't tell what is left.
 abbrev pub IsReadOf : Option (List ℕ) → List ℕ → List ℕ → Type 0
 IsReadOf left part rest = (more : List ℕ) × IsRest left more × (rest ≡ part ++ more)
 
 -- A script was run to its end, or to a bad frame: the input is a script, and what was printed, and the log from one to another, are that script's.
--- Of what follows the frames a part was read, a byte at least where the script is bad.
+-- Of what follows the frames a part was read; where the script is bad, a byte at least, and none behind the one that shows it.
 pub record RunsScript (source source' sink sink' : LinkState) (admin : Name) (log log' : List Entry) (bad : Bool) : Type 0 where
   pub input : List ℕ
   pub bodies : List (List ℕ)
@@ -108,6 +135,7 @@ pub record RunsScript (source source' sink sink' : LinkState) (admin : Name) (lo
   pub bad_is : is_some (bad_offset bodies rest) ≡ bad
   pub follows : IsReadOf source'.left part rest
   pub some : IsTrue bad → 0 < length part
+  pub no_further : IsTrue bad → GoesNoFurther part
   pub takes : Takes source source' (flat_map frame_text bodies ++ part)
   pub written : Appends sink.written sink'.written (script admin bodies rest log).output
   pub log_is : log' ≡ (script admin bodies rest log).log
@@ -141,6 +169,7 @@ pub record StopsTelling (source source' : LinkState) (admin : Name) (log log' : 
   pub none : BeginsNoFrame rest
   pub follows : IsReadOf source'.left part rest
   pub some : 0 < length part
+  pub no_further : GoesNoFurther part
   pub takes : Takes source source' (flat_map frame_text done ++ part)
   pub short : FallsShort printed (script admin done rest log).output
   pub log_is : log' ≡ (sessions admin 1 done log).log
@@ -155,12 +184,44 @@ pub record StopsAtWrite (source source' sink sink' : LinkState) (admin : Name) (
       ⊎ StopsTelling source source' admin log log' done ((sessions admin 1 done log).output ++ more)
   pub risen : HasRisen sink.write_faults sink'.write_faults
 
+-- memory lacked before the next frame or inside it, and nothing more was printed than of these
+pub record StopsReading (source source' : LinkState) (admin : Name) (log log' : List Entry) (done : List (List ℕ)) (more : List ℕ) : Type 0 where
+  pub part : List ℕ
+  pub small : AreBodies done
+  pub none : BeginsNoFrame part
+  pub inside : EndsInside 18 part
+  pub takes : Takes source source' (flat_map frame_text done ++ part)
+  pub nothing : more ≡ []
+  pub log_is : log' ≡ (sessions admin 1 done log).log
+
+-- memory lacked in the session of the next frame: nothing more was printed than of these, and of that session's entries a beginning was made
+pub record StopsInSession (source source' : LinkState) (admin : Name) (log log' : List Entry) (done : List (List ℕ)) (more : List ℕ) : Type 0 where
+  pub body : List ℕ
+  pub small : AreBodies (done ++ body ∷ [])
+  pub takes : Takes source source' (flat_map frame_text (done ++ body ∷ []))
+  pub nothing : more ≡ []
+  pub goes_on : Begins (sessions admin 1 done log).log log'
+  pub within : Begins log' (sessions admin 1 (done ++ body ∷ []) log).log
+
+-- Memory lacked. The sessions of these frames were served and printed whole; then it lacked before the next frame or inside it, or in its session, and
+-- nothing more was printed; or that session was served, or a frame was found to be bad, and a beginning of what is printed of that, not all of it.
+pub record StopsForMemory (source source' sink sink' : LinkState) (admin : Name) (log log' : List Entry) : Type 0 where
+  pub done : List (List ℕ)
+  pub more : List ℕ
+  pub written : Appends sink.written sink'.written ((sessions admin 1 done log).output ++ more)
+  pub may_lack : MayLackAfter sink more
+  pub stops :
+      StopsReading source source' admin log log' done more
+      ⊎ StopsInSession source source' admin log log' done more
+      ⊎ StopsServing source source' admin log log' done ((sessions admin 1 done log).output ++ more)
+      ⊎ StopsTelling source source' admin log log' done ((sessions admin 1 done log).output ++ more)
+
 -- why a script ended before its input did
 abbrev pub StopsScript : LinkState → LinkState → LinkState → LinkState → Name → List Entry → List Entry → ScriptFault → Type 0
 StopsScript source source' sink sink' admin log log' BadScript = RunsScript source source' sink sink' admin log log' true
 StopsScript source source' sink sink' admin log log' InputFault = StopsAtRead source source' sink sink' admin log log'
 StopsScript source source' sink sink' admin log log' OutputFault = StopsAtWrite source source' sink sink' admin log log'
-StopsScript source source' sink sink' admin log log' NoMemory = ⊤
+StopsScript source source' sink sink' admin log log' NoMemory = StopsForMemory source source' sink sink' admin log log'
 
 -- no failed read of the input is hidden, and no failed write of the output
 abbrev pub TellsInput : {V : Type 0} → LinkState → LinkState → Result V ScriptFault → Type 0

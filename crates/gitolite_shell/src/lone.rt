@@ -1,7 +1,7 @@
 // The program, run by one caller.
 ghost use Rattle.std.specs.Prelude.{◌≡◌, IfOk, map, string_bytes};
 ghost use Rattle.hub_core.specs.LoneDesk.{desk_of};
-ghost use Rattle.gitolite_shell.specs.Lone.{EndsRun, EndsSurely, HidesNoFault, new_desk, status_number, status_of};
+ghost use Rattle.gitolite_shell.specs.Lone.{EndsRun, EndsSurely, TellsStatus, new_desk, status_number, status_of};
 
 use crate::script::{ScriptFault, run_script, write_text};
 use crate::words::{USAGE, script_admin};
@@ -70,7 +70,7 @@ pub fn lone_main<I: Source, O: Sink>(
     output: &mut O,
 ) -> Ended
     ensures ends { EndsRun (map string_bytes words.now) (I.state input.old) (I.state input.new) (O.state output.old) (O.state output.new) result.status result.log }
-    ensures hides { HidesNoFault (I.state input.old) (I.state input.new) (O.state output.old) (O.state output.new) result.status }
+    ensures tells { TellsStatus (I.state input.old) (I.state input.new) (O.state output.old) (O.state output.new) result.status }
     ensures sure { EndsSurely (map string_bytes words.now) (I.state input.old) (I.state input.new) (O.state output.old) (O.state output.new) result.status }
 {
     let Some(admin) = script_admin(words) else {

@@ -1,6 +1,6 @@
 // The program.
 ghost use Rattle.std.specs.Prelude.{map, string_bytes};
-ghost use Rattle.gitolite_shell.specs.Lone.{EndsRun, EndsSurely, HidesNoFault};
+ghost use Rattle.gitolite_shell.specs.Lone.{EndsRun, EndsSurely, TellsStatus};
 
 use crate::door::Door;
 use crate::gate::Gate;
@@ -18,7 +18,7 @@ pub fn shell_main<I: Source, O: Sink, L: Link + Send, D: Door<L> + Send, G: Gate
     _posts: &mut Vec<Post<D, G>>,
 ) -> Ended
     ensures ends { EndsRun (map string_bytes words.now) (I.state input.old) (I.state input.new) (O.state output.old) (O.state output.new) result.status result.log }
-    ensures hides { HidesNoFault (I.state input.old) (I.state input.new) (O.state output.old) (O.state output.new) result.status }
+    ensures tells { TellsStatus (I.state input.old) (I.state input.new) (O.state output.old) (O.state output.new) result.status }
     ensures sure { EndsSurely (map string_bytes words.now) (I.state input.old) (I.state input.new) (O.state output.old) (O.state output.new) result.status }
 {
     lone_main(alloc, words, input, output)

@@ -6,7 +6,7 @@ ghost use Rattle.git_object.specs.Content.{Content};
 ghost use Rattle.hub_core.specs.Desk.{DeskView};
 ghost use Rattle.interaction_tree.specs.Interaction.{write};
 ghost use Rattle.interaction_tree.specs.Runs.{Runs};
-ghost use Rattle.gitolite_shell.specs.End.{HidesNone, TellsLink, halt_of, outcome_of};
+ghost use Rattle.gitolite_shell.specs.End.{TellsEnd, TellsLink, halt_of, outcome_of};
 ghost use Rattle.gitolite_shell.specs.Create.{HasShortName, HaveShortNames};
 ghost use Rattle.gitolite_shell.specs.Texts.{bad_report, packet, report, status_lines, status_text, unpack_text, unpacker_error};
 ghost use Rattle.gitolite_shell.specs.Session.{refusing_pack};
@@ -83,7 +83,7 @@ pub fn refuse_pack<L: Link>(
 ) -> SessionEnd
     requires short { HaveShortNames commands.now }
     ensures runs { (desk : DeskView) → Runs (L.state link.old) (L.state link.new) desk desk (refusing_pack commands.now fault) (Err (halt_of result)) }
-    ensures hides { HidesNone (L.state link.old) (L.state link.new) result }
+    ensures tells { TellsEnd (L.state link.old) (L.state link.new) result }
     ensures reading { KeepsReading (L.state link.old) (L.state link.new) }
 {
     match report_fault(alloc, link, commands, fault) {

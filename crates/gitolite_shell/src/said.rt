@@ -6,7 +6,7 @@ ghost use Rattle.hub_core.specs.Desk.{DeskView};
 ghost use Rattle.interaction_tree.specs.Interaction.{write};
 ghost use Rattle.interaction_tree.specs.Traces.{Ended};
 ghost use Rattle.interaction_tree.specs.Runs.{Runs};
-ghost use Rattle.gitolite_shell.specs.End.{HidesNone, TellsLink, halt_of, outcome_of};
+ghost use Rattle.gitolite_shell.specs.End.{TellsEnd, TellsLink, halt_of, outcome_of};
 ghost use Rattle.gitolite_shell.specs.Texts.{packet};
 ghost use Rattle.gitolite_shell.specs.Session.{not_built, refuse};
 
@@ -45,7 +45,7 @@ pub fn refuse<L: Link>(link: &mut L, text: &[u8], end: SessionEnd) -> SessionEnd
     requires small { length text.now ≤ 65516 }
     requires of_form { halt_of end ≡ Ended end }
     ensures runs { (desk : DeskView) → Runs {A = Unit {0}} (L.state link.old) (L.state link.new) desk desk (refuse text.now end) (Err (halt_of result)) }
-    ensures hides { HidesNone (L.state link.old) (L.state link.new) result }
+    ensures tells { TellsEnd (L.state link.old) (L.state link.new) result }
     ensures reading { KeepsReading (L.state link.old) (L.state link.new) }
 {
     match say(link, text) {
@@ -57,7 +57,7 @@ pub fn refuse<L: Link>(link: &mut L, text: &[u8], end: SessionEnd) -> SessionEnd
 /// Answers what the session isn't built for.
 pub fn not_built<L: Link>(link: &mut L) -> SessionEnd
     ensures runs { (desk : DeskView) → Runs {A = Unit {0}} (L.state link.old) (L.state link.new) desk desk not_built (Err (halt_of result)) }
-    ensures hides { HidesNone (L.state link.old) (L.state link.new) result }
+    ensures tells { TellsEnd (L.state link.old) (L.state link.new) result }
     ensures reading { KeepsReading (L.state link.old) (L.state link.new) }
 {
     refuse(link, b"ERR not built", SessionEnd::NotBuilt)

@@ -2,10 +2,10 @@
 ghost use Rattle.std.specs.Prelude.{◌≡◌, IfOk, IfErr, IfSome, IfNone, IsTrue, OnOk, false};
 ghost use Rattle.std.specs.Io.KnownBytes.{Appends};
 ghost use Rattle.pktline_core.specs.Links.{IsLater};
-ghost use Rattle.interaction_tree.specs.Traces.{Ended};
+ghost use Rattle.interaction_tree.specs.Traces.{Ended, Failed, Failure};
 ghost use Rattle.gitolite_shell.specs.End.{halt_of};
 ghost use Rattle.gitolite_shell.specs.Script.{end_word, fault_text, reply_text};
-ghost use Rattle.gitolite_shell.specs.RunningScripts.{AdvancesOne, FindsEnd, RunsScript, Serves, StopsAdvancing, StopsScript, StopsWriting, TellsInput, TellsOutput};
+ghost use Rattle.gitolite_shell.specs.RunningScripts.{AdvancesOne, FindsEnd, LacksSession, RunsScript, Serves, StopsAdvancing, StopsScript, StopsWriting, TellsInput, TellsOutput};
 
 use crate::end::SessionEnd;
 use crate::frames::{FrameFault, read_frame};
@@ -44,7 +44,8 @@ const MOST_MOVED: usize = 65_536;
 
 // The word for an end that a session comes to by itself. Over a link that can't fail only want of memory is another.
 fn word(end: SessionEnd) -> Option<&'static str>
-    ensures { IfSome result (λ word. (word.now ≡ end_word end) × (halt_of end ≡ Ended end)) }
+    ensures some { IfSome result (λ word. (word.now ≡ end_word end) × (halt_of end ≡ Ended end)) }
+    ensures none { IfNone result ((failure : Failure) × (halt_of end ≡ Failed failure)) }
 {
     match end {
         SessionEnd::Served => Some("served"),
@@ -109,7 +110,8 @@ fn serve<K: Desk>(
     desk: &mut K,
 ) -> Result<Vec<u8>, NoMemory>
     requires { IsTrue (K.view desk.old).alone }
-    ensures { IfOk result (λ text. Serves (K.view desk.old) (K.view desk.new) number body.items text.items) }
+    ensures ok { IfOk result (λ text. Serves (K.view desk.old) (K.view desk.new) number body.items text.items) }
+    ensures lacks { IfErr result (λ _. LacksSession (K.view desk.old) (K.view desk.new) body.items) }
 {
     let mut link = MemoryLink::new(body, MOST_MOVED, Vec::new(alloc), Vec::new(alloc));
     let end = session(alloc, &mut link, desk, &mut OpenGate);

@@ -8,7 +8,7 @@ ghost use Rattle.interaction_tree.specs.Runs.{Runs};
 ghost use Rattle.interaction_tree.specs.Requests.{OwnEntry};
 ghost use Rattle.interaction_tree.specs.Endings.{TakesTurn};
 ghost use Rattle.interaction_tree.specs.Growth.{GrowsBy};
-ghost use Rattle.gitolite_shell.specs.End.{HasCause, HidesNone, IsSure, TellsLink, halt_of, outcome_of};
+ghost use Rattle.gitolite_shell.specs.End.{HasCause, TellsEnd, IsSure, TellsLink, halt_of, outcome_of};
 ghost use Rattle.gitolite_shell.specs.FirstPacket.{AreShort, asked};
 ghost use Rattle.gitolite_shell.specs.Texts.{denial};
 ghost use Rattle.gitolite_shell.specs.Readers.{IsReady};
@@ -63,7 +63,7 @@ fn refuse_denied<L: Link>(
 ) -> SessionEnd
     requires short { AreShort asked.now }
     ensures runs { (desk : DeskView) → Runs {A = Unit {0}} (L.state link.old) (L.state link.new) desk desk (refuse (codes "ERR " ++ denial asked.now.user asked.now.repo verdict) SessionEnd.Denied) (Err (halt_of result)) }
-    ensures hides { HidesNone (L.state link.old) (L.state link.new) result }
+    ensures tells { TellsEnd (L.state link.old) (L.state link.new) result }
 {
     match denial(alloc, &asked.user, &asked.repo, verdict) {
         Ok(text) => refuse(link, &text, SessionEnd::Denied),
@@ -139,7 +139,7 @@ pub fn session<L: Link, K: Desk, G: Gate>(
     gate: &mut G,
 ) -> SessionEnd
     ensures turn { TakesTurn (L.state link.old) (L.state link.new) (K.view desk.old) (K.view desk.new) (session ((K.view desk.old).admin)) (halt_of result) }
-    ensures hides { HidesNone (L.state link.old) (L.state link.new) result }
+    ensures tells { TellsEnd (L.state link.old) (L.state link.new) result }
     ensures grows { (own : List OwnEntry) × GrowsBy (K.view desk.old) (K.view desk.new) own }
     ensures causes { HasCause (L.state link.old) (L.state link.new) result }
     ensures sure { IsSure (L.state link.old) (L.state link.new) result }

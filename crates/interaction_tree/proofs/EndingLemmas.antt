@@ -11,6 +11,7 @@ use Rattle.interaction_tree.specs.Runs.{Runs}
 use Rattle.interaction_tree.specs.Order.{IsOrdered}
 use Rattle.interaction_tree.specs.Endings.{IsInput, TakesTurn}
 use Rattle.interaction_tree.proofs.TurnLemmas.{trace_ended, trace_reading, writing_used, memory_used, trace_short, trace_lacked}
+use Rattle.interaction_tree.proofs.WrittenLemmas.{writing_before, memory_before}
 use Rattle.interaction_tree.proofs.OrderLemmas.{trace_writing}
 
 left_of : Option (List ℕ) → List ℕ
@@ -60,6 +61,7 @@ runs_turn a b d e t (Failed Writing) ordered p =
       entries = trace_writing false b.left t (λ w x. ⊤) p.read p.written p.own ordered p.trace;
       written = p.appended;
       short = short.2;
+      before = writing_before b.left t p.read p.written p.own p.trace;
       risen = p.caused.0;
       may_fail = p.caused.1;
     }
@@ -78,6 +80,7 @@ runs_turn a b d e t (Failed Memory) ordered p =
       entries = begins.3;
       written = p.appended;
       begins = begins.2;
+      before = memory_before b.left t p.read p.written p.own p.trace;
     }
 
 pub ends_or_lacks : {E A : Type 0} (a b : LinkState) (d e : DeskView) (t : Interaction E A) (halt : Halt E) → (HasRisen a.read_faults b.read_faults → ⊥) → (HasRisen a.write_faults b.write_faults → ⊥) → TakesTurn a b d e t halt

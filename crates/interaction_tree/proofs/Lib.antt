@@ -1,6 +1,7 @@
 pub mod FrontLemmas
 pub mod TraceLemmas
 pub mod TurnLemmas
+pub mod WrittenLemmas
 pub mod OrderLemmas
 pub mod RunLemmas
 pub mod StepLemmas

@@ -49,7 +49,7 @@ pub record FailsReading {E A : Type 0} (link link' : LinkState) (desk desk' : De
   pub may_fail : IsTrue link.may_fail
 
 -- After a part of the input a write failed, and all of that part is used. The own entries are the ones due by it, and what was written falls short
--- of what is due of it or, where all of the input was read, of the whole.
+-- of what is due of it or, where all of the input was read, of the whole; what is due of each shorter part was written before more was read.
 pub record FailsWriting {E A : Type 0} (link link' : LinkState) (desk desk' : DeskView) (t : Interaction E A) : Type 0 where
   pub part : List ℕ
   pub bytes : List ℕ
@@ -63,11 +63,12 @@ pub record FailsWriting {E A : Type 0} (link link' : LinkState) (desk desk' : De
   pub entries : map asked own ≡ (due t part (map log_before own)).requests
   pub written : Appends link.written link'.written bytes
   pub short : FallsShort bytes (turn_over extent t part (map log_before own)).bytes
+  pub before : (front : List ℕ) → FallsShort front part → Begins (due t front (map log_before own)).bytes bytes
   pub risen : HasRisen link.write_faults link'.write_faults
   pub may_fail : IsTrue link.may_fail
 
 -- After a part of the input memory lacked, and all of that part is used. The own entries begin the ones due by it, and what was written begins what
--- is due of it or, where all of the input was read, of the whole.
+-- is due of it or, where all of the input was read, of the whole; what is due of each shorter part was written before more was read.
 pub record LacksMemory {E A : Type 0} (link link' : LinkState) (desk desk' : DeskView) (t : Interaction E A) : Type 0 where
   pub part : List ℕ
   pub bytes : List ℕ
@@ -81,6 +82,7 @@ pub record LacksMemory {E A : Type 0} (link link' : LinkState) (desk desk' : Des
   pub entries : Begins (map asked own) (due t part (map log_before own)).requests
   pub written : Appends link.written link'.written bytes
   pub begins : Begins bytes (turn_over extent t part (map log_before own)).bytes
+  pub before : (front : List ℕ) → FallsShort front part → Begins (due t front (map log_before own)).bytes bytes
 
 -- a session took its turn: what holds, by its end
 abbrev pub TakesTurn : {E A : Type 0} → LinkState → LinkState → DeskView → DeskView → Interaction E A → Halt E → Type 0

@@ -13,7 +13,7 @@ pub returns-in_default-size_in-clause-err : goal.returns-in_default-size_in-clau
 returns-in_default-size_in-clause-err g c =
     let line = rw c.in-Some.is at c.in_ok-line.ensures.some in
     let none : HasNoSize c.in-Some.line.items = rw c.deref.ensures.value at c.in_default-size_in.ensures.none in
-    no_size _ _ c.in-Some.line.items line.0 line.1 none
+    no_size _ _ c.in-Some.line.items line.0 line.1 line.2 none
 
 pub returns-in_err-body-clause-err : goal.returns-in_err-body-clause-err
 returns-in_err-body-clause-err g c =

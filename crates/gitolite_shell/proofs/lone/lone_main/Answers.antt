@@ -5,7 +5,8 @@ use Rattle.hub_core.specs.LoneDesk.{desk_of}
 use Rattle.hub_core.specs.Hub.{HubView}
 use Rattle.gitolite_shell.specs.Lone.{EndsWith}
 use Rattle.gitolite_shell.specs.declared.lone.Status.{Status}
-use Rattle.gitolite_shell.proofs.LoneLemmas.{ended_new}
+use Rattle.gitolite_shell.specs.declared.lone.Status.TheVariants.{NoMemory}
+use Rattle.gitolite_shell.proofs.LoneLemmas.{ended_new, undone}
 use Rattle.gitolite_shell.proofs.lone.lone_main.Goals as goal
 
 pub returns-clause-ends : goal.returns-clause-ends
@@ -24,4 +25,16 @@ returns-clause-ends g c =
       status = c.status_of-status-2.result;
       number_is = c.number-2.ensures;
       ends = subst (λ (l : List Entry). EndsWith words source source' sink sink' l c.status_of-status-2.result) (sym (c.into_log.ensures ∙ ap (λ (h : HubView). h.log) c.into_hub.ensures)) ends;
+    }
+
+pub returns-in_default-new_desk-clause-ends : goal.returns-in_default-new_desk-clause-ends
+returns-in_default-new_desk-clause-ends g c =
+    let words = map string_bytes c.args.words.now in
+    let source = g.I.Endpoint.state c.args.input.now in
+    let sink = g.O.Endpoint.state c.args.output.now in
+    let ends = undone words source sink c.in-Some.admin.now (sym c.script_admin.ensures ∙ ap option_copied c.in-Some.is) in
+    record {
+      status = NoMemory;
+      number_is = c.number-in_default-new_desk.ensures;
+      ends = subst (λ (l : List Entry). EndsWith words source source sink sink l NoMemory) (sym c.new-in_default-new_desk.ensures) ends;
     }
