@@ -129,7 +129,7 @@ EndsInside most part =
 abbrev pub WantsMore : List ℕ → Type 0
 WantsMore part = EndsInside 17 part
 
--- No byte was taken behind the one that shows that no frame stands here: this part ends inside a frame, or all of it but its last byte does.
+-- this part ends inside a frame, or all of it but its last byte does
 abbrev pub GoesNoFurther : List ℕ → Type 0
 GoesNoFurther part = EndsInside 17 part ⊎ ((front : List ℕ) × (last : ℕ) × (part ≡ front ++ last ∷ []) × EndsInside 17 front)
 

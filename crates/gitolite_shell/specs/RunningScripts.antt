@@ -124,7 +124,7 @@ abbrev pub IsReadOf : Option (List ℕ) → List ℕ → List ℕ → Type 0
 IsReadOf left part rest = (more : List ℕ) × IsRest left more × (rest ≡ part ++ more)
 
 -- A script was run to its end, or to a bad frame: the input is a script, and what was printed, and the log from one to another, are that script's.
--- Of what follows the frames a part was read; where the script is bad, a byte at least, and none behind the one that shows it.
+-- Of what follows the frames a part was read; where the script is bad, a byte at least, and none behind one at which it no longer ends inside a frame.
 pub record RunsScript (source source' sink sink' : LinkState) (admin : Name) (log log' : List Entry) (bad : Bool) : Type 0 where
   pub input : List ℕ
   pub bodies : List (List ℕ)
