@@ -43,7 +43,7 @@ impl ByteSet {
         ensures { holds result ≡ range first last }
     {
         let mut set = ByteSet::empty();
-        'bytes: for c in first as u16..last as u16 + 1 {
+        for c in first as u16..last as u16 + 1 {
             set = set.with(c as u8);
         }
         set

@@ -33,6 +33,16 @@ struct State {
     parts: u128,
 }
 
+impl State {
+    /// Whether nothing can be taken any more, whatever follows.
+    #[inline(always)]
+    fn is_dead(self) -> bool
+        ensures { IsTrue result → (self.set ≡ 0) × (self.parts ≡ 0) }
+    {
+        self.set == 0 && self.parts == 0
+    }
+}
+
 #[inline(always)]
 fn meets(holes: u128, set: u128) -> bool
     requires { holes < 2 ^ 127 }
@@ -84,11 +94,14 @@ impl Machine {
             → (IsTrue result ↔ Starts p name.now text.now) }
     {
         let mut state = self.start(name);
-        'bytes: for i in 0..text.len() {
+        for byte in text {
             if has(state.set, 127) {
                 return true;
             }
-            state = self.step(name, state, text[i] as u16);
+            if state.is_dead() {
+                return false;
+            }
+            state = self.step(name, state, *byte as u16);
         }
         if has(state.set, 127) {
             return true;
@@ -104,8 +117,11 @@ impl Machine {
             → (IsTrue result ↔ Whole p name.now text.now) }
     {
         let mut state = self.start(name);
-        'bytes: for i in 0..text.len() {
-            state = self.step(name, state, text[i] as u16);
+        for byte in text {
+            if state.is_dead() {
+                return false;
+            }
+            state = self.step(name, state, *byte as u16);
         }
         if has(state.set, 127) {
             return true;
@@ -133,7 +149,7 @@ fn after_hole(follow: &[u128], holes: u128) -> u128
     ensures { (h : ℕ) → h < 127 → Has holes h → slice_index follow.now h ≡ result }
 {
     let mut after = 0;
-    'positions: for h in 0..127u8 {
+    for h in 0..127u8 {
         if has(holes, h) {
             after = follow[h as usize];
         }

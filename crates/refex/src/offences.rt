@@ -120,7 +120,7 @@ fn closes(tokens: &[Token], from: usize) -> usize
 {
     let mut count = 0;
     let mut i = tokens.len();
-    'tokens: while i > from {
+    while i > from {
         i -= 1;
         count = closes_before(tokens[i].item, count);
     }
@@ -136,7 +136,7 @@ pub fn first_fault(tokens: &[Token]) -> Option<Offence>
         depth: 0,
         outermost: 0,
     };
-    'tokens: for i in 0..tokens.len() {
+    for i in 0..tokens.len() {
         let token = tokens[i];
         match before.fault_at(token) {
             None => before = before.and(token),

@@ -186,7 +186,7 @@ fn class_items(at: u64, bytes: &[u8]) -> Result<ByteSet, Offence>
 {
     let mut set = ByteSet::empty();
     let mut i = 0;
-    'items: while i < bytes.len() {
+    while i < bytes.len() {
         match class_item(at + i as u64, i == 0, behind(bytes, i)) {
             Err(fault) => return Err(fault),
             Ok((more, taken)) => {
@@ -216,7 +216,7 @@ fn class_length(bytes: &[u8]) -> Option<usize>
     ensures bound { IfSome result (λ n. n < length bytes.now) }
 {
     let mut behind = false;
-    'bytes: for i in 0..bytes.len() {
+    for i in 0..bytes.len() {
         if closes(bytes[i], i == 0, behind) {
             return Some(i);
         }
@@ -439,7 +439,7 @@ pub fn items(alloc: Global, text: &[u8], hole: Hole) -> Result<Vec<Token>, Alloc
     let mut tokens = Vec::new(alloc);
     let mut hole = hole;
     let mut i = if begins_with(text, b'^') { 1 } else { 0 };
-    'items: while i < text.len() {
+    while i < text.len() {
         let rest = behind(text, i);
         if is_at(hole, rest) {
             push_hole(&mut tokens, hole, i as u64)?;

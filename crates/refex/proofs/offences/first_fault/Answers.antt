@@ -5,33 +5,33 @@ use Rattle.refex.specs.declared.items.Last.TheVariants as last
 use Rattle.refex.proofs.FirstFault.{begun, stop_outer, stop_at, on_at, end_outer, end_none, depth_bound}
 use Rattle.refex.proofs.offences.first_fault.Goals as goal
 
-pub tokens-init : goal.tokens-init
-tokens-init c = record { few = omega arith; rest = begun (map placed_of c.args.tokens.now) last.Nothing 0 }
+pub loop-i-init : goal.loop-i-init
+loop-i-init c = record { few = omega arith; rest = begun (map placed_of c.args.tokens.now) last.Nothing 0 }
 
 pub returns-then-closes-before : goal.returns-then-closes-before
 returns-then-closes-before c =
-    stop_outer (first_fault last.Nothing 0 (map placed_of c.args.tokens.now)) c.tokens.before.last c.tokens.before.depth c.tokens.before.outermost
-    (drop c.tokens.i (map placed_of c.args.tokens.now)) (rw c.closes.ensures at c.if-closes-before.true) c.tokens.invariant.rest
+    stop_outer (first_fault last.Nothing 0 (map placed_of c.args.tokens.now)) c.loop-i.before.last c.loop-i.before.depth c.loop-i.before.outermost
+    (drop c.loop-i.i (map placed_of c.args.tokens.now)) (rw c.closes.ensures at c.if-closes-before.true) c.loop-i.invariant.rest
 
 pub returns-in-Some : goal.returns-in-Some
 returns-in-Some c =
-    stop_at c.args.tokens.now c.tokens.i _ (first_fault last.Nothing 0 (map placed_of c.args.tokens.now)) c.tokens.before.last c.tokens.before.depth c.tokens.before.outermost
-    c.in-Some.fault c.tokens-test.true (sym c.in-Some.ensures) (rw c.closes.ensures at c.if-closes-before.false) c.tokens.invariant.rest
+    stop_at c.args.tokens.now c.loop-i.i _ (first_fault last.Nothing 0 (map placed_of c.args.tokens.now)) c.loop-i.before.last c.loop-i.before.depth c.loop-i.before.outermost
+    c.in-Some.fault c.loop-i-test.true (sym c.in-Some.ensures) (rw c.closes.ensures at c.if-closes-before.false) c.loop-i.invariant.rest
 
-pub tokens-preserved : goal.tokens-preserved
-tokens-preserved c = record {
-  few = let b = depth_bound c.tokens.before.depth c.and-before.result.depth _ c.and-before.ensures.depth in omega arith;
-  rest = on_at c.args.tokens.now c.tokens.i _ (first_fault last.Nothing 0 (map placed_of c.args.tokens.now)) c.tokens.before.last c.and-before.result.last
-      c.tokens.before.depth c.and-before.result.depth c.tokens.before.outermost c.and-before.result.outermost c.tokens-test.true (sym c.in-None.ensures)
-      c.and-before.ensures.last c.and-before.ensures.depth c.and-before.ensures.outermost c.tokens.invariant.rest;
+pub loop-i-preserved : goal.loop-i-preserved
+loop-i-preserved c = record {
+  few = let b = depth_bound c.loop-i.before.depth c.and-before.result.depth _ c.and-before.ensures.depth in omega arith;
+  rest = on_at c.args.tokens.now c.loop-i.i _ (first_fault last.Nothing 0 (map placed_of c.args.tokens.now)) c.loop-i.before.last c.and-before.result.last
+      c.loop-i.before.depth c.and-before.result.depth c.loop-i.before.outermost c.and-before.result.outermost c.loop-i-test.true (sym c.in-None.ensures)
+      c.and-before.ensures.last c.and-before.ensures.depth c.and-before.ensures.outermost c.loop-i.invariant.rest;
 }
 
 pub returns-then-before-gt0 : goal.returns-then-before-gt0
 returns-then-before-gt0 c =
-    end_outer c.args.tokens.now c.tokens.i (first_fault last.Nothing 0 (map placed_of c.args.tokens.now)) c.tokens.before.last c.tokens.before.depth c.tokens.before.outermost
-    (omega arith) c.if-before-gt0.true c.tokens.invariant.rest
+    end_outer c.args.tokens.now c.loop-i.i (first_fault last.Nothing 0 (map placed_of c.args.tokens.now)) c.loop-i.before.last c.loop-i.before.depth c.loop-i.before.outermost
+    (omega arith) c.if-before-gt0.true c.loop-i.invariant.rest
 
 pub returns : goal.returns
 returns c =
-    end_none c.args.tokens.now c.tokens.i (first_fault last.Nothing 0 (map placed_of c.args.tokens.now)) c.tokens.before.last c.tokens.before.depth c.tokens.before.outermost
-    (omega arith) (omega arith) c.tokens.invariant.rest
+    end_none c.args.tokens.now c.loop-i.i (first_fault last.Nothing 0 (map placed_of c.args.tokens.now)) c.loop-i.before.last c.loop-i.before.depth c.loop-i.before.outermost
+    (omega arith) (omega arith) c.loop-i.invariant.rest

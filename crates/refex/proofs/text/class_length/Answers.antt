@@ -5,12 +5,12 @@ use Rattle.refex.proofs.text.class_length.Goals as goal
 
 pub returns-then-closes-clause-value : goal.returns-then-closes-clause-value
 returns-then-closes-clause-value c =
-    length_found (class_length true false c.args.bytes.now) c.bytes.i c.bytes.behind c.args.bytes.now c.bytes.invariant c.bytes-test.true (sym c.closes.ensures ∙ c.if-closes.true)
+    length_found (class_length true false c.args.bytes.now) c.loop-i.i c.loop-i.behind c.args.bytes.now c.loop-i.invariant c.loop-i-test.true (sym c.closes.ensures ∙ c.if-closes.true)
 
-pub bytes-preserved : goal.bytes-preserved
-bytes-preserved c =
-    length_on (class_length true false c.args.bytes.now) c.bytes.i c.bytes.behind c.escapes-behind.result c.args.bytes.now c.bytes.invariant c.bytes-test.true
+pub loop-i-preserved : goal.loop-i-preserved
+loop-i-preserved c =
+    length_on (class_length true false c.args.bytes.now) c.loop-i.i c.loop-i.behind c.escapes-behind.result c.args.bytes.now c.loop-i.invariant c.loop-i-test.true
     (sym c.closes.ensures ∙ c.if-closes.false) c.escapes-behind.ensures
 
 pub returns-clause-value : goal.returns-clause-value
-returns-clause-value c = length_never (class_length true false c.args.bytes.now) c.bytes.i c.bytes.behind c.args.bytes.now c.bytes.invariant (omega arith)
+returns-clause-value c = length_never (class_length true false c.args.bytes.now) c.loop-i.i c.loop-i.behind c.args.bytes.now c.loop-i.invariant (omega arith)

@@ -2,8 +2,8 @@ use Rattle.std.proofs.Common.{take}
 use Rattle.refex.specs.Machine.{IsAfter, NoneBefore, letters, follows}
 use Rattle.refex.proofs.machine.Machine.starts.Given as goal
 
-abbrev pub invariant-bytes : goal.invariant-bytes
-invariant-bytes l = record {
-  tracks : IsAfter (letters l.self.masks.items l.self.holes) (follows l.self.follow.items) l.name l.self.holes l.self.after l.self.first (take l.i l.text) l.state.set l.state.parts;
-  none : NoneBefore (letters l.self.masks.items l.self.holes) (follows l.self.follow.items) l.name l.self.first l.text l.i;
+abbrev pub invariant-loop-byte : goal.invariant-loop-byte
+invariant-loop-byte l = record {
+  tracks : IsAfter (letters l.self.masks.items l.self.holes) (follows l.self.follow.items) l.name l.self.holes l.self.after l.self.first (take l.byte-index l.text) l.state.set l.state.parts;
+  none : NoneBefore (letters l.self.masks.items l.self.holes) (follows l.self.follow.items) l.name l.self.first l.text l.byte-index;
 }
