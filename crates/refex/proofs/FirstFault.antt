@@ -74,41 +74,41 @@ begun xs before outermost = let t : nat_lt (closes xs) 0 ≡ false = grind (arit
 
 -- ---- over the items that are kept
 
-rest_at : (tokens : List Token) (i : ℕ) (d : Token) → i < length tokens → drop i (map placed_of tokens) ≡ placed_of (get_or tokens i d) ∷ drop (i + 1) (map placed_of tokens)
-rest_at tokens i d within =
-    drop-map placed_of i tokens ∙ ap (map placed_of) (drop-cons tokens i d within)
-    ∙ ap (λ xs. placed_of (get_or tokens i d) ∷ xs) (sym (drop-map placed_of (suc i) tokens) ∙ ap (λ n. drop n (map placed_of tokens)) (sym (add-one i)))
+rest_at : (tokens : List Token) (i : ℕ) (t : Token) → t ≡ get_or tokens i t → i < length tokens → drop i (map placed_of tokens) ≡ placed_of t ∷ drop (i + 1) (map placed_of tokens)
+rest_at tokens i t is within =
+    drop-map placed_of i tokens ∙ ap (map placed_of) (drop-cons tokens i t within ∙ ap (λ x. x ∷ drop (suc i) tokens) (sym is))
+    ∙ ap (λ xs. placed_of t ∷ xs) (sym (drop-map placed_of (suc i) tokens) ∙ ap (λ n. drop n (map placed_of tokens)) (sym (add-one i)))
 
 over_at : (tokens : List Token) (i : ℕ) → length tokens ≤ i → drop i (map placed_of tokens) ≡ []
 over_at tokens i over = drop_of_length-le (map placed_of tokens) (rw length-map over)
 
-pub closes_more : (tokens : List Token) (i : ℕ) (d : Token) (count count' : ℕ) → 1 ≤ i → i ≤ length tokens
-    → count' ≡ closes_before (item_of (get_or tokens (i - 1) d).item) count → count ≡ closes (drop i (map placed_of tokens))
+pub closes_more : (tokens : List Token) (i : ℕ) (t : Token) (count count' : ℕ) → t ≡ get_or tokens (i - 1) t → 1 ≤ i → i ≤ length tokens
+    → count' ≡ closes_before (item_of t.item) count → count ≡ closes (drop i (map placed_of tokens))
     → count' ≡ closes (drop (i - 1) (map placed_of tokens))
-closes_more tokens i d count count' some within is rest =
+closes_more tokens i t count count' at some within is rest =
     let next : i ≡ i - 1 + 1 = omega arith in
-    is ∙ ap (closes_before (item_of (get_or tokens (i - 1) d).item)) (rest ∙ ap (λ n. closes (drop n (map placed_of tokens))) next)
-    ∙ sym (ap closes (rest_at tokens (i - 1) d (omega arith)))
+    is ∙ ap (closes_before (item_of t.item)) (rest ∙ ap (λ n. closes (drop n (map placed_of tokens))) next)
+    ∙ sym (ap closes (rest_at tokens (i - 1) t at (omega arith)))
 
 pub closes_none : (tokens : List Token) → 0 ≡ closes (drop (length tokens) (map placed_of tokens))
 closes_none tokens = sym (ap closes (over_at tokens (length tokens) (omega arith)))
 
-pub stop_at : (tokens : List Token) (i : ℕ) (d : Token) (whole : Option Offence) (before : Last) (depth outermost : ℕ) (f : Offence) → i < length tokens
-    → fault_at before depth (placed_of (get_or tokens i d)) 1 ≡ Some f → depth ≤ closes (drop i (map placed_of tokens))
+pub stop_at : (tokens : List Token) (i : ℕ) (t : Token) (whole : Option Offence) (before : Last) (depth outermost : ℕ) (f : Offence) → t ≡ get_or tokens i t → i < length tokens
+    → fault_at before depth (placed_of t) 1 ≡ Some f → depth ≤ closes (drop i (map placed_of tokens))
     → whole ≡ pending depth outermost before (drop i (map placed_of tokens)) → Some f ≡ whole
-stop_at tokens i d whole before depth outermost f within is closed e =
-    let r = rest_at tokens i d within in
-    stop_here whole before depth outermost (placed_of (get_or tokens i d)) (drop (i + 1) (map placed_of tokens)) f is (rw r at closed) (e ∙ ap (pending depth outermost before) r)
+stop_at tokens i t whole before depth outermost f at within is closed e =
+    let r = rest_at tokens i t at within in
+    stop_here whole before depth outermost (placed_of t) (drop (i + 1) (map placed_of tokens)) f is (rw r at closed) (e ∙ ap (pending depth outermost before) r)
 
-pub on_at : (tokens : List Token) (i : ℕ) (d : Token) (whole : Option Offence) (before before' : Last) (depth depth' outermost outermost' : ℕ) → i < length tokens
-    → fault_at before depth (placed_of (get_or tokens i d)) 1 ≡ None
-    → before' ≡ last_after (item_of (get_or tokens i d).item) → depth' ≡ depth_after depth (item_of (get_or tokens i d).item)
-    → outermost' ≡ outermost_after depth outermost (placed_of (get_or tokens i d))
+pub on_at : (tokens : List Token) (i : ℕ) (t : Token) (whole : Option Offence) (before before' : Last) (depth depth' outermost outermost' : ℕ) → t ≡ get_or tokens i t → i < length tokens
+    → fault_at before depth (placed_of t) 1 ≡ None
+    → before' ≡ last_after (item_of t.item) → depth' ≡ depth_after depth (item_of t.item)
+    → outermost' ≡ outermost_after depth outermost (placed_of t)
     → whole ≡ pending depth outermost before (drop i (map placed_of tokens)) → whole ≡ pending depth' outermost' before' (drop (i + 1) (map placed_of tokens))
-on_at tokens i d whole before before' depth depth' outermost outermost' within none e1 e2 e3 e =
-    let x = placed_of (get_or tokens i d) in
+on_at tokens i t whole before before' depth depth' outermost outermost' at within none e1 e2 e3 e =
+    let x = placed_of t in
     let xs = drop (i + 1) (map placed_of tokens) in
-    step_on whole before depth outermost x xs none (e ∙ ap (pending depth outermost before) (rest_at tokens i d within))
+    step_on whole before depth outermost x xs none (e ∙ ap (pending depth outermost before) (rest_at tokens i t at within))
     ∙ ap (λ n. pending n (outermost_after depth outermost x) (last_after x.item) xs) (sym e2)
     ∙ ap (λ n. pending depth' n (last_after x.item) xs) (sym e3)
     ∙ ap (λ l. pending depth' outermost' l xs) (sym e1)
@@ -156,9 +156,9 @@ NoneFrom tokens i depth before = (outermost : ℕ) × (None ≡ pending depth ou
 pub none_begun : (tokens : List Token) → first_fault last.Nothing 0 (map placed_of tokens) ≡ None → NoneFrom tokens 0 0 last.Nothing
 none_begun tokens e = (0, sym e ∙ begun (map placed_of tokens) last.Nothing 0)
 
-none_at : (tokens : List Token) (i : ℕ) (d : Token) (before : Last) (depth : ℕ) → i < length tokens → NoneFrom tokens i depth before
-    → fault_at before depth (placed_of (get_or tokens i d)) 1 ≡ None
-none_at tokens i d before depth within (outermost, e) = one (fault_at before depth (placed_of (get_or tokens i d)) 1) refl
+none_at : (tokens : List Token) (i : ℕ) (t : Token) (before : Last) (depth : ℕ) → t ≡ get_or tokens i t → i < length tokens → NoneFrom tokens i depth before
+    → fault_at before depth (placed_of t) 1 ≡ None
+none_at tokens i t before depth at within (outermost, e) = one (fault_at before depth (placed_of t) 1) refl
   where
     rest : List Placed
     rest = drop i (map placed_of tokens)
@@ -169,22 +169,22 @@ none_at tokens i d before depth within (outermost, e) = one (fault_at before dep
       | inr h ↦ h
     ]
 
-    one : (o : Option Offence) → fault_at before depth (placed_of (get_or tokens i d)) 1 ≡ o → o ≡ None
+    one : (o : Option Offence) → fault_at before depth (placed_of t) 1 ≡ o → o ≡ None
     one None f = refl
-    one (Some x) f = absurd (let g : Some x ≡ None = stop_at tokens i d None before depth outermost x within f closed e in cc)
+    one (Some x) f = absurd (let g : Some x ≡ None = stop_at tokens i t None before depth outermost x at within f closed e in cc)
 
-pub stands_at : (tokens : List Token) (i : ℕ) (d : Token) (before : Last) (depth : ℕ) → i < length tokens → NoneFrom tokens i depth before
-    → MayStand depth before (item_of (get_or tokens i d).item)
-stands_at tokens i d before depth within h =
-    may_stand before depth (get_or tokens i d).at (item_of (get_or tokens i d).item) (none_at tokens i d before depth within h)
+pub stands_at : (tokens : List Token) (i : ℕ) (t : Token) (before : Last) (depth : ℕ) → t ≡ get_or tokens i t → i < length tokens → NoneFrom tokens i depth before
+    → MayStand depth before (item_of t.item)
+stands_at tokens i t before depth at within h =
+    may_stand before depth t.at (item_of t.item) (none_at tokens i t before depth at within h)
 
-pub none_on : (tokens : List Token) (i : ℕ) (d : Token) (before before' : Last) (depth depth' : ℕ) → i < length tokens
-    → before' ≡ last_after (item_of (get_or tokens i d).item) → depth' ≡ depth_after depth (item_of (get_or tokens i d).item)
+pub none_on : (tokens : List Token) (i : ℕ) (t : Token) (before before' : Last) (depth depth' : ℕ) → t ≡ get_or tokens i t → i < length tokens
+    → before' ≡ last_after (item_of t.item) → depth' ≡ depth_after depth (item_of t.item)
     → NoneFrom tokens i depth before → NoneFrom tokens (i + 1) depth' before'
-none_on tokens i d before before' depth depth' within e f (outermost, h) = (
-  outermost_after depth outermost (placed_of (get_or tokens i d)),
-  on_at tokens i d None before before' depth depth' outermost (outermost_after depth outermost (placed_of (get_or tokens i d))) within
-      (none_at tokens i d before depth within (outermost, h)) e f refl h,
+none_on tokens i t before before' depth depth' at within e f (outermost, h) = (
+  outermost_after depth outermost (placed_of t),
+  on_at tokens i t None before before' depth depth' outermost (outermost_after depth outermost (placed_of t)) at within
+      (none_at tokens i t before depth at within (outermost, h)) e f refl h,
 )
 
 pub none_open : (tokens : List Token) (i : ℕ) (before : Last) (depth : ℕ) → length tokens ≤ i → NoneFrom tokens i depth before → depth ≡ 0

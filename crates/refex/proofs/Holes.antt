@@ -3,7 +3,7 @@ use Rattle.std.proofs.Common.{◌≡◌, List, [], ◌∷◌, Bool, true, false,
 use Rattle.std.specs.List.{list_any}
 use Rattle.refex.specs.Pattern.{Pattern, Nothing, Then, Either, Repeat}
 use Rattle.refex.specs.Items.{atom_pattern}
-use Rattle.refex.specs.Steps.{Runs, is_name_step}
+use Rattle.refex.specs.Program.{Runs, is_name_step}
 use Rattle.refex.specs.Refex.{has_name}
 use Rattle.refex.specs.declared.items.Atom as kept_atom
 use Rattle.refex.specs.declared.items.Atom.TheVariants as atoms
@@ -52,8 +52,8 @@ named_by (step.Join ∷ steps) old new (p, q, rest, e, x) =
 named_by (step.Choose ∷ steps) old new (p, q, rest, e, x) =
     named_by steps (Either p q ∷ rest) new x ∙ swapped (list_any is_name_step steps) (has_name p) (has_name q) (any_name rest)
     ∙ ap (λ s. list_any is_name_step steps || any_name s) (sym e)
-named_by (step.Repeat least most ∷ steps) old new (p, rest, e, x) =
-    named_by steps (Repeat p least most ∷ rest) new x ∙ ap (λ s. list_any is_name_step steps || any_name s) (sym e)
+named_by (step.Repeat bounds ∷ steps) old new (p, rest, e, x) =
+    named_by steps (Repeat p bounds.least bounds.most ∷ rest) new x ∙ ap (λ s. list_any is_name_step steps || any_name s) (sym e)
 
 pub pattern_named : (steps : List Step) (p : Pattern) → Runs steps [] (p ∷ []) → list_any is_name_step steps ≡ has_name p
 pattern_named steps p r = sym (sym (or_false (has_name p)) ∙ named_by steps [] (p ∷ []) r ∙ or_false (list_any is_name_step steps))

@@ -2,7 +2,7 @@
 use Rattle.std.proofs.Common.{◌≡◌, ℕ, zero, suc, ◌+◌, ◌-◌, ◌≤◌, ◌==◌, cond, List, [], ◌∷◌, ◌++◌, Bool, true, false, None, Some, Option, length, refl, sym, ◌∙◌, ap, subst, arith, append_assoc, append-nil}
 use Rattle.std.proofs.lemmas.Bool.{ne_eqb}
 use Rattle.std.proofs.lemmas.List.{nil_from_length, length-append}
-use Rattle.refex.specs.Pattern.{Pattern, Nothing}
+use Rattle.refex.specs.Pattern.{Pattern, Nothing, Repeat}
 use Rattle.refex.specs.Text.{Item, Atom, Open, Close, Bar, Repetition, Bad, Placed}
 use Rattle.refex.specs.Grammar.{Reads, alternation, empty}
 use Rattle.refex.specs.Parsing.{IsOpen, outermost}
@@ -61,7 +61,7 @@ on_count : (all : List Placed) → GoesOn all → (at least : ℕ) (most : Optio
     → length groups ≤ closes all → (p : Pattern) × Reads alternation (xs ++ Repetition least most suffix ∷ forms all) p
 on_count all go at least most suffix groups b last.Atom xs stack o e d =
     let r = open_count groups b xs stack least most suffix o in
-    moved xs (Repetition least most suffix) (forms all) (go groups b last.Counted (xs ++ Repetition least most suffix ∷ []) r.0 r.2 e d)
+    moved xs (Repetition least most suffix) (forms all) (go groups b last.Counted (xs ++ Repetition least most suffix ∷ []) (Repeat r.0 least most ∷ r.1) r.3 e d)
 on_count all go at least most suffix groups b last.Nothing xs stack o e d = absurd (no_fault (offences.Syntax at) (first_fault last.Counted (length groups) all) e)
 on_count all go at least most true groups b last.Counted xs stack o e d = absurd (no_fault (offences.Unsupported at) (first_fault last.Counted (length groups) all) e)
 on_count all go at least most false groups b last.Counted xs stack o e d = absurd (no_fault (offences.Syntax at) (first_fault last.Counted (length groups) all) e)

@@ -21,7 +21,7 @@ item_of (kept.Atom a) = Atom (atom_pattern a)
 item_of (kept.Open plain) = Open plain
 item_of kept.Close = Close
 item_of kept.Bar = Bar
-item_of (kept.Repetition least most suffix) = Repetition least most suffix
+item_of (kept.Repetition bounds suffix) = Repetition bounds.least bounds.most suffix
 item_of (kept.Bad fault) = Bad fault
 
 abbrev pub placed_of : Token → Placed

@@ -49,7 +49,7 @@ impl Before {
                     None
                 }
             }
-            Item::Repetition(_, _, suffix) => repetition_fault(self.last, suffix, token.at),
+            Item::Repetition(_, suffix) => repetition_fault(self.last, suffix, token.at),
             Item::Atom(_) => None,
             Item::Bar => None,
         }
@@ -82,7 +82,7 @@ impl Before {
                 depth: self.depth,
                 outermost: self.outermost,
             },
-            Item::Repetition(_, _, _) => Before {
+            Item::Repetition(_, _) => Before {
                 last: Last::Counted,
                 depth: self.depth,
                 outermost: self.outermost,

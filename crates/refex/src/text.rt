@@ -8,7 +8,7 @@ ghost use Rattle.refex.specs.Text.{kind, escaped, member, span, bytes_of, is_das
 
 use crate::bytes::ByteSet;
 use crate::faults::{Hole, Offence};
-use crate::items::{Atom, Item, Token};
+use crate::items::{Atom, Bounds, Item, Token};
 use std::alloc::{AllocError, Global};
 
 /// A byte of a class, or a kind of bytes.
@@ -283,27 +283,30 @@ fn number(bytes: &[u8]) -> Option<(u8, usize)>
     Some((n as u8, 3))
 }
 
-/// The count behind a `{`: at least, at most, and how many bytes it takes.
+/// The count behind a `{`, and how many bytes it takes.
 #[tactic(auto, unfolding(crate::specs::Text::count))]
-fn count(bytes: &[u8]) -> Option<(u8, Option<u8>, usize)>
-    ensures value { result ≡ count bytes.now }
-    ensures taken { IfSome result (λ x. x.2 ≤ length bytes.now) }
+fn count(bytes: &[u8]) -> Option<(Bounds, usize)>
+    ensures value { option_map (λ x. (x.0.least, x.0.most, x.1)) result ≡ count bytes.now }
+    ensures taken { IfSome result (λ x. x.1 ≤ length bytes.now) }
 {
     let (least, digits) = number(bytes)?;
     let rest = behind(bytes, digits);
     if begins_with(rest, b'}') {
-        return Some((least, Some(least), digits + 1));
+        let most = Some(least);
+        return Some((Bounds { least, most }, digits + 1));
     }
     if !begins_with(rest, b',') {
         return None;
     }
     let rest = behind(bytes, digits + 1);
     if begins_with(rest, b'}') {
-        return Some((least, None, digits + 2));
+        let most = None;
+        return Some((Bounds { least, most }, digits + 2));
     }
     let (most, more) = number(rest)?;
     if least <= most && begins_with(behind(bytes, digits + 1 + more), b'}') {
-        return Some((least, Some(most), digits + 1 + more + 1));
+        let most = Some(most);
+        return Some((Bounds { least, most }, digits + 1 + more + 1));
     }
     None
 }
@@ -330,7 +333,7 @@ fn count_item(at: u64, rest: &[u8]) -> (Item, usize)
     ensures taken { (1 ≤ result.1) × (result.1 ≤ 1 + length rest.now) }
 {
     match count(rest) {
-        Some((least, most, taken)) => (Item::Repetition(least, most, false), taken + 1),
+        Some((bounds, taken)) => (Item::Repetition(bounds, false), taken + 1),
         None => (Item::Bad(Offence::Syntax(at)), 1),
     }
 }
@@ -348,6 +351,33 @@ fn open_item(rest: &[u8]) -> (Item, usize)
         return (Item::Open(true), 3);
     }
     (Item::Open(false), 2)
+}
+
+fn any_number() -> Bounds
+    ensures { (result.least ≡ 0) × (result.most ≡ None) }
+{
+    Bounds {
+        least: 0,
+        most: None,
+    }
+}
+
+fn one_or_more() -> Bounds
+    ensures { (result.least ≡ 1) × (result.most ≡ None) }
+{
+    Bounds {
+        least: 1,
+        most: None,
+    }
+}
+
+fn one_at_most() -> Bounds
+    ensures { (result.least ≡ 0) × (result.most ≡ Some 1) }
+{
+    Bounds {
+        least: 0,
+        most: Some(1),
+    }
 }
 
 /// The item at the front, and how many bytes it takes.
@@ -372,9 +402,9 @@ fn item(at: u64, bytes: &[u8]) -> (Item, usize)
         b'(' => open_item(rest),
         b')' => (Item::Close, 1),
         b'|' => (Item::Bar, 1),
-        b'*' => (Item::Repetition(0, None, false), 1),
-        b'+' => (Item::Repetition(1, None, true), 1),
-        b'?' => (Item::Repetition(0, Some(1), true), 1),
+        b'*' => (Item::Repetition(any_number(), false), 1),
+        b'+' => (Item::Repetition(one_or_more(), true), 1),
+        b'?' => (Item::Repetition(one_at_most(), true), 1),
         b'{' => count_item(at, rest),
         b'^' => (Item::Bad(Offence::Unsupported(at)), 1),
         b => (Item::Atom(Atom::Bytes(ByteSet::range(b, b))), 1),

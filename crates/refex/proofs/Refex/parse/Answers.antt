@@ -3,7 +3,7 @@ use Rattle.refex.specs.Pattern.{Pattern}
 use Rattle.refex.specs.Items.{placed_of, kept_item_of}
 use Rattle.refex.specs.Faults.{first_fault}
 use Rattle.refex.specs.Grammar.{Reads, alternation}
-use Rattle.refex.specs.Steps.{Runs, pattern_of, is_name_step}
+use Rattle.refex.specs.Program.{Runs, pattern_of, is_name_step}
 use Rattle.std.specs.List.{list_any}
 use Rattle.refex.specs.Text.{items}
 use Rattle.refex.specs.Refex.{Spells, IsRefex, forms, has_name}

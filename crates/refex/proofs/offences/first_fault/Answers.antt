@@ -15,14 +15,14 @@ returns-then-closes-before c =
 
 pub returns-in-Some : goal.returns-in-Some
 returns-in-Some c =
-    stop_at c.args.tokens.now c.loop-i.i _ (first_fault last.Nothing 0 (map placed_of c.args.tokens.now)) c.loop-i.before.last c.loop-i.before.depth c.loop-i.before.outermost
-    c.in-Some.fault c.loop-i-test.true (sym c.in-Some.ensures) (rw c.closes.ensures at c.if-closes-before.false) c.loop-i.invariant.rest
+    stop_at c.args.tokens.now c.loop-i.i c.index-tokens-i.result (first_fault last.Nothing 0 (map placed_of c.args.tokens.now)) c.loop-i.before.last c.loop-i.before.depth c.loop-i.before.outermost
+    c.in-Some.fault c.index-tokens-i.is c.loop-i-test.true (sym c.in-Some.ensures) (rw c.closes.ensures at c.if-closes-before.false) c.loop-i.invariant.rest
 
 pub loop-i-preserved : goal.loop-i-preserved
 loop-i-preserved c = record {
   few = let b = depth_bound c.loop-i.before.depth c.and-before.result.depth _ c.and-before.ensures.depth in omega arith;
-  rest = on_at c.args.tokens.now c.loop-i.i _ (first_fault last.Nothing 0 (map placed_of c.args.tokens.now)) c.loop-i.before.last c.and-before.result.last
-      c.loop-i.before.depth c.and-before.result.depth c.loop-i.before.outermost c.and-before.result.outermost c.loop-i-test.true (sym c.in-None.ensures)
+  rest = on_at c.args.tokens.now c.loop-i.i c.index-tokens-i.result (first_fault last.Nothing 0 (map placed_of c.args.tokens.now)) c.loop-i.before.last c.and-before.result.last
+      c.loop-i.before.depth c.and-before.result.depth c.loop-i.before.outermost c.and-before.result.outermost c.index-tokens-i.is c.loop-i-test.true (sym c.in-None.ensures)
       c.and-before.ensures.last c.and-before.ensures.depth c.and-before.ensures.outermost c.loop-i.invariant.rest;
 }
 

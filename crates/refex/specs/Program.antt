@@ -13,7 +13,7 @@ Runs (step.Start ∷ steps) old new = Runs steps (Nothing ∷ old) new
 Runs (step.Atom a ∷ steps) old new = Runs steps (atom_pattern a ∷ old) new
 Runs (step.Join ∷ steps) old new = (p q : Pattern) × (rest : List Pattern) × (old ≡ q ∷ p ∷ rest) × Runs steps (Then p q ∷ rest) new
 Runs (step.Choose ∷ steps) old new = (p q : Pattern) × (rest : List Pattern) × (old ≡ q ∷ p ∷ rest) × Runs steps (Either p q ∷ rest) new
-Runs (step.Repeat least most ∷ steps) old new = (p : Pattern) × (rest : List Pattern) × (old ≡ p ∷ rest) × Runs steps (Repeat p least most ∷ rest) new
+Runs (step.Repeat bounds ∷ steps) old new = (p : Pattern) × (rest : List Pattern) × (old ≡ p ∷ rest) × Runs steps (Repeat p bounds.least bounds.most ∷ rest) new
 
 -- the stack that they leave, where each step finds what it needs
 abbrev pub stack_after : List Step → List Pattern → List Pattern
@@ -22,7 +22,7 @@ stack_after (step.Start ∷ steps) old = stack_after steps (Nothing ∷ old)
 stack_after (step.Atom a ∷ steps) old = stack_after steps (atom_pattern a ∷ old)
 stack_after (step.Join ∷ steps) (q ∷ p ∷ old) = stack_after steps (Then p q ∷ old)
 stack_after (step.Choose ∷ steps) (q ∷ p ∷ old) = stack_after steps (Either p q ∷ old)
-stack_after (step.Repeat least most ∷ steps) (p ∷ old) = stack_after steps (Repeat p least most ∷ old)
+stack_after (step.Repeat bounds ∷ steps) (p ∷ old) = stack_after steps (Repeat p bounds.least bounds.most ∷ old)
 stack_after (_ ∷ steps) old = stack_after steps old
 
 abbrev pub top : List Pattern → Pattern
