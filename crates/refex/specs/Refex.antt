@@ -28,9 +28,9 @@ pub record IsRefex (hole : Hole) (text : List ℕ) (p : Pattern) : Type 0 where
   pub spells : Spells hole text p
   pub fits : positions p ≤ 127
 
--- why the text is refused; want of memory has no cause in it
+-- why the text is refused; no text is the cause that memory runs out
 abbrev pub IsRefused : Hole → List ℕ → RefexFault → Type 0
-IsRefused hole text NoMemory = Unit {0}
+IsRefused hole text NoMemory = ⊥
 IsRefused hole text (TooManyPositions n) = (p : Pattern) × Spells hole text p × (127 < positions p) × (n ≡ min 65535 (positions p))
 IsRefused hole text (Syntax at) = offence hole text ≡ Some (offences.Syntax at)
 IsRefused hole text (Unsupported at) = offence hole text ≡ Some (offences.Unsupported at)

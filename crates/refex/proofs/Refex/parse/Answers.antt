@@ -6,7 +6,9 @@ use Rattle.refex.specs.Grammar.{Reads, alternation}
 use Rattle.refex.specs.Program.{Runs, pattern_of, is_name_step}
 use Rattle.std.specs.List.{list_any}
 use Rattle.refex.specs.Text.{items}
-use Rattle.refex.specs.Refex.{Spells, IsRefex, forms, has_name}
+use Rattle.refex.specs.Refex.{Spells, IsRefex, IsRefused, forms, has_name}
+use Rattle.refex.specs.declared.faults.RefexFault.TheVariants.{TooManyPositions}
+use Rattle.refex.proofs.Answers.{refused_ok, refused_err, refex_err}
 use Rattle.refex.specs.Means.{Means}
 use Rattle.refex.specs.declared.items.Token.{Token}
 use Rattle.refex.specs.declared.items.Last.TheVariants as last
@@ -26,27 +28,38 @@ spelled hole text tokens seen read p is same same' none reads = record {
   reads = subst (λ xs. Reads alternation xs p) (ap (map kept_item_of) same' ∙ sym (forms_kept tokens) ∙ ap forms is) reads;
 }
 
-pub returns-then-piece-gt127-clause-err : goal.returns-then-piece-gt127-clause-err
-returns-then-piece-gt127-clause-err c =
+pub returns-then-piece-gt127 : goal.returns-then-piece-gt127
+returns-then-piece-gt127 c =
     let q = c.in_ok-steps.ensures in
-    let b = c.in_ok-tables-2.ensures q.0 (subst (λ ns. Runs ns [] (q.0 ∷ [])) (sym c.deref-3.ensures.value) q.2) in (
+    let b = c.in_ok-tables-2.ensures q.0 (subst (λ ns. Runs ns [] (q.0 ∷ [])) (sym c.deref-3.ensures.value) q.2) in
+    let refused : IsRefused c.args.hole c.args.text.now (TooManyPositions c.in_ok-tables-2.piece.count) = (
       q.0,
       spelled c.args.hole c.args.text.now c.in_ok-tokens.tokens.items c.deref.result.now c.deref-2.result.now q.0 c.in_ok-tokens.ensures c.deref.ensures.value c.deref-2.ensures.value
           c.in-None.ensures q.1,
       (let counted = b.1.counted in omega arith),
       b.1.counted,
-    )
+    ) in
+    record {
+      pattern = tt;
+      ok = λ _. refused_ok c.args.hole c.args.text.now (TooManyPositions c.in_ok-tables-2.piece.count) refused;
+      err = λ _. refused_err c.args.hole c.args.text.now (TooManyPositions c.in_ok-tables-2.piece.count) refused;
+    }
 
-pub returns-clause-ok : goal.returns-clause-ok
-returns-clause-ok c =
+pub returns : goal.returns
+returns c =
     let q = c.in_ok-steps.ensures in
     let b = c.in_ok-tables-2.ensures q.0 (subst (λ ns. Runs ns [] (q.0 ∷ [])) (sym c.deref-3.ensures.value) q.2) in
     let is : pattern_of c.of.result.value.items ≡ q.0 = ap (λ v. pattern_of v.items) c.of.ensures ∙ pattern_is c.in_ok-steps.steps.items q.0 q.2 in
-    subst (λ p. IsRefex c.args.hole c.args.text.now p) (sym is) (record {
+    let read : IsRefex c.args.hole c.args.text.now q.0 = record {
       spells = spelled c.args.hole c.args.text.now c.in_ok-tokens.tokens.items c.deref.result.now c.deref-2.result.now q.0 c.in_ok-tokens.ensures c.deref.ensures.value
           c.deref-2.ensures.value c.in-None.ensures q.1;
       fits = let counted = b.1.counted in omega arith;
-    })
+    } in
+    record {
+      pattern = subst (λ p. IsRefex c.args.hole c.args.text.now p) (sym is) read;
+      ok = λ _. (λ _. (q.0, read), λ _. refl);
+      err = λ _ g. refex_err c.args.hole c.args.text.now q.0 read c.of.result.value.items g;
+    }
 
 pub invariant_of-result : goal.invariant_of-result
 invariant_of-result c =
