@@ -1,10 +1,12 @@
 -- The first offence of a pattern's items from the left.
-use Rattle.std.specs.Prelude.{ℕ, suc, ◌-◌, ◌==◌, Bool, true, false, if◌then◌else◌, List, [], ◌∷◌, Option, None, Some}
+use Rattle.std.specs.Prelude.{ℕ, suc, ◌-◌, ◌==◌, Bool, true, false, if◌then◌else◌, List, [], ◌∷◌, ◌++◌, Option, None, Some, codes, decimal}
 use Rattle.refex.specs.Text.{Item, Atom, Open, Close, Repetition, Bad, Placed}
 use Rattle.refex.specs.declared.items.Last.{Last}
 use Rattle.refex.specs.declared.items.Last.TheVariants as last
 use Rattle.refex.specs.declared.faults.Offence.{Offence}
 use Rattle.refex.specs.declared.faults.Offence.TheVariants.{Syntax, Unsupported}
+use Rattle.refex.specs.declared.faults.RefexFault.{RefexFault}
+use Rattle.refex.specs.declared.faults.RefexFault.TheVariants as faults
 
 -- the same with one item more in front
 abbrev pub closes_before : Item → ℕ → ℕ
@@ -64,3 +66,10 @@ outermost_by depth outermost at _ = outermost
 -- where the outermost group that is open behind the item begins
 abbrev pub outermost_after : ℕ → ℕ → Placed → ℕ
 outermost_after depth outermost x = outermost_by depth outermost x.at x.item
+
+-- how a fault is printed
+abbrev pub fault_text : RefexFault → List ℕ
+fault_text (faults.Syntax at) = codes "bad pattern at " ++ decimal at
+fault_text (faults.TooManyPositions count) = codes "pattern has " ++ decimal count ++ codes " positions"
+fault_text (faults.Unsupported at) = codes "pattern not supported at " ++ decimal at
+fault_text faults.NoMemory = codes "out of memory"

@@ -10,6 +10,7 @@ use Rattle.refex.specs.declared.faults.Offence.{Offence}
 use Rattle.refex.specs.declared.faults.Offence.TheVariants as offences
 use Rattle.refex.specs.declared.faults.RefexFault.{RefexFault}
 use Rattle.refex.specs.declared.faults.RefexFault.TheVariants.{Syntax, TooManyPositions, Unsupported, NoMemory}
+use Rattle.refex.specs.declared.limits.TheConstants.{MAX_COUNT, MAX_POSITIONS}
 
 abbrev pub forms : List Placed → List Item
 forms xs = map (λ x. x.item) xs
@@ -26,12 +27,12 @@ pub record Spells (hole : Hole) (text : List ℕ) (p : Pattern) : Type 0 where
 -- the text is the pattern, which has few enough positions
 pub record IsRefex (hole : Hole) (text : List ℕ) (p : Pattern) : Type 0 where
   pub spells : Spells hole text p
-  pub fits : positions p ≤ 127
+  pub fits : positions p ≤ MAX_POSITIONS
 
 -- why the text is refused; no text is the cause that memory runs out
 abbrev pub IsRefused : Hole → List ℕ → RefexFault → Type 0
 IsRefused hole text NoMemory = ⊥
-IsRefused hole text (TooManyPositions n) = (p : Pattern) × Spells hole text p × (127 < positions p) × (n ≡ min 65535 (positions p))
+IsRefused hole text (TooManyPositions n) = (p : Pattern) × Spells hole text p × (MAX_POSITIONS < positions p) × (n ≡ min MAX_COUNT (positions p))
 IsRefused hole text (Syntax at) = offence hole text ≡ Some (offences.Syntax at)
 IsRefused hole text (Unsupported at) = offence hole text ≡ Some (offences.Unsupported at)
 

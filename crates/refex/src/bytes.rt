@@ -1,5 +1,4 @@
-//! Sets of bytes.
-
+// Sets of bytes.
 ghost use Rattle.std.specs.Prelude.{◌≡◌, ◌==◌, ◌||◌, ◌≤◌, Bool, false};
 ghost use Rattle.refex.specs.ByteSet.{holds};
 ghost use Rattle.refex.specs.Text.{range, either_of, every_other};
@@ -21,7 +20,7 @@ impl ByteSet {
     }
 
     /// The set with one byte more.
-    fn with(self, byte: u8) -> ByteSet
+    fn with_byte(self, byte: u8) -> ByteSet
         ensures { holds result ≡ (λ c. (c == byte) || holds self c) }
     {
         if byte < 128 {
@@ -44,7 +43,7 @@ impl ByteSet {
     {
         let mut set = ByteSet::empty();
         for c in first as u16..last as u16 + 1 {
-            set = set.with(c as u8);
+            set = set.with_byte(c as u8);
         }
         set
     }

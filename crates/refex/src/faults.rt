@@ -1,8 +1,9 @@
-//! Why a text is no pattern, and which name a pattern has a hole for.
-
+// Why a text is no pattern, and which name a pattern has a hole for.
 ghost use Rattle.std.specs.Prelude.{◌≡◌};
 
 use std::alloc::{AllocError, AllocFailed};
+use std::error::Error;
+use std::fmt;
 
 /// The name that a pattern may leave open, at the first place where it is spelled.
 #[derive(Clone, Copy, Debug, PartialEq, Eq)]
@@ -20,11 +21,11 @@ pub enum Hole {
 pub enum RefexFault {
     /// The text breaks the grammar at this place.
     Syntax(u64),
-    /// The pattern takes so many positions, where 65,535 stands for more as well, and may take 127.
+    /// The pattern has this many positions, which is more than `MAX_POSITIONS`; 65,535 stands for more as well.
     TooManyPositions(u16),
     /// Perl knows the form at this place, and this language doesn't.
     Unsupported(u64),
-    /// There was no memory for it.
+    /// Out of memory.
     NoMemory,
 }
 
@@ -34,6 +35,24 @@ pub enum Offence {
     Syntax(u64),
     Unsupported(u64),
 }
+
+impl fmt::Display for RefexFault {
+    ghost use Rattle.std.specs.Prelude.{Some};
+    ghost use Rattle.refex.specs.Faults.{fault_text};
+
+    ghost output = { λ fault. Some (fault_text fault) };
+
+    fn fmt<W: fmt::Write>(&self, f: &mut fmt::Formatter<W>) -> fmt::Result {
+        match self {
+            RefexFault::Syntax(at) => write!(f, "bad pattern at {at}"),
+            RefexFault::TooManyPositions(count) => write!(f, "pattern has {count} positions"),
+            RefexFault::Unsupported(at) => write!(f, "pattern not supported at {at}"),
+            RefexFault::NoMemory => write!(f, "out of memory"),
+        }
+    }
+}
+
+impl Error for RefexFault {}
 
 impl From<AllocError> for RefexFault {
     ghost use Rattle.refex.specs.declared.faults.RefexFault.TheVariants.{NoMemory};

@@ -1,15 +1,18 @@
-//! A machine of at most 127 positions, run over a text.
-
+// Position automata, after Glushkov: a state of the automaton is a place of a byte, a class or an end mark in the
+// pattern, and no step goes without a letter. A set of states is a number with a bit for each, and a run keeps the set
+// of those that may take the next letter.
 ghost use Rattle.std.specs.Prelude.{◌≡◌, ℕ, ◌+◌, ◌<◌, ◌≤◌, ◌↔◌, ◌⊎◌, ◌^◌, IsTrue, length, slice_index, vec_len};
 ghost use Rattle.refex.specs.Pattern.{Pattern, Starts, Whole};
 ghost use Rattle.refex.specs.Means.{Means};
 ghost use Rattle.refex.specs.Fragment.{IsPiece, HolesApart};
 ghost use Rattle.refex.specs.Machine.{Has, MeetsHole, IsStep, IsClosed, IsEntry, letters, follows};
+ghost use Rattle.refex.specs.declared.limits.TheConstants.{EXIT, LETTERS, MAX_POSITIONS};
 
+use crate::limits::{END_MARK, EXIT, LETTERS, MAX_NAME, MAX_POSITIONS};
 use crate::sets::{added, has, parts_after, union_of};
 use crate::tables::{Piece, Tables};
 
-/// A machine. A set of positions has a bit for each; bit 127 is the exit.
+/// A position automaton. A set of positions has a bit for each, and one for the exit.
 #[derive(Drop)]
 pub struct Machine {
     // where each byte and the end mark may be taken
@@ -20,16 +23,19 @@ pub struct Machine {
     // the positions that stand for the name, and where they go on
     pub holes: u128,
     pub after: u128,
-    ghost masks_len: { vec_len masks ≡ 257 },
-    ghost follow_len: { vec_len follow ≡ 127 },
-    ghost holes_small: { holes < 2 ^ 127 },
-    ghost beyond: { (h : ℕ) → h < 127 → Has holes h → slice_index follow.items h ≡ after },
+    ghost masks_len: { vec_len masks ≡ LETTERS },
+    ghost follow_len: { vec_len follow ≡ MAX_POSITIONS },
+    ghost holes_small: { holes < 2 ^ EXIT },
+    ghost beyond: { (h : ℕ) → h < MAX_POSITIONS → Has holes h → slice_index follow.items h ≡ after },
 }
 
-/// A running match: the positions, and the parts of the name that were met since the hole was entered.
+/// A running match.
 #[derive(Clone, Copy)]
 struct State {
+    // the live positions, from which the next letter may be taken, and perhaps the exit
     set: u128,
+    // Bit k: since a hole was entered the last k bytes were the first k of the name. A name is known only when a match
+    // is asked for, so a run walks along it beside the tables, and from its end it goes on behind the hole.
     parts: u128,
 }
 
@@ -45,7 +51,7 @@ impl State {
 
 #[inline(always)]
 fn meets(holes: u128, set: u128) -> bool
-    requires { holes < 2 ^ 127 }
+    requires { holes < 2 ^ EXIT }
     ensures { IsTrue result ↔ MeetsHole holes set }
 {
     set & holes != 0
@@ -72,8 +78,8 @@ impl Machine {
 
     #[inline(always)]
     fn step(&self, name: &[u8], state: State, letter: u16) -> State
-        requires name { length name.now ≤ 64 }
-        requires letter { letter < 257 }
+        requires name { length name.now ≤ MAX_NAME }
+        requires letter { letter < LETTERS }
         ensures { IsStep (letters self.now.masks.items self.now.holes) (follows self.now.follow.items) name.now
             self.now.holes self.now.after state.set state.parts letter result.set result.parts }
     {
@@ -88,14 +94,14 @@ impl Machine {
     }
 
     /// Whether some prefix of the text with its end mark is in the pattern's language.
-    pub fn starts(&self, text: &[u8], name: &[u8]) -> bool
-        requires { length name.now ≤ 64 }
+    pub fn takes_front(&self, text: &[u8], name: &[u8]) -> bool
+        requires { length name.now ≤ MAX_NAME }
         ensures { (p : Pattern) → Means self.now.masks.items self.now.follow.items self.now.first self.now.holes p
             → (IsTrue result ↔ Starts p name.now text.now) }
     {
         let mut state = self.start(name);
         for byte in text {
-            if has(state.set, 127) {
+            if has(state.set, EXIT) {
                 return true;
             }
             if state.is_dead() {
@@ -103,16 +109,16 @@ impl Machine {
             }
             state = self.step(name, state, *byte as u16);
         }
-        if has(state.set, 127) {
+        if has(state.set, EXIT) {
             return true;
         }
-        let last = self.step(name, state, 256);
-        has(last.set, 127)
+        let last = self.step(name, state, END_MARK);
+        has(last.set, EXIT)
     }
 
     /// Whether the text, with or without its end mark, is in the pattern's language.
-    pub fn whole(&self, text: &[u8], name: &[u8]) -> bool
-        requires { length name.now ≤ 64 }
+    pub fn takes_text(&self, text: &[u8], name: &[u8]) -> bool
+        requires { length name.now ≤ MAX_NAME }
         ensures { (p : Pattern) → Means self.now.masks.items self.now.follow.items self.now.first self.now.holes p
             → (IsTrue result ↔ Whole p name.now text.now) }
     {
@@ -123,18 +129,18 @@ impl Machine {
             }
             state = self.step(name, state, *byte as u16);
         }
-        if has(state.set, 127) {
+        if has(state.set, EXIT) {
             return true;
         }
-        let last = self.step(name, state, 256);
-        has(last.set, 127)
+        let last = self.step(name, state, END_MARK);
+        has(last.set, EXIT)
     }
 }
 
 /// The positions below n.
 fn below(n: u32) -> u128
-    requires { n ≤ 127 }
-    ensures small { result < 2 ^ 127 }
+    requires { n ≤ MAX_POSITIONS }
+    ensures small { result < 2 ^ EXIT }
     ensures has { (k : ℕ) → k < n → Has result k }
     ensures only { (k : ℕ) → Has result k → k < n }
 {
@@ -143,13 +149,13 @@ fn below(n: u32) -> u128
 
 /// Where the one hole goes on.
 fn after_hole(follow: &[u128], holes: u128) -> u128
-    requires len { length follow.now ≡ 127 }
-    requires small { holes < 2 ^ 127 }
+    requires len { length follow.now ≡ MAX_POSITIONS }
+    requires small { holes < 2 ^ EXIT }
     requires one { (h k : ℕ) → Has holes h → Has holes k → h ≡ k }
-    ensures { (h : ℕ) → h < 127 → Has holes h → slice_index follow.now h ≡ result }
+    ensures { (h : ℕ) → h < MAX_POSITIONS → Has holes h → slice_index follow.now h ≡ result }
 {
     let mut after = 0;
-    for h in 0..127u8 {
+    for h in 0..EXIT {
         if has(holes, h) {
             after = follow[h as usize];
         }
@@ -159,7 +165,7 @@ fn after_hole(follow: &[u128], holes: u128) -> u128
 
 /// The machine of a whole pattern.
 pub fn finish(tables: Tables, piece: Piece) -> Machine
-    requires place { (piece.lo ≡ 0) × (piece.count ≤ 127) }
+    requires place { (piece.lo ≡ 0) × (piece.count ≤ MAX_POSITIONS) }
     requires apart { HolesApart tables.holes 0 piece.count }
     ensures { (p : Pattern) → IsPiece tables.masks.items tables.follow.items tables.holes piece.lo piece.count piece.first p
         → Means result.masks.items result.follow.items result.first result.holes p }

@@ -1,5 +1,4 @@
-//! The first offence of a pattern's items.
-
+// The first offence of a pattern's items.
 ghost use Rattle.std.specs.Prelude.{◌≡◌, ℕ, ◌+◌, ◌<◌, ◌≤◌, ◌==◌, ◌^◌, length, map, drop};
 ghost use Rattle.refex.specs.Items.{item_of, placed_of};
 ghost use Rattle.refex.specs.Faults.{closes, closes_before, repetition_fault, fault_at, first_fault, last_after, depth_after, outermost_after};
@@ -33,6 +32,27 @@ fn repetition_fault(last: Last, suffix: bool, at: u64) -> Option<Offence>
     }
 }
 
+fn last_after(item: Item) -> Last
+    ensures { result ≡ last_after (item_of item) }
+{
+    match item {
+        Item::Atom(_) | Item::Close => Last::Atom,
+        Item::Repetition(_, _) => Last::Counted,
+        Item::Open(_) | Item::Bar | Item::Bad(_) => Last::Nothing,
+    }
+}
+
+fn depth_after(depth: usize, item: Item) -> usize
+    requires { depth < 2 ^ 63 }
+    ensures { result ≡ depth_after depth (item_of item) }
+{
+    match item {
+        Item::Open(_) => depth + 1,
+        Item::Close => depth.saturating_sub(1),
+        _ => depth,
+    }
+}
+
 impl Before {
     /// What is wrong at the token, whatever stands behind it.
     fn fault_at(self, token: Token) -> Option<Offence>
@@ -55,48 +75,26 @@ impl Before {
         }
     }
 
+    fn outermost_after(self, token: Token) -> u64
+        ensures { result ≡ outermost_after self.depth self.outermost (placed_of token) }
+    {
+        match token.item {
+            Item::Open(_) if self.depth == 0 => token.at,
+            _ => self.outermost,
+        }
+    }
+
     /// What stands before the next token.
-    fn and(self, token: Token) -> Before
+    fn after(self, token: Token) -> Before
         requires { self.depth < 2 ^ 63 }
         ensures last { result.last ≡ last_after (item_of token.item) }
         ensures depth { result.depth ≡ depth_after self.depth (item_of token.item) }
         ensures outermost { result.outermost ≡ outermost_after self.depth self.outermost (placed_of token) }
     {
-        match token.item {
-            Item::Open(_) => Before {
-                last: Last::Nothing,
-                depth: self.depth + 1,
-                outermost: if self.depth == 0 {
-                    token.at
-                } else {
-                    self.outermost
-                },
-            },
-            Item::Close => Before {
-                last: Last::Atom,
-                depth: self.depth.saturating_sub(1),
-                outermost: self.outermost,
-            },
-            Item::Atom(_) => Before {
-                last: Last::Atom,
-                depth: self.depth,
-                outermost: self.outermost,
-            },
-            Item::Repetition(_, _) => Before {
-                last: Last::Counted,
-                depth: self.depth,
-                outermost: self.outermost,
-            },
-            Item::Bar => Before {
-                last: Last::Nothing,
-                depth: self.depth,
-                outermost: self.outermost,
-            },
-            Item::Bad(_) => Before {
-                last: Last::Nothing,
-                depth: self.depth,
-                outermost: self.outermost,
-            },
+        Before {
+            last: last_after(token.item),
+            depth: depth_after(self.depth, token.item),
+            outermost: self.outermost_after(token),
         }
     }
 }
@@ -139,7 +137,7 @@ pub fn first_fault(tokens: &[Token]) -> Option<Offence>
     for i in 0..tokens.len() {
         let token = tokens[i];
         match before.fault_at(token) {
-            None => before = before.and(token),
+            None => before = before.after(token),
             Some(fault) => {
                 if closes(tokens, i) < before.depth {
                     return Some(Offence::Syntax(before.outermost));

@@ -1,11 +1,11 @@
-//! From a pattern's text to its items.
-
+// From a pattern's text to its items.
 ghost use Rattle.std.specs.Prelude.{◌≡◌, ℕ, ◌+◌, ◌-◌, ◌<◌, ◌≤◌, ◌^◌, Bool, length, drop, map, nat_lt, ◌==◌, ◌&&◌, not, IfOk, IfSome, IfNone, OnOk, ◌++◌, true, false, Some, None, Ok, Err};
 ghost use Rattle.std.specs.Option.{option_map};
 ghost use Rattle.refex.specs.ByteSet.{holds};
 ghost use Rattle.refex.specs.Items.{item_of, placed_of, member_of, on_ok};
 ghost use Rattle.refex.specs.Text.{kind, escaped, member, span, bytes_of, is_dash, class_item, class_items, class_length, class, class_made, ranged, begins_with, digit, number, count, escape_item, count_item, open_item, item, is_at, hole_items, spelling, items_from, items, is_alphanumeric, is_digit, is_word, is_space};
 
+use crate::limits::{MAX_REPEAT};
 use crate::bytes::ByteSet;
 use crate::faults::{Hole, Offence};
 use crate::items::{Atom, Bounds, Item, Token};
@@ -37,7 +37,7 @@ fn begins_with(bytes: &[u8], byte: u8) -> bool
 fn is_alphanumeric(c: u8) -> bool
     ensures { result ≡ is_alphanumeric c }
 {
-    (48 <= c && c <= 57) || (65 <= c && c <= 90) || (97 <= c && c <= 122)
+    (b'0' <= c && c <= b'9') || (b'A' <= c && c <= b'Z') || (b'a' <= c && c <= b'z')
 }
 
 fn digits() -> ByteSet
@@ -58,7 +58,7 @@ fn word_bytes() -> ByteSet
 fn spaces() -> ByteSet
     ensures { holds result ≡ is_space }
 {
-    ByteSet::range(9, 13).or(ByteSet::range(32, 32))
+    ByteSet::range(b'\t', b'\r').or(ByteSet::range(b' ', b' '))
 }
 
 #[tactic(auto, unfolding(crate::specs::Text::kind))]
@@ -198,7 +198,7 @@ fn class_items(at: u64, bytes: &[u8]) -> Result<ByteSet, Offence>
     Ok(set)
 }
 
-fn closes(byte: u8, first: bool, behind: bool) -> bool
+fn closes_class(byte: u8, first: bool, behind: bool) -> bool
     ensures { result ≡ ((byte == 93) && (not first && not behind)) }
 {
     byte == b']' && !first && !behind
@@ -217,7 +217,7 @@ fn class_length(bytes: &[u8]) -> Option<usize>
 {
     let mut behind = false;
     for i in 0..bytes.len() {
-        if closes(bytes[i], i == 0, behind) {
+        if closes_class(bytes[i], i == 0, behind) {
             return Some(i);
         }
         behind = escapes(bytes[i], behind);
@@ -254,8 +254,8 @@ fn digit(bytes: &[u8], i: usize) -> Option<u16>
     ensures value { result ≡ digit i bytes.now }
     ensures small { IfSome result (λ d. (d ≤ 9) × (i < length bytes.now)) }
 {
-    if i < bytes.len() && 48 <= bytes[i] && bytes[i] <= 57 {
-        return Some(bytes[i] as u16 - 48);
+    if i < bytes.len() && b'0' <= bytes[i] && bytes[i] <= b'9' {
+        return Some((bytes[i] - b'0') as u16);
     }
     None
 }
@@ -264,7 +264,7 @@ fn digit(bytes: &[u8], i: usize) -> Option<u16>
 #[tactic(auto, unfolding(crate::specs::Text::number))]
 fn number(bytes: &[u8]) -> Option<(u8, usize)>
     ensures value { result ≡ number bytes.now }
-    ensures bound { IfSome result (λ n. (n.0 ≤ 127) × (1 ≤ n.1) × (n.1 ≤ length bytes.now)) }
+    ensures bound { IfSome result (λ n. (n.0 ≤ MAX_REPEAT) × (1 ≤ n.1) × (n.1 ≤ length bytes.now)) }
 {
     let a = digit(bytes, 0)?;
     let Some(b) = digit(bytes, 1) else {
@@ -277,7 +277,7 @@ fn number(bytes: &[u8]) -> Option<(u8, usize)>
         return Some(((a * 10 + b) as u8, 2));
     };
     let n = a * 100 + b * 10 + c;
-    if n > 127 {
+    if n > MAX_REPEAT as u16 {
         return None;
     }
     Some((n as u8, 3))
@@ -393,7 +393,7 @@ fn item(at: u64, bytes: &[u8]) -> (Item, usize)
     match *b {
         b'\\' => escape_item(at, rest),
         b'.' => (
-            Item::Atom(Atom::Bytes(ByteSet::range(10, 10).complement())),
+            Item::Atom(Atom::Bytes(ByteSet::range(b'\n', b'\n').complement())),
             1,
         ),
         b'[' if begins_with(rest, b'^') => class(at, true, 2, bytes),

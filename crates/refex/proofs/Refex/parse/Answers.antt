@@ -28,8 +28,8 @@ spelled hole text tokens seen read p is same same' none reads = record {
   reads = subst (λ xs. Reads alternation xs p) (ap (map kept_item_of) same' ∙ sym (forms_kept tokens) ∙ ap forms is) reads;
 }
 
-pub returns-then-piece-gt127 : goal.returns-then-piece-gt127
-returns-then-piece-gt127 c =
+pub returns-then-piece-gt-MAX_POSITIONS : goal.returns-then-piece-gt-MAX_POSITIONS
+returns-then-piece-gt-MAX_POSITIONS c =
     let q = c.in_ok-steps.ensures in
     let b = c.in_ok-tables-2.ensures q.0 (subst (λ ns. Runs ns [] (q.0 ∷ [])) (sym c.deref-3.ensures.value) q.2) in
     let refused : IsRefused c.args.hole c.args.text.now (TooManyPositions c.in_ok-tables-2.piece.count) = (

@@ -20,10 +20,10 @@ returns-in-Some c =
 
 pub loop-i-preserved : goal.loop-i-preserved
 loop-i-preserved c = record {
-  few = let b = depth_bound c.loop-i.before.depth c.and-before.result.depth _ c.and-before.ensures.depth in omega arith;
-  rest = on_at c.args.tokens.now c.loop-i.i c.index-tokens-i.result (first_fault last.Nothing 0 (map placed_of c.args.tokens.now)) c.loop-i.before.last c.and-before.result.last
-      c.loop-i.before.depth c.and-before.result.depth c.loop-i.before.outermost c.and-before.result.outermost c.index-tokens-i.is c.loop-i-test.true (sym c.in-None.ensures)
-      c.and-before.ensures.last c.and-before.ensures.depth c.and-before.ensures.outermost c.loop-i.invariant.rest;
+  few = let b = depth_bound c.loop-i.before.depth c.after-before.result.depth _ c.after-before.ensures.depth in omega arith;
+  rest = on_at c.args.tokens.now c.loop-i.i c.index-tokens-i.result (first_fault last.Nothing 0 (map placed_of c.args.tokens.now)) c.loop-i.before.last c.after-before.result.last
+      c.loop-i.before.depth c.after-before.result.depth c.loop-i.before.outermost c.after-before.result.outermost c.index-tokens-i.is c.loop-i-test.true (sym c.in-None.ensures)
+      c.after-before.ensures.last c.after-before.ensures.depth c.after-before.ensures.outermost c.loop-i.invariant.rest;
 }
 
 pub returns-then-before-gt0 : goal.returns-then-before-gt0

@@ -8,7 +8,7 @@ loop-c-init c = λ k. let e = ap (λ f. f k) c.empty-set.ensures in grind (arith
 
 pub loop-c-preserved : goal.loop-c-preserved
 loop-c-preserved c = λ k.
-    let e = ap (λ f. f k) c.with-set.ensures in
+    let e = ap (λ f. f k) c.with_byte-set.ensures in
     let before = c.loop-c.invariant k in
     let low = c.loop-c.auto.c in
     grind (arith, nat_tests)

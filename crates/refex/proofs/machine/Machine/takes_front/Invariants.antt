@@ -1,6 +1,6 @@
 use Rattle.std.proofs.Common.{take}
 use Rattle.refex.specs.Machine.{IsAfter, NoneBefore, letters, follows}
-use Rattle.refex.proofs.machine.Machine.starts.Given as goal
+use Rattle.refex.proofs.machine.Machine.takes_front.Given as goal
 
 abbrev pub invariant-loop-byte : goal.invariant-loop-byte
 invariant-loop-byte l = record {

@@ -1,7 +1,7 @@
 use Rattle.std.proofs.Common.{arith, refl, false, inl}
 use Rattle.std.proofs.lemmas.Bool.{both_ways}
 use Rattle.refex.proofs.Matching.{begun, more, exit_at, whole_text, marked, whole_iff, dead_whole, Means-reaches}
-use Rattle.refex.proofs.machine.Machine.whole.Goals as goal
+use Rattle.refex.proofs.machine.Machine.takes_text.Goals as goal
 
 pub loop-byte-init : goal.loop-byte-init
 loop-byte-init c = begun c.args.self.now.masks.items c.args.self.now.follow.items c.args.name.now c.args.self.now.holes c.args.self.now.after c.args.self.now.first

@@ -3,7 +3,7 @@ use Rattle.refex.specs.Parsing.{HasRead}
 use Rattle.refex.specs.Text as text
 use Rattle.refex.specs.declared.items.Last.TheVariants as last
 use Rattle.refex.proofs.Reading.{read_count}
-use Rattle.refex.proofs.parsing.Parser.repetition.Goals as goal
+use Rattle.refex.proofs.parsing.Parser.repeat_last.Goals as goal
 
 pub returns-clause-read : goal.returns-clause-read
 returns-clause-read c = λ xs h.

@@ -1,7 +1,7 @@
 use Rattle.std.proofs.Common.{arith, refl, false, length, take, ◌≡◌, inl, inr}
 use Rattle.std.proofs.lemmas.Bool.{both_ways, cases_Bool}
 use Rattle.refex.proofs.Matching.{begun, more, exit_at, whole_text, marked, none_more, yes_early, yes_late, never, dead_starts}
-use Rattle.refex.proofs.machine.Machine.starts.Goals as goal
+use Rattle.refex.proofs.machine.Machine.takes_front.Goals as goal
 
 pub loop-byte-init : goal.loop-byte-init
 loop-byte-init c = record {
