@@ -1,11 +1,10 @@
 -- The answers of a reading exclude each other.
-use Rattle.std.proofs.Common.{◌≡◌, ◌↔◌, ℕ, List, Result, Ok, Err, Some, None, Bool, true, false, refl, sym, ◌∙◌, ap, subst, arith}
+use Rattle.std.proofs.Common.{◌≡◌, ◌↔◌, ℕ, List, Ok, Err, Some, None, true, false, refl, sym, ◌∙◌, ap, subst, arith}
 use Rattle.std.proofs.lemmas.Bool.{both_ways}
 use Rattle.std.specs.Prelude.{IsErrOf}
 use Rattle.refex.specs.Pattern.{Pattern, positions}
-use Rattle.refex.specs.Refex.{IsRefex, IsRefused, Spells, offence}
+use Rattle.refex.specs.Refex.{IsRefex, IsRefused, Spells}
 use Rattle.refex.specs.declared.faults.Hole.{Hole}
-use Rattle.refex.specs.declared.faults.Offence.{Offence}
 use Rattle.refex.specs.declared.faults.Offence.TheVariants as offences
 use Rattle.refex.specs.declared.faults.RefexFault.{RefexFault}
 use Rattle.refex.specs.declared.faults.RefexFault.TheVariants.{Syntax, TooManyPositions, Unsupported, NoMemory}

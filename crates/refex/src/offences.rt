@@ -134,10 +134,9 @@ pub fn first_fault(tokens: &[Token]) -> Option<Offence>
         depth: 0,
         outermost: 0,
     };
-    for i in 0..tokens.len() {
-        let token = tokens[i];
-        match before.fault_at(token) {
-            None => before = before.after(token),
+    for (i, token) in tokens.iter().enumerate() {
+        match before.fault_at(*token) {
+            None => before = before.after(*token),
             Some(fault) => {
                 if closes(tokens, i) < before.depth {
                     return Some(Offence::Syntax(before.outermost));

@@ -5,10 +5,10 @@ ghost use Rattle.refex.specs.ByteSet.{holds};
 ghost use Rattle.refex.specs.Items.{item_of, placed_of, member_of, on_ok};
 ghost use Rattle.refex.specs.Text.{kind, escaped, member, span, bytes_of, is_dash, class_item, class_items, class_length, class, class_made, ranged, begins_with, digit, number, count, escape_item, count_item, open_item, item, is_at, hole_items, spelling, items_from, items, is_alphanumeric, is_digit, is_word, is_space};
 
-use crate::limits::{MAX_REPEAT};
 use crate::bytes::ByteSet;
 use crate::faults::{Hole, Offence};
 use crate::items::{Atom, Bounds, Item, Token};
+use crate::limits::MAX_REPEAT;
 use std::alloc::{AllocError, Global};
 
 /// A byte of a class, or a kind of bytes.
@@ -216,11 +216,11 @@ fn class_length(bytes: &[u8]) -> Option<usize>
     ensures bound { IfSome result (λ n. n < length bytes.now) }
 {
     let mut behind = false;
-    for i in 0..bytes.len() {
-        if closes_class(bytes[i], i == 0, behind) {
+    for (i, byte) in bytes.iter().enumerate() {
+        if closes_class(*byte, i == 0, behind) {
             return Some(i);
         }
-        behind = escapes(bytes[i], behind);
+        behind = escapes(*byte, behind);
     }
     None
 }

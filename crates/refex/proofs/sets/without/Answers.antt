@@ -1,4 +1,3 @@
-use Rattle.std.proofs.Common.{arith}
 use Rattle.refex.proofs.SetLemmas.{cleared}
 use Rattle.refex.proofs.sets.without.Goals as goal
 

@@ -1,4 +1,3 @@
-use Rattle.std.proofs.Common.{arith}
 use Rattle.refex.proofs.Stacks.{popped}
 use Rattle.refex.proofs.building.Builder.pop.Goals as goal
 
