@@ -12,7 +12,7 @@ is_plain false b = not (b == 92) && not (b == 93) && not (b == 45)
 abbrev pub is_plain_end : ℕ → Bool
 is_plain_end b = not (b == 92) && not (b == 93)
 
--- the member is written like this, before the rest of the class; no `:` stands behind a plain `[`
+-- the member is written like this, before the rest of the class; no `:` follows a plain `[`
 pub data IsMember (plain : ℕ → Bool) (rest : List ℕ) : Member → List ℕ → Type 0 where
   itself : {b : ℕ} → plain b ≡ true → (b == 91) && begins_with 58 rest ≡ false → IsMember plain rest (Byte b) (b ∷ [])
   escaped : {b : ℕ} → is_alphanumeric b ≡ false → IsMember plain rest (Byte b) (92 ∷ b ∷ [])

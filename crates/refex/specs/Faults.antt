@@ -19,7 +19,7 @@ abbrev pub closes : List Placed → ℕ
 closes [] = 0
 closes (x ∷ xs) = closes_before x.item (closes xs)
 
--- what stands before the next item, in its branch
+-- what comes before the next item, in its branch
 abbrev pub last_after : Item → Last
 last_after (Atom _) = last.Atom
 last_after Close = last.Atom
@@ -38,7 +38,7 @@ repetition_fault last.Atom suffix at = None
 repetition_fault last.Counted true at = Some (Unsupported at)
 repetition_fault _ _ at = Some (Syntax at)
 
--- what is wrong at the item's place, by what stands before it, how many groups are open there, and how many groups
+-- what is wrong at the item's place, by what comes before it, how many groups are open there, and how many groups
 -- the items behind it close
 abbrev pub item_fault : Last → ℕ → Item → ℕ → ℕ → Option Offence
 item_fault before depth (Bad f) at later = Some f

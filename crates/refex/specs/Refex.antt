@@ -36,7 +36,7 @@ IsRefused hole text (TooManyPositions n) = (p : Pattern) × Spells hole text p �
 IsRefused hole text (Syntax at) = offence hole text ≡ Some (offences.Syntax at)
 IsRefused hole text (Unsupported at) = offence hole text ≡ Some (offences.Unsupported at)
 
--- whether the hole stands in the pattern
+-- whether the pattern has the hole
 abbrev pub has_name : Pattern → Bool
 has_name Name = true
 has_name (Then p q) = has_name p || has_name q

@@ -14,7 +14,7 @@ use Rattle.refex.specs.declared.faults.Hole.TheVariants as holes
 abbrev pub is_special : ℕ → Bool
 is_special b = list_any (λ c. b == c) (92 ∷ codes ".[$()|*+?{^")
 
--- the item is written like this, before these bytes; no `?` stands behind a plain `(`
+-- the item is written like this, before these bytes; no `?` follows a plain `(`
 pub data IsItem (rest : List ℕ) : Item → List ℕ → Type 0 where
   itself : {b : ℕ} → is_special b ≡ false → IsItem rest (Atom (Bytes (range b b))) (b ∷ [])
   escaped : {b : ℕ} → is_alphanumeric b ≡ false → IsItem rest (Atom (Bytes (range b b))) (92 ∷ b ∷ [])
@@ -37,7 +37,7 @@ HoleAt holes.Nothing bytes = ⊥
 HoleAt holes.User bytes = (behind : List ℕ) × (bytes ≡ codes "/USER/" ++ behind)
 HoleAt holes.Creator bytes = (behind : List ℕ) × (bytes ≡ codes "CREATOR" ++ behind)
 
--- one item after another; where the hole is spelled first it stands, and behind it there is none
+-- one item after another; the hole is at the first place where it is spelled, and at no later one
 pub data AreItems : Hole → List Item → List ℕ → Type 0 where
   none : {hole : Hole} → AreItems hole [] []
   more : {hole : Hole} {x : Item} {xs : List Item} {word rest : List ℕ} → (HoleAt hole (word ++ rest) → ⊥) → IsItem rest x word → AreItems hole xs rest

@@ -7,7 +7,7 @@ ghost use Rattle.refex.specs.declared.items.Last.TheVariants.{Nothing};
 use crate::faults::Offence;
 use crate::items::{Item, Last, Token};
 
-/// What stands before a token: in its branch, how many groups are open, and where the outermost of them begins.
+/// What comes before a token: in its branch, how many groups are open, and where the outermost of them begins.
 #[derive(Clone, Copy)]
 struct Before {
     last: Last,
@@ -54,7 +54,7 @@ fn depth_after(depth: usize, item: Item) -> usize
 }
 
 impl Before {
-    /// What is wrong at the token, whatever stands behind it.
+    /// What is wrong at the token, whatever follows it.
     fn fault_at(self, token: Token) -> Option<Offence>
         ensures { result ≡ fault_at self.last self.depth (placed_of token) 1 }
     {
@@ -84,7 +84,7 @@ impl Before {
         }
     }
 
-    /// What stands before the next token.
+    /// What comes before the next token.
     fn after(self, token: Token) -> Before
         requires { self.depth < 2 ^ 63 }
         ensures last { result.last ≡ last_after (item_of token.item) }

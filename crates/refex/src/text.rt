@@ -135,7 +135,7 @@ fn span(at: u64, first: u8, last: Member) -> Result<ByteSet, Offence>
     }
 }
 
-/// Whether a dash stands here that isn't the last byte.
+/// Whether the bytes begin with a dash that isn't their last.
 fn is_dash(bytes: &[u8]) -> bool
     ensures value { result ≡ is_dash bytes.now }
     ensures two { result ≡ true → 2 ≤ length bytes.now }
@@ -461,7 +461,6 @@ fn spelled(hole: Hole) -> usize
     }
 }
 
-/// The items of a text.
 pub fn items(alloc: Global, text: &[u8], hole: Hole) -> Result<Vec<Token>, AllocError>
     requires { length text.now < 2 ^ 63 }
     ensures { IfOk result (λ tokens. map placed_of tokens.items ≡ items hole text.now) }

@@ -8,7 +8,7 @@ use Rattle.std.specs.List.{list_any}
 use Rattle.refex.specs.Text.{items}
 use Rattle.refex.specs.Refex.{Spells, IsRefex, IsRefused, forms, has_name}
 use Rattle.refex.specs.declared.faults.RefexFault.TheVariants.{TooManyPositions}
-use Rattle.refex.proofs.Answers.{refused_ok, refused_err, refex_err}
+use Rattle.refex.proofs.OneAnswer.{refused_ok, refused_err, refex_err}
 use Rattle.refex.specs.Means.{Means}
 use Rattle.refex.specs.declared.items.Token.{Token}
 use Rattle.refex.specs.declared.items.Last.TheVariants as last
