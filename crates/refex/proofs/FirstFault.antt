@@ -41,7 +41,7 @@ pub step_on : (whole : Option Offence) (before : Last) (depth outermost : ℕ) (
     → whole ≡ pending depth outermost before (x ∷ xs) → whole ≡ pending (depth_after depth x.item) (outermost_after depth outermost x) (last_after x.item) xs
 step_on whole before depth outermost x xs none e = e ∙ step_item before depth outermost x.at x.item xs none
 
-stop_item : (before : Last) (depth at later : ℕ) (x : Item) (f : Offence) → item_fault before depth x at 1 ≡ Some f → item_fault before depth x at later ≡ Some f
+pub stop_item : (before : Last) (depth at later : ℕ) (x : Item) (f : Offence) → item_fault before depth x at 1 ≡ Some f → item_fault before depth x at later ≡ Some f
 stop_item before depth at later (Atom p) f e = e
 stop_item before depth at later Bar f e = e
 stop_item before depth at later (Bad g) f e = e

@@ -43,7 +43,7 @@ impl State {
     /// Whether nothing can be taken any more, whatever follows.
     #[inline(always)]
     fn is_dead(self) -> bool
-        ensures { IsTrue result → (self.set ≡ 0) × (self.parts ≡ 0) }
+        ensures { IsTrue result ↔ ((self.set ≡ 0) × (self.parts ≡ 0)) }
     {
         self.set == 0 && self.parts == 0
     }

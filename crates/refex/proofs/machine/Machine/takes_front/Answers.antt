@@ -63,7 +63,7 @@ pub returns-then-is_dead : goal.returns-then-is_dead
 returns-then-is_dead c = λ p m. (
   λ yes. absurd (both_ways false refl yes),
   λ s. absurd (dead_starts c.args.self.now.masks.items c.args.self.now.follow.items c.args.name.now c.args.self.now.holes c.args.self.now.after c.args.self.now.first
-      c.args.self.now.beyond p m c.args.text.now c.loop-byte.byte-index c.loop-byte.state.set c.loop-byte.state.parts (c.is_dead.ensures c.if-is_dead.true)
+      c.args.self.now.beyond p m c.args.text.now c.loop-byte.byte-index c.loop-byte.state.set c.loop-byte.state.parts (c.is_dead.ensures.0 c.if-is_dead.true)
       c.loop-byte.invariant.tracks
       c.loop-byte.invariant.none s),
 )
