@@ -3,7 +3,7 @@ use Rattle.std.proofs.Common.{◌≡◌, ℕ, zero, suc, ◌+◌, ◌-◌, ◌<�
 use Rattle.std.proofs.lemmas.List.{length-take}
 use Rattle.refex.specs.Text.{Item, Atom, Open, Close, Bar, Repetition, Bad, Placed, Member, Byte, Kind, ◌>>=◌, kind, escaped, escaped_as, escape_member, member, span, is_dash, range_from, ranged, class_item, class_items, class_length, class_made, class_of, class, escape_made, escape_item, count, count_made, count_item, open_item, item, begins_with, is_alphanumeric, is_at, hole_items, spelling, items_from, items}
 use Rattle.refex.specs.Faults.{closes, fault_at, item_fault, first_of, first_fault, last_after, depth_after}
-use Rattle.refex.specs.Least.{place_of, HasOffence, here, later, OffencesAreLeftmost}
+use Rattle.refex.specs.Least.{place_of, HasOffence, here, unclosed, later, OffencesAreLeftmost}
 use Rattle.refex.specs.declared.items.Last.{Last}
 use Rattle.refex.specs.declared.items.Last.TheVariants as last
 use Rattle.refex.specs.declared.faults.Hole.{Hole}
@@ -206,8 +206,13 @@ offence_from : (before : Last) (depth from : ℕ) (xs : List Placed) (g : Offenc
 offence_from before depth from [] g o h = elim h [ ]
 offence_from before depth from (x ∷ xs) g (to, low, high, inside, rest) (here e) =
     let at = fault_inside before depth x.at to 1 x.item g high inside e in let first = at.0 in omega arith
+offence_from before depth from (x ∷ xs) g (to, low, high, inside, rest) (unclosed is none at) = subst (λ f. from ≤ place_of f) (sym at) low
 offence_from before depth from (x ∷ xs) g (to, low, high, inside, rest) (later h) =
     let more = offence_from (last_after x.item) (depth_after depth x.item) to xs g rest h in omega arith
+
+unclosed_fault : (before : Last) (depth : ℕ) (x : Placed) (xs : List Placed) → x.item ≡ Open true → closes xs ≡ 0 → fault_at before depth x (closes xs) ≡ Some (Syntax x.at)
+unclosed_fault before depth x xs is none =
+    ap (λ i. item_fault before depth i x.at (closes xs)) is ∙ ap (λ n. cond (n == 0) (Some (Syntax x.at)) None) none
 
 least : (before : Last) (depth from : ℕ) (xs : List Placed) (f g : Offence) → Ordered from xs → first_fault before depth xs ≡ Some f → HasOffence before depth xs g
     → place_of f ≤ place_of g
@@ -216,22 +221,27 @@ least before depth from [] f g o e h = elim h [ ]
 least before depth from (x ∷ xs) f g (to, low, high, inside, rest) e h =
     go (fault_at before depth x (closes xs)) refl (least (last_after x.item) (depth_after depth x.item) to xs f g rest) e h
   where
+    -- an offence at this item is the one that is found here
+    own : (g : Offence) → fault_at before depth x (closes xs) ≡ Some g → first_of (fault_at before depth x (closes xs)) (first_fault (last_after x.item) (depth_after depth x.item) xs) ≡ Some f
+        → place_of f ≤ place_of g
+    own g is e =
+        let found : Some g ≡ Some f = sym (ap (λ o. first_of o (first_fault (last_after x.item) (depth_after depth x.item) xs)) is) ∙ e in
+        let same : g ≡ f = cc in
+        subst (λ f. place_of f ≤ place_of g) same (omega arith)
+
     go : (o : Option Offence) → fault_at before depth x (closes xs) ≡ o
         → (first_fault (last_after x.item) (depth_after depth x.item) xs ≡ Some f → HasOffence (last_after x.item) (depth_after depth x.item) xs g → place_of f ≤ place_of g)
-        → first_of o (first_fault (last_after x.item) (depth_after depth x.item) xs) ≡ Some f
+        → first_of (fault_at before depth x (closes xs)) (first_fault (last_after x.item) (depth_after depth x.item) xs) ≡ Some f
         → HasOffence before depth (x ∷ xs) g → place_of f ≤ place_of g
-    go (Some k) is more_of e (here own) =
-        let again = stop_item before depth x.at (closes xs) x.item g own in
-        let same : f ≡ g = cc in
-        subst (λ g. place_of f ≤ place_of g) same (omega arith)
+    go o is more_of e (here local) = own g (stop_item before depth x.at (closes xs) x.item g local) e
+    go o is more_of e (unclosed opens none at) = own g (unclosed_fault before depth x xs opens none ∙ ap Some (sym at)) e
     go (Some k) is more_of e (later h) =
-        let same : k ≡ f = cc in
-        let at = fault_inside before depth x.at to (closes xs) x.item f high inside (is ∙ ap Some same) in
+        let found : Some k ≡ Some f = sym (ap (λ o. first_of o (first_fault (last_after x.item) (depth_after depth x.item) xs)) is) ∙ e in
+        let at = fault_inside before depth x.at to (closes xs) x.item f high inside (is ∙ found) in
         let last_byte = at.1 in
         let more = offence_from (last_after x.item) (depth_after depth x.item) to xs g rest h in
         omega arith
-    go None is more_of e (here own) = absurd (let again = stop_item before depth x.at (closes xs) x.item g own in let bad : None ≡ Some g = sym is ∙ again in cc)
-    go None is more_of e (later h) = more_of e h
+    go None is more_of e (later h) = more_of (sym (ap (λ o. first_of o (first_fault (last_after x.item) (depth_after depth x.item) xs)) is) ∙ e) h
 
 pub leftmost : OffencesAreLeftmost
 unfolding items

@@ -1,7 +1,7 @@
 -- The offence of a text is the leftmost one.
-use Rattle.std.specs.Prelude.{◌≡◌, ℕ, ◌≤◌, List, ◌∷◌, Some}
-use Rattle.refex.specs.Text.{Placed, items}
-use Rattle.refex.specs.Faults.{fault_at, last_after, depth_after}
+use Rattle.std.specs.Prelude.{◌≡◌, ℕ, ◌≤◌, true, List, ◌∷◌, Some}
+use Rattle.refex.specs.Text.{Open, Placed, items}
+use Rattle.refex.specs.Faults.{closes, fault_at, last_after, depth_after}
 use Rattle.refex.specs.Refex.{offence}
 use Rattle.refex.specs.declared.items.Last.{Last}
 use Rattle.refex.specs.declared.items.Last.TheVariants as last
@@ -13,10 +13,12 @@ abbrev pub place_of : Offence → ℕ
 place_of (Syntax at) = at
 place_of (Unsupported at) = at
 
--- One of the items is an offence, whatever follows it: a bad item, a `)` that closes no group, a repetition of nothing
--- or of a repetition, or a `(?` that isn't known. So only groups that aren't closed are left out.
+-- one of the items is an offence: by itself and what comes before it (a bad item, a `)` that closes no group, a repetition
+-- of nothing or of a repetition, or a `(?` that isn't known), or since it opens a group that isn't closed
 pub data HasOffence : Last → ℕ → List Placed → Offence → Type 0 where
   here : {before : Last} {depth : ℕ} {x : Placed} {xs : List Placed} {f : Offence} → fault_at before depth x 1 ≡ Some f → HasOffence before depth (x ∷ xs) f
+  unclosed : {before : Last} {depth : ℕ} {x : Placed} {xs : List Placed} {f : Offence} → x.item ≡ Open true → closes xs ≡ 0 → f ≡ Syntax x.at
+      → HasOffence before depth (x ∷ xs) f
   later : {before : Last} {depth : ℕ} {x : Placed} {xs : List Placed} {f : Offence} → HasOffence (last_after x.item) (depth_after depth x.item) xs f
       → HasOffence before depth (x ∷ xs) f
 
