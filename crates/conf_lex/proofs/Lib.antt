@@ -1,0 +1,9 @@
+pub mod ByteLemmas
+pub mod PlaceLemmas
+pub mod WordLemmas
+pub mod CleanLemmas
+pub mod PermLemmas
+pub mod SpellingLemmas
+pub mod PlaceLaws
+pub mod GoodWords
+pub mod CuttingLemmas

@@ -1,0 +1,9 @@
+pub mod Names
+pub mod Cleaning
+pub mod Permissions
+pub mod Words
+pub mod Statements
+pub mod RepoWords
+pub mod Faults
+pub mod Spelling
+pub mod Laws
