@@ -3,5 +3,6 @@ pub mod Walk
 pub mod Wholeness
 pub mod Laws
 pub mod Verdict
-pub mod Told
+pub mod Tables
+pub mod Known
 pub mod Seen

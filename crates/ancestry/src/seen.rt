@@ -8,13 +8,13 @@ use crate::verdict::Verdict;
 use base_types::NoMemory;
 use git_object::{Kind, Object, ObjectId};
 use indexmap::IndexSet;
-use ref_store::Lens;
+use ref_store::{Lens, Salt};
 use std::alloc::Global;
 
 // The ids that were met, in the order in which they came, and what is told of them where their links are left aside.
 #[derive(Drop)]
 struct Seen {
-    known: IndexSet<ObjectId>,
+    known: IndexSet<ObjectId, Salt>,
     verdict: Verdict,
 }
 
@@ -37,16 +37,16 @@ impl Seen {
     }
 
     // Notes an id of which a kind is wanted.
-    fn note(&mut self, lens: &Lens<'_>, id: ObjectId, wanted: Option<Kind>) -> Result<(), NoMemory>
+    fn note(&mut self, lens: &Lens, id: ObjectId, wanted: Option<Kind>) -> Result<(), NoMemory>
         ensures { OnOk result (Notes lens.now self.old self.new ((id, wanted) ∷ [])) }
     {
         self.known.insert(id)?;
-        self.verdict = self.verdict.worse(Verdict::alone(lens, id, wanted));
+        self.verdict = self.verdict.worse(Verdict::alone(lens.get(id), id, wanted));
         Ok(())
     }
 
     // Notes each link of an object.
-    fn enter(&mut self, lens: &Lens<'_>, object: &Object) -> Result<(), NoMemory>
+    fn enter(&mut self, lens: &Lens, object: &Object) -> Result<(), NoMemory>
         ensures { OnOk result (Notes lens.now self.old self.new (wanted_by (links_of object.now.kind object.now.body))) }
     {
         for (to, wanted) in object.links() {
@@ -60,14 +60,14 @@ impl Seen {
 // What was met is a list of work too: those behind the next one were not entered yet.
 pub fn walk(
     alloc: Global,
-    lens: &Lens<'_>,
+    lens: &Lens,
     root: ObjectId,
     kind: Option<Kind>,
 ) -> Result<Verdict, NoMemory>
     ensures { IfOk result (λ v. IsToldOf lens.now root kind v) }
 {
     let mut seen = Seen {
-        known: IndexSet::new(alloc),
+        known: IndexSet::with_hasher(alloc, lens.salt()),
         verdict: Verdict::Whole,
     };
     seen.note(lens, root, kind)?;

@@ -1,6 +1,5 @@
 use super::*;
 use crate::seen;
-use crate::told::Told;
 use crate::verdict::Verdict;
 use git_object::{Kind, Object, ObjectId, ObjectList};
 use ref_store::{Added, Lens, Repo};
@@ -62,7 +61,7 @@ fn repo_of(alloc: Global, objects: &ObjectList) -> Result<Repo, Fail> {
 }
 
 // What a plain walk tells.
-fn told_plainly(alloc: Global, lens: &Lens<'_>, id: ObjectId, kind: Option<Kind>) -> Wholeness {
+fn told_plainly(alloc: Global, lens: &Lens, id: ObjectId, kind: Option<Kind>) -> Wholeness {
     match seen::walk(alloc, lens, id, kind) {
         Ok(Verdict::Whole) => Wholeness::Whole,
         Ok(Verdict::Missing(id)) => Wholeness::Missing(id),
@@ -74,7 +73,7 @@ fn told_plainly(alloc: Global, lens: &Lens<'_>, id: ObjectId, kind: Option<Kind>
 // The first row of the table of which something else is told: twice by one walker, by a walker of its own, or by a plain walk.
 fn told_otherwise(
     alloc: Global,
-    lens: &Lens<'_>,
+    lens: &Lens,
     rows: &[(ObjectId, Option<Kind>, Wholeness)],
 ) -> Option<usize> {
     let mut walks = Walks::new(alloc, lens);
@@ -91,18 +90,22 @@ fn told_otherwise(
     None
 }
 
-// The first row of the table of which a walker that trusts an id tells something else.
-fn trusting_told_otherwise(
+// The first row of the table of which a walker tells something else that knows what another found out from an id.
+fn knowing_told_otherwise(
     alloc: Global,
-    lens: &Lens<'_>,
-    trusted: ObjectId,
+    lens: &Lens,
+    known: ObjectId,
     rows: &[(ObjectId, Option<Kind>, Wholeness)],
 ) -> Result<Option<usize>, Fail> {
-    let Wholeness::Whole = whole(alloc, lens, trusted, None) else {
+    let mut earlier = Walks::new(alloc, lens);
+    let Wholeness::Whole = earlier.whole(known, None) else {
         return Err(Fail::from("an id that is whole"));
     };
-    let mut walks = Walks::new(alloc, lens);
-    walks.trust(trusted).map_err(|_| "memory")?;
+    let known = Known::nothing(alloc);
+    let known = known
+        .with(alloc, earlier.into_findings())
+        .map_err(|_| "memory")?;
+    let mut walks = Walks::knowing(alloc, lens, known);
     for i in 0..rows.len() {
         let (id, kind, told) = rows[i];
         if walks.whole(id, kind) != told {
@@ -273,68 +276,61 @@ fn all_that_a_settled_id_leads_to_is_settled(rt: HostRuntime) -> Result<(), Fail
     let last = put(&mut pack, commit(alloc, absent(5), &[parent])?)?;
     let repo = Repo::empty(alloc)?;
     let lens = Lens::new(alloc, &repo, &pack)?;
-    let mut told = Told::new(alloc);
-    told.settle(alloc, &lens, last).map_err(|_| "memory")?;
-    assert!(rt; told.of(&lens, last, None) == Some(Verdict::Missing(absent(5))));
+    let mut walks = Walks::new(alloc, &lens);
+    assert!(rt; walks.whole(last, None) == Wholeness::Missing(absent(5)));
     for name in &names {
-        assert!(rt; told.of(&lens, *name, None) == Some(Verdict::Missing(absent(7))));
+        assert!(rt; walks.settled(*name) == Some(Verdict::Missing(absent(7))));
     }
-    assert!(rt; told.of(&lens, empty, None) == Some(Verdict::Whole));
+    assert!(rt; walks.settled(empty) == Some(Verdict::Whole));
     Ok(())
 }
 
 #[test]
-fn a_push_onto_a_trusted_chain(rt: HostRuntime) -> Result<(), Fail> {
+fn a_push_onto_a_known_chain(rt: HostRuntime) -> Result<(), Fail> {
     let alloc = rt.alloc();
     let mut stored = ObjectList::new(alloc);
     let empty = put(&mut stored, tree(alloc, &[])?)?;
     let mut last = put(&mut stored, commit(alloc, empty, &[])?)?;
-    let mut trusted = last;
+    let mut known = last;
     for _ in 1..200 {
-        trusted = last;
+        known = last;
         last = put(&mut stored, commit(alloc, empty, &[last])?)?;
     }
     let mut pack = ObjectList::new(alloc);
     let onto = put(&mut pack, commit(alloc, empty, &[last])?)?;
     let lacks_tree = put(&mut pack, commit(alloc, absent(7), &[last])?)?;
-    let commit_as_tree = put(&mut pack, commit(alloc, trusted, &[last])?)?;
+    let commit_as_tree = put(&mut pack, commit(alloc, known, &[last])?)?;
     let repo = repo_of(alloc, &stored)?;
     let lens = Lens::new(alloc, &repo, &pack)?;
     let rows = [
         (onto, Some(Kind::Commit), Wholeness::Whole),
         (lacks_tree, None, Wholeness::Missing(absent(7))),
-        (commit_as_tree, None, Wholeness::WrongKind(trusted)),
-        (trusted, Some(Kind::Commit), Wholeness::Whole),
-        (trusted, Some(Kind::Tag), Wholeness::WrongKind(trusted)),
+        (commit_as_tree, None, Wholeness::WrongKind(known)),
+        (known, Some(Kind::Commit), Wholeness::Whole),
+        (known, Some(Kind::Tag), Wholeness::WrongKind(known)),
         (onto, None, Wholeness::Whole),
     ];
-    assert_eq!(rt;
-        trusting_told_otherwise(alloc, &lens, trusted, &rows)?,
-        None
-    );
+    assert_eq!(rt; knowing_told_otherwise(alloc, &lens, known, &rows)?, None);
     Ok(())
 }
 
 #[test]
-fn links_to_a_trusted_tree(rt: HostRuntime) -> Result<(), Fail> {
+fn links_to_a_known_tree(rt: HostRuntime) -> Result<(), Fail> {
     let alloc = rt.alloc();
     let mut stored = ObjectList::new(alloc);
     let blob = put(&mut stored, object(alloc, Kind::Blob, b"x")?)?;
-    let trusted = put(&mut stored, tree(alloc, &[("100644 a", blob)])?)?;
+    let known = put(&mut stored, tree(alloc, &[("100644 a", blob)])?)?;
     let mut pack = ObjectList::new(alloc);
-    let as_tree = put(&mut pack, tree(alloc, &[("40000 a", trusted)])?)?;
-    let as_blob = put(&mut pack, tree(alloc, &[("100644 a", trusted)])?)?;
+    let as_tree = put(&mut pack, tree(alloc, &[("40000 a", known)])?)?;
+    let as_blob = put(&mut pack, tree(alloc, &[("100644 a", known)])?)?;
     let repo = repo_of(alloc, &stored)?;
     let lens = Lens::new(alloc, &repo, &pack)?;
     let rows = [
-        (as_blob, None, Wholeness::WrongKind(trusted)),
+        (as_blob, None, Wholeness::WrongKind(known)),
         (as_tree, None, Wholeness::Whole),
-        (as_blob, None, Wholeness::WrongKind(trusted)),
-        (trusted, Some(Kind::Blob), Wholeness::WrongKind(trusted)),
+        (as_blob, None, Wholeness::WrongKind(known)),
+        (known, Some(Kind::Blob), Wholeness::WrongKind(known)),
     ];
-    assert_eq!(rt;
-        trusting_told_otherwise(alloc, &lens, trusted, &rows)?,
-        None
-    );
+    assert_eq!(rt; knowing_told_otherwise(alloc, &lens, known, &rows)?, None);
     Ok(())
 }

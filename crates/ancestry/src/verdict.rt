@@ -3,10 +3,9 @@ ghost use Rattle.std.specs.Prelude.{◌≡◌};
 ghost use Rattle.ancestry.specs.Order.{lesser};
 ghost use Rattle.ancestry.specs.Verdict.{alone, worse};
 ghost use Rattle.ancestry.specs.Walk.{suits};
-ghost use Rattle.ref_store.specs.Objects.{first_named};
+ghost use Rattle.std.specs.Option.{option_copied};
 
-use git_object::{Kind, ObjectId};
-use ref_store::Lens;
+use git_object::{Kind, Object, ObjectId};
 
 // What is told of some ids: that all is whole, or else the least id that is missing, or else the least of a wrong kind.
 #[derive(Clone, Copy, PartialEq, Eq)]
@@ -17,11 +16,11 @@ pub enum Verdict {
 }
 
 impl Verdict {
-    // What is told of an id whose links are left aside.
-    pub fn alone(lens: &Lens<'_>, id: ObjectId, wanted: Option<Kind>) -> Verdict
-        ensures { result ≡ alone (first_named lens.now id) (id, wanted) }
+    // What is told of an id whose links are left aside, by the object of that name.
+    pub fn alone(object: Option<&Object>, id: ObjectId, wanted: Option<Kind>) -> Verdict
+        ensures { result ≡ alone (option_copied object.entry) (id, wanted) }
     {
-        let Some(object) = lens.get(id) else {
+        let Some(object) = object else {
             return Verdict::Missing(id);
         };
         if suits(wanted, object.kind()) {

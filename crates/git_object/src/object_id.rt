@@ -1,5 +1,7 @@
 // Names of objects.
-ghost use Rattle.std.specs.Prelude.{◌≡◌, ◌<◌, IfSome, Some, length, replicate};
+ghost use Rattle.std.specs.Prelude.{◌≡◌, ◌<◌, ◌∷◌, [], IfSome, Some, length, replicate};
+ghost use Rattle.std.proofs.Common.{rules};
+ghost use Rattle.std.specs.Cmp.Rules.{hashing};
 ghost use Rattle.std.specs.Option.{option_map};
 ghost use Rattle.hex.specs.Hex.{encode_lower};
 ghost use Rattle.std.specs.List.{list_all};
@@ -7,11 +9,23 @@ ghost use Rattle.git_object.specs.ObjectId.{id_from, hex_id, hex_of, id_line, id
 
 use crate::reader::literal;
 use hex::FromHex;
+use std::hash::{Hash, Hasher};
 
 /// The name of an object: the SHA-1 of its kind and its body. Names are ordered by their bytes.
-#[derive(Clone, Copy, Debug, PartialEq, Eq, PartialOrd, Ord, Hash)]
+#[derive(Clone, Copy, Debug, PartialEq, Eq, PartialOrd, Ord)]
 pub struct ObjectId {
     pub bytes: [u8; 20],
+}
+
+/// A hasher is fed the twenty bytes at once.
+impl Hash for ObjectId {
+    ghost hash_input = { λ id. id.bytes ∷ [] };
+
+    ghost respects_eq = { Prim.search (hashing, rules) };
+
+    fn hash<H: Hasher>(&self, state: &mut H) {
+        state.write(&self.bytes);
+    }
 }
 
 impl ObjectId {

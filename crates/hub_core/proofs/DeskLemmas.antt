@@ -1,5 +1,5 @@
 -- Callers of a hub.
-use Rattle.std.proofs.Common.{◌≡◌, ℕ, List, [], ◌∷◌, ◌++◌, refl, sym, ◌∙◌, ap, ◌≤◌, length, drop, nat_eq, append-nil, append_assoc, subst, true}
+use Rattle.std.proofs.Common.{◌≡◌, ℕ, List, [], ◌∷◌, ◌++◌, refl, sym, ◌∙◌, ap, ◌≤◌, length, drop, nat_eq, append-nil, append_assoc, subst, true, arith, length-append}
 use Rattle.std.specs.Prelude.{Option, Some, None}
 use Rattle.std.specs.List.{filter}
 use Rattle.std.proofs.Math.Seq.{drop-length}
@@ -44,3 +44,9 @@ calls_keep old new before (Some e) calls pin stands =
 -- a desk that begins has no entries of its own
 pub known_alone-new : (hub : HubView) → known_alone (length hub.log) hub ≡ record { admin = hub.admin; seen = hub.log; mine = []; alone = true }
 known_alone-new hub = ap (λ l. record { admin = hub.admin; seen = hub.log; mine = filter (λ (e : Entry). nat_eq e.caller 0) l; alone = true }) (drop-length hub.log)
+
+-- a call takes nothing from the log
+pub starts_within : (start : ℕ) (old new : HubView) (e : Option Event) → start ≤ length old.log → Logs old new 0 e → start ≤ length new.log
+starts_within start old new None within is = subst (λ (h : HubView). start ≤ length h.log) (sym is) within
+starts_within start old new (Some e) within is =
+    omega (arith, within, ap (λ (h : HubView). length h.log) is, length-append old.log (record { caller = 0; event = e } ∷ []))

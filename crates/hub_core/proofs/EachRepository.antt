@@ -20,7 +20,7 @@ use Rattle.hub_core.specs.declared.entry.Event.TheVariants.{Entered, Pushed}
 use Rattle.hub_core.specs.Name.{Name, placed_in}
 use Rattle.hub_core.specs.State.{Repository, State, start, changed, repository_at, empty_repository, put_in_place}
 use Rattle.hub_core.specs.Pin.{Opening, Pinned, answer_to, made_by}
-use Rattle.hub_core.specs.Push.{AreWithinLimits, judgement, is_done, outcomes_in, refs_left}
+use Rattle.hub_core.specs.Push.{AreWithinLimits, outcomes_by_opening, is_done, outcomes_in, refs_left}
 use Rattle.hub_core.specs.Hub.{Stands}
 use Rattle.hub_core.specs.History.{History, new_history, after, after_push, opening_at, outcomes_at, push_change, IsDue, IsDuePush, IsLegal, replay}
 use Rattle.hub_core.proofs.HistoryLemmas.{history-keeps, IsLegalFrom-beginning}
@@ -72,8 +72,8 @@ module _ (P : Repository → Type 0) where
   abbrev pub IsKept : Type 0
   IsKept =
       (now : Repository) (pinned : Pinned) (pack : List Content) (commands : List Command) (atomic : Bool) → AreWithinLimits commands → P now
-      → list_any is_done (outcomes_in now pack commands atomic (judgement pinned pack commands)) ≡ true
-      → P (record now { objects = with_pack now.objects pack; refs = refs_left now.refs commands (outcomes_in now pack commands atomic (judgement pinned pack commands)) })
+      → list_any is_done (outcomes_in now pack commands atomic (outcomes_by_opening pinned pack commands)) ≡ true
+      → P (record now { objects = with_pack now.objects pack; refs = refs_left now.refs commands (outcomes_in now pack commands atomic (outcomes_by_opening pinned pack commands)) })
 
   due-kept : IsKept → (state : State) (pinned : Pinned) (pack : List Content) (commands : List Command) (atomic : Bool) → AreWithinLimits commands → P (repository_at state pinned.repo)
       → list_any is_done (outcomes_at state pinned pack commands atomic) ≡ true

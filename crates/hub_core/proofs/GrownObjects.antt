@@ -1,6 +1,8 @@
 -- What is whole in some objects stays whole as they grow.
 use Rattle.std.proofs.Common.{◌≡◌, List, [], ◌∷◌, ◌++◌, refl, sym, ◌∙◌, ap, subst, T, Bool, true, false, ◌||◌, ◌&&◌, not, cond, map, append_assoc, append-nil, Contains, filter, ◌⊎◌, inl, inr}
-use Rattle.std.specs.Prelude.{Option, Some, None, is_none}
+use Rattle.std.specs.Prelude.{Option, Some, None, is_none, ◌==◌}
+use Rattle.std.proofs.Common.{length, arith}
+use Rattle.std.proofs.lemmas.Bool.Decides.{nat_tests}
 use Rattle.std.specs.List.{list_any}
 use Rattle.std.specs.Option.{option_map_or}
 use Rattle.git_object.specs.Content.{Content}
@@ -184,3 +186,8 @@ extends_beginning old more pack apart id o is = first-with_pack (old ++ more) pa
     by_old : (f : Option Content) → first_named old id ≡ f → first_named ((old ++ more) ++ pack) id ≡ Some o
     by_old None none = by_now (sym (first_behind old pack id none) ∙ is) (first_named (old ++ more) id) refl
     by_old (Some a) there = first_kept (old ++ more) pack id a (first_kept old more id a there) ∙ sym (first_kept old pack id a there) ∙ is
+
+-- a pack without objects
+pub none_by_test : (pack : List Content) → (length pack == 0) ≡ true → pack ≡ []
+none_by_test [] is = refl
+none_by_test (o ∷ os) is = let none : length (o ∷ os) ≡ 0 = grind (arith, nat_tests) in absurd (omega (arith, none))

@@ -10,7 +10,6 @@ pub mod PushLemmas
 pub mod EachRepository
 pub mod GrownObjects
 pub mod WholeRefs
-pub mod TrustLemmas
 pub mod RunningLemmas
 pub mod RefsApart
 pub mod DeskLemmas

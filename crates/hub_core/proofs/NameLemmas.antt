@@ -1,5 +1,5 @@
 -- Named values as entries of a table and as a map.
-use Rattle.std.proofs.Common.{◌≡◌, List, ℕ, [], ◌∷◌, ◌++◌, refl, sym, ◌∙◌, ap, ◌+◌, false, cond, length, arith}
+use Rattle.std.proofs.Common.{◌≡◌, Bool, true, List, ℕ, [], ◌∷◌, ◌++◌, refl, sym, ◌∙◌, ap, ◌+◌, false, cond, length, arith}
 use Rattle.std.specs.Prelude.{Some, None}
 use Rattle.std.specs.List.{sum_by, IsDistinct, AllByRecursion}
 use Rattle.std.specs.Map.{lookup, keys_of}
@@ -12,6 +12,7 @@ use Rattle.std.specs.Cmp.{eq_by_cmp_equiv}
 use Rattle.std.specs.Cmp.Lexicographic.{slice_cmp, nat_list_cmp_total, texts_ties}
 use Rattle.std.specs.FinMap.{get, insert, entries, find, get-insert, get-from_entries, get-entries, len-entries, len-empty, entries-insert, same_map, slice_cmp-IsAntisymmetric, nat_cmp-IsAntisymmetric}
 use Rattle.std.specs.FinMap.Entries.{put, by_order}
+use Rattle.ref_store.proofs.ObjectLemmas.{same_bytes}
 use Rattle.hub_core.specs.declared.name_table.Named.{Named}
 use Rattle.base_types.specs.Names.{ByName}
 use Rattle.hub_core.specs.Name.{Name, placed_in, same_name, map_of}
@@ -26,6 +27,14 @@ none (x ∷ xs) is = absurd (omega (arith, is))
 module _ {X : Type 0} where
   same_names : (m n : ByName X) → ((q : Name) → get m q ≡ get n q) → m ≡ n
   same_names m n is = same_map nat_list_cmp_total (slice_cmp-IsAntisymmetric nat_cmp-IsAntisymmetric) m n is
+
+  -- a value that is there is put in its place again
+  pub insert_same : (m : ByName X) (k : Name) (v : X) → get m k ≡ Some v → insert m k v ≡ m
+  insert_same m k v is = same_names (insert m k v) m (λ q. get-insert nat_list_cmp_total m k v q ∙ by_name q (eq_by_cmp (slice_cmp nat_cmp) q k) refl)
+    where
+      by_name : (q : Name) (b : Bool) → eq_by_cmp (slice_cmp nat_cmp) q k ≡ b → cond b (Some v) (get m q) ≡ get m q
+      by_name q true e = sym is ∙ ap (get m) (sym (same_bytes q k (texts_ties q k ∙ e)))
+      by_name q false e = refl
 
   find-lookup : (q : Name) (es : List (Name × X)) → find (slice_cmp nat_cmp) q es ≡ lookup (same_name q) es
   find-lookup q [] = refl

@@ -13,7 +13,10 @@ use Rattle.ref_store.specs.Store.{Store}
 use Rattle.hub_core.specs.Collision.{collision}
 use Rattle.hub_core.specs.State.{Repository}
 use Rattle.hub_core.specs.Pin.{Pinned}
-use Rattle.hub_core.specs.Push.{judged, judgement, landed, refs_left, is_done, beside, beside_first, together, in_order, by_refs, refs_after, unless_collided, unless_full, outcomes_in}
+use Rattle.hub_core.specs.Push.{judged, outcomes_by_opening, landed_with, refs_left, is_done, beside, beside_first, together, in_order, by_refs, refs_after, unless_collided, unless_full, outcomes_in}
+use Rattle.std.specs.Prelude.{Result, Ok, Err, IfOk}
+use Rattle.base_types.specs.declared.no_memory.NoMemory.{NoMemory}
+use Rattle.hub_core.specs.declared.push.Decided.{Decided}
 use Rattle.hub_core.proofs.CollisionLemmas.{collision_none, collision_some}
 use Rattle.std.proofs.lemmas.Bool.Decides.{nat_tests}
 use Rattle.git_object.specs.declared.object_id.ObjectId.{ObjectId}
@@ -67,24 +70,19 @@ length-in_order refs [] js is = refl
 length-in_order refs (c ∷ cs) [] is = is
 length-in_order refs (c ∷ cs) (j ∷ js) is = omega (arith, length-in_order (refs_after refs c (by_refs refs c j)) cs js (omega arith))
 
-pub landed_none : (now : Repository) (pack : List Content) (cs : List Command) (os : List Outcome) → list_any is_done os ≡ false → None ≡ landed now pack cs os
-landed_none now pack cs os is = sym (ap (λ b. if b then Some (record now { objects = with_pack now.objects pack; refs = refs_left now.refs cs os }) else None) is)
+pub landed_none : (now : Repository) (objects : List Content) (cs : List Command) (os : List Outcome) → list_any is_done os ≡ false → None ≡ landed_with now objects cs os
+landed_none now objects cs os is = sym (ap (λ b. if b then Some (record now { objects = objects; refs = refs_left now.refs cs os }) else None) is)
 
-abbrev with_store : Repository → Store → Repository
+abbrev pub with_store : Repository → Store → Repository
 with_store now store = record { objects = store.objects; refs = store.refs; creator = now.creator; roles = now.roles }
 
 -- the repository in which the commands ran is the one that the outcomes leave
-pub landed_some : (now : Repository) (pack : List Content) (cs : List Command) (atomic : Bool) (ran os : List Outcome) (store : Store) (next : Option Repository)
-    → os ≡ together atomic ran → store ≡ record { objects = with_pack now.objects pack; refs = refs_left now.refs cs ran }
-    → next ≡ (if list_any is_done os then Some (with_store now store) else None) → next ≡ landed now pack cs os
-landed_some now pack cs atomic ran os store next told stored is = is ∙ by_done (list_any is_done os) refl
-  where
-    by_done : (b : Bool) → list_any is_done os ≡ b
-        → (if b then Some (with_store now store) else None) ≡ (if b then Some (record now { objects = with_pack now.objects pack; refs = refs_left now.refs cs os }) else None)
-    by_done true some =
-        let same : os ≡ ran = told ∙ done_together atomic ran (ap (list_any is_done) (sym told) ∙ some) in
-        ap (λ s. Some (with_store now s)) stored ∙ ap (λ o. Some (record now { objects = with_pack now.objects pack; refs = refs_left now.refs cs o })) (sym same)
-    by_done false none = refl
+pub landed_some : (now : Repository) (objects : List Content) (cs : List Command) (atomic : Bool) (ran os : List Outcome) → os ≡ together atomic ran → list_any is_done os ≡ true
+    → Some (with_store now (record { objects = objects; refs = refs_left now.refs cs ran })) ≡ landed_with now objects cs os
+landed_some now objects cs atomic ran os told some =
+    let same : os ≡ ran = told ∙ done_together atomic ran (ap (list_any is_done) (sym told) ∙ some) in
+    ap (λ o. Some (record now { objects = objects; refs = refs_left now.refs cs o })) (sym same)
+    ∙ sym (ap (λ b. if b then Some (record now { objects = objects; refs = refs_left now.refs cs os }) else None) some)
 
 -- the outcomes of a push by what the repository tells of its pack
 pub all_collided : (now : Repository) (pack : List Content) (cs : List Command) (atomic : Bool) (js : List (Option Outcome)) (id : ObjectId) (kept given : ℕ)
@@ -115,18 +113,27 @@ length-together true os = by_position (position (λ o. not (is_done o)) os)
     by_position None = refl
     by_position (Some first) = length-map os (beside first)
 
-pub length-outcomes : (now : Repository) (pinned : Pinned) (pack : List Content) (cs : List Command) (atomic : Bool) → length (outcomes_in now pack cs atomic (judgement pinned pack cs)) ≡ length cs
+pub length-outcomes : (now : Repository) (pinned : Pinned) (pack : List Content) (cs : List Command) (atomic : Bool) → length (outcomes_in now pack cs atomic (outcomes_by_opening pinned pack cs)) ≡ length cs
 length-outcomes now pinned pack cs atomic = by_collision (collision now.objects pack)
   where
     run : List Outcome
-    run = together atomic (in_order now.refs cs (judgement pinned pack cs))
+    run = together atomic (in_order now.refs cs (outcomes_by_opening pinned pack cs))
 
     by_full : (b : Bool) → length (if b then map (λ c. Full (length (with_pack now.objects pack))) cs else run) ≡ length cs
     by_full true = length-map cs (λ c. Full (length (with_pack now.objects pack)))
     by_full false =
-        length-together atomic (in_order now.refs cs (judgement pinned pack cs))
-        ∙ length-in_order now.refs cs (judgement pinned pack cs) (length-map cs (judged pinned pack cs))
+        length-together atomic (in_order now.refs cs (outcomes_by_opening pinned pack cs))
+        ∙ length-in_order now.refs cs (outcomes_by_opening pinned pack cs) (length-map cs (judged pinned pack cs))
 
     by_collision : (o : Option ObjectId) → length (unless_collided o cs (unless_full (length (with_pack now.objects pack)) cs run)) ≡ length cs
     by_collision (Some id) = length-map cs (λ c. Collided id)
     by_collision None = by_full (nat_lt 4294967295 (length (with_pack now.objects pack)))
+
+-- what follows of a value follows of a result
+pub ok_along : (r : Result Decided NoMemory) (P Q : Decided → Type 0) → ((d : Decided) → P d → Q d) → IfOk r P → IfOk r Q
+ok_along (Ok d) P Q follows p = follows d p
+ok_along (Err e) P Q follows p = tt
+
+pub ok_along_both : (r : Result Decided NoMemory) (P Q R : Decided → Type 0) → ((d : Decided) → P d → Q d → R d) → IfOk r P → IfOk r Q → IfOk r R
+ok_along_both (Ok d) P Q R follows p q = follows d p q
+ok_along_both (Err e) P Q R follows p q = tt

@@ -20,7 +20,7 @@ use Rattle.hub_core.specs.declared.entry.Entry.{Entry}
 use Rattle.hub_core.specs.Name.{Name}
 use Rattle.hub_core.specs.State.{Repository, HasRefsApart, empty_repository}
 use Rattle.hub_core.specs.Pin.{Opening}
-use Rattle.hub_core.specs.Push.{judgement, by_directory, by_refs, refs_after, in_order, refs_left}
+use Rattle.hub_core.specs.Push.{outcomes_by_opening, by_directory, by_refs, refs_after, in_order, refs_left}
 use Rattle.hub_core.specs.Running.{FitsCommand, FitCommands}
 use Rattle.hub_core.specs.History.{IsLegal, replay}
 use Rattle.hub_core.specs.Hub.{Stands}
@@ -142,8 +142,8 @@ IsApart repository = HasRefsApart repository.refs
 
 apart-pushed : IsKept IsApart
 apart-pushed now pinned pack commands atomic within apart done =
-    subst (λ (os : List Outcome). HasRefsApart (refs_left now.refs commands os)) (sym (done_in_order now pack commands atomic (judgement pinned pack commands) done).1)
-    (apart-left now.refs commands (judgement pinned pack commands) (judgement_fits pinned pack commands) apart)
+    subst (λ (os : List Outcome). HasRefsApart (refs_left now.refs commands os)) (sym (done_in_order now pack commands atomic (outcomes_by_opening pinned pack commands) done).1)
+    (apart-left now.refs commands (outcomes_by_opening pinned pack commands) (judgement_fits pinned pack commands) apart)
 
 apart-empty : (creator : Option Name) → IsApart (empty_repository creator)
 apart-empty creator name some = let bad : false ≡ true = ap is_some (sym (get-empty {X = ObjectId} (slice_cmp nat_cmp) name)) ∙ some in cc

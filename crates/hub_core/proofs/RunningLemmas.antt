@@ -25,7 +25,7 @@ use Rattle.hub_core.specs.declared.outcome.Outcome.{Outcome}
 use Rattle.hub_core.specs.declared.outcome.Outcome.TheVariants.{Done, BadName, Twice, NotAdvertised, Stale, DirFile}
 use Rattle.hub_core.specs.Name.{same_name}
 use Rattle.hub_core.specs.Pin.{Pinned}
-use Rattle.hub_core.specs.Push.{judged, judgement, is_named_twice, kind_at, by_walk, is_done, by_directory, by_refs, refs_after}
+use Rattle.hub_core.specs.Push.{judged, outcomes_by_opening, is_named_twice, kind_at, by_walk, is_done, by_directory, by_refs, refs_after}
 use Rattle.hub_core.specs.Running.{FitsCommand, FitCommands, kept_of, Counts}
 
 judged_fits : (pinned : Pinned) (pack : List Content) (cs : List Command) (c : Command) → FitsCommand c (judged pinned pack cs c)
@@ -46,8 +46,8 @@ judged_fits pinned pack cs c =
     by_tests true is false true true m w = is
     by_tests true is false true false m w = by_found is m w
 
--- a push's own judgement fits
-pub judgement_fits : (pinned : Pinned) (pack : List Content) (commands : List Command) → FitCommands commands (judgement pinned pack commands)
+-- a push's own outcomes_by_opening fits
+pub judgement_fits : (pinned : Pinned) (pack : List Content) (commands : List Command) → FitCommands commands (outcomes_by_opening pinned pack commands)
 judgement_fits pinned pack commands = each commands
   where
     each : (cs : List Command) → FitCommands cs (map (judged pinned pack commands) cs)

@@ -16,7 +16,7 @@ use Rattle.hub_core.specs.declared.entry.Entry.{Entry}
 use Rattle.hub_core.specs.Name.{Name, same_name}
 use Rattle.hub_core.specs.State.{HasShortNames, Repository}
 use Rattle.hub_core.specs.Pin.{Opening}
-use Rattle.hub_core.specs.Push.{judgement, outcomes_in, is_done, refs_after, refs_left}
+use Rattle.hub_core.specs.Push.{outcomes_by_opening, outcomes_in, is_done, refs_after, refs_left}
 use Rattle.hub_core.specs.Hub.{Stands}
 use Rattle.hub_core.specs.History.{IsLegal, replay}
 use Rattle.hub_core.proofs.EachRepository.{Each, IsKept, each_replayed, each_pinned}
@@ -89,7 +89,7 @@ abbrev IsShortNamed : Repository → Type 0
 IsShortNamed repository = HasShort repository.refs
 
 short-pushed : IsKept IsShortNamed
-short-pushed now pinned pack commands atomic within short done = short-left now.refs commands (outcomes_in now pack commands atomic (judgement pinned pack commands)) within.short short
+short-pushed now pinned pack commands atomic within short done = short-left now.refs commands (outcomes_in now pack commands atomic (outcomes_by_opening pinned pack commands)) within.short short
 
 replayed_short : (admin : Name) (log : List Entry) → IsLegal admin log → Each IsShortNamed (replay admin log).repositories
 replayed_short = each_replayed IsShortNamed (λ creator. short-empty) short-pushed

@@ -1,5 +1,5 @@
 -- Each ref's value is whole in its repository.
-use Rattle.std.proofs.Common.{◌≡◌, ◌⊎◌, inl, inr, ℕ, zero, suc, List, [], ◌∷◌, ◌++◌, refl, sym, ◌∙◌, ap, subst, T, Bool, true, false, not, cond, map, append_assoc, append-nil}
+use Rattle.std.proofs.Common.{◌≡◌, ◌⊎◌, inl, inr, ℕ, zero, suc, List, [], ◌∷◌, ◌++◌, refl, sym, ◌∙◌, ap, subst, T, Bool, true, false, not, cond, map, append_assoc, append-nil, length, arith, length-append}
 use Rattle.std.specs.Prelude.{Option, Some, None, if◌then◌else◌}
 use Rattle.std.specs.List.{list_any, slice_get}
 use Rattle.std.specs.Option.{unwrap_or}
@@ -29,7 +29,7 @@ use Rattle.hub_core.specs.Name.{Name}
 use Rattle.hub_core.specs.Rule.{first_stage}
 use Rattle.hub_core.specs.State.{Repository, State, rules_of, changed, repository_at, empty_repository, put_in_place}
 use Rattle.hub_core.specs.Pin.{Opening, Pinned, answer_to, answer_by, by_verdict, made_by, pins}
-use Rattle.hub_core.specs.Push.{is_named_twice, kind_at, by_walk, judged, judgement, by_refs, is_done, refs_after, in_order, outcomes_in, refs_left, HasWholeRefs}
+use Rattle.hub_core.specs.Push.{is_named_twice, kind_at, by_walk, judged, outcomes_by_opening, by_refs, is_done, refs_after, in_order, outcomes_in, refs_left, HasWholeRefs}
 use Rattle.hub_core.specs.Hub.{Stands}
 use Rattle.hub_core.specs.History.{History, new_history, after, after_push, step, pinned_by, joined, opening_at, outcomes_at, push_change, IsDue, IsDuePush, IsLegal, replay}
 use Rattle.hub_core.proofs.HistoryLemmas.{history-keeps}
@@ -107,14 +107,14 @@ module _ (objects : List Content) where
   whole-left judge moves refs (c ∷ cs) whole = whole-left judge moves (refs_after refs c (by_refs refs c (judge c))) cs (whole-after refs c (judge c) (moves c) whole)
 
 -- the one list begins with the other
-abbrev Begins : List Content → List Content → Type 0
+abbrev pub Begins : List Content → List Content → Type 0
 Begins old new = (more : List Content) × (new ≡ old ++ more)
 
 whole_pushed : (now : Repository) (pinned : Pinned) (pack : List Content) (cs : List Command) (atomic : Bool) → Begins pinned.repository.objects now.objects → HasWholeRefs now
-    → list_any is_done (outcomes_in now pack cs atomic (judgement pinned pack cs)) ≡ true
-    → WholeIn (with_pack now.objects pack) (refs_left now.refs cs (outcomes_in now pack cs atomic (judgement pinned pack cs)))
+    → list_any is_done (outcomes_in now pack cs atomic (outcomes_by_opening pinned pack cs)) ≡ true
+    → WholeIn (with_pack now.objects pack) (refs_left now.refs cs (outcomes_in now pack cs atomic (outcomes_by_opening pinned pack cs)))
 whole_pushed now pinned pack cs atomic begins whole done =
-    let ran = done_in_order now pack cs atomic (judgement pinned pack cs) done in
+    let ran = done_in_order now pack cs atomic (outcomes_by_opening pinned pack cs) done in
     let apart : collision (pinned.repository.objects ++ begins.0) pack ≡ None = ap (λ os. collision os pack) (sym begins.1) ∙ ran.0 in
     let extends : Extends (pinned.repository.objects ++ pack) (with_pack now.objects pack) =
     subst (λ (os : List Content). Extends (pinned.repository.objects ++ pack) (with_pack os pack)) (sym begins.1) (extends_beginning pinned.repository.objects begins.0 pack apart) in
@@ -235,3 +235,23 @@ whole_at admin log legal name = each_at HasWholeRefs (replay admin log) name (wh
 
 pub pinned_whole : (admin : Name) (log : List Entry) → IsLegal admin log → (opening : Opening) → Stands opening (record { admin = admin; log = log }) → HasWholeRefs opening.pinned.repository
 pinned_whole = each_pinned HasWholeRefs refs_whole (whole_empty None)
+
+-- the objects that an opening pinned are the first of those that are there now
+pub pinned_first : (admin : Name) (log : List Entry) → IsLegal admin log → (opening : Opening) → Stands opening (record { admin = admin; log = log }) → Begins opening.pinned.repository.objects (repository_at (replay admin log) opening.pinned.repo).objects
+pinned_first admin log legal opening stands =
+    (history-keeps StaysWhole stays_whole (new_history admin) log legal (each-start HasWholeRefs admin (whole_empty None), λ place p is. cc)).1 opening.place opening.pinned stands
+
+-- so with a pack that doesn't collide they have first what there is then
+pub pinned_extends : (old now pack : List Content) → Begins old now → collision now pack ≡ None → Extends (old ++ pack) (with_pack now pack)
+pinned_extends old now pack begins apart =
+    subst (λ (os : List Content). Extends (old ++ pack) (with_pack os pack)) (sym begins.1) (extends_beginning old begins.0 pack (ap (λ os. collision os pack) (sym begins.1) ∙ apart))
+
+-- where a beginning is as long as the whole, and no pack is behind it, it is the whole
+pub pinned_same : (old now pack : List Content) → Begins old now → length pack ≡ 0 → length old ≡ length now → old ++ pack ≡ now
+pinned_same old now pack begins none long =
+    let nothing : length begins.0 ≡ 0 = omega (arith, long, ap length begins.1, length-append old begins.0) in
+    ap (λ (os : List Content). old ++ os) (no_items pack none ∙ sym (no_items begins.0 nothing)) ∙ sym begins.1
+  where
+    no_items : (os : List Content) → length os ≡ 0 → os ≡ []
+    no_items [] is = refl
+    no_items (o ∷ os) is = absurd (omega (arith, is))

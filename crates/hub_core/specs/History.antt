@@ -11,7 +11,7 @@ use Rattle.hub_core.specs.declared.entry.Event.TheVariants.{Entered, Pushed}
 use Rattle.hub_core.specs.Name.{Name}
 use Rattle.hub_core.specs.State.{State, start, Change, changed, repository_at, put_in_place}
 use Rattle.hub_core.specs.Pin.{Pinned, answer_to, made_by, pins}
-use Rattle.hub_core.specs.Push.{AreWithinLimits, judgement, outcomes_in, landed}
+use Rattle.hub_core.specs.Push.{AreWithinLimits, outcomes_by_opening, outcomes_in, landed}
 
 -- what a log has led to: the state, and at each place of the log what the opening there pinned, if one stands there that pins
 pub record History : Type 0 where
@@ -28,7 +28,7 @@ opening_at h place = joined (slice_get h.openings place)
 
 -- the outcomes of a push after an opening, in a state
 unfoldable pub outcomes_at : State → Pinned → List Content → List Command → Bool → List Outcome
-outcomes_at state pinned pack commands atomic = outcomes_in (repository_at state pinned.repo) pack commands atomic (judgement pinned pack commands)
+outcomes_at state pinned pack commands atomic = outcomes_in (repository_at state pinned.repo) pack commands atomic (outcomes_by_opening pinned pack commands)
 
 -- what a push with these outcomes changes
 unfoldable pub push_change : State → Pinned → List Content → List Command → List Outcome → Change

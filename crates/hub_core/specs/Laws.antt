@@ -14,7 +14,7 @@ use Rattle.hub_core.specs.Name.{Name}
 use Rattle.ref_store.specs.Objects.{HasNamesOnce}
 use Rattle.hub_core.specs.State.{Repository, HasShortNames, HasRefsApart}
 use Rattle.hub_core.specs.Pin.{Opening, Pinned, pinned_in}
-use Rattle.hub_core.specs.Push.{AreWithinLimits, HasWholeRefs, judgement, outcomes_in}
+use Rattle.hub_core.specs.Push.{AreWithinLimits, HasWholeRefs, outcomes_by_opening, outcomes_in}
 use Rattle.hub_core.specs.History.{history, replay, opening_at, pinned_by, outcomes_at, IsDue, IsLegal}
 use Rattle.hub_core.specs.Hub.{HubView, Stands}
 use Rattle.hub_core.specs.Run.{IsRun, at_end, new_hub}
@@ -100,4 +100,4 @@ RefsStayApart =
 abbrev pub EachCommandIsTold : Type 0
 EachCommandIsTold =
     (now : Repository) (pinned : Pinned) (pack : List Content) (commands : List Command) (atomic : Bool)
-    → length (outcomes_in now pack commands atomic (judgement pinned pack commands)) ≡ length commands
+    → length (outcomes_in now pack commands atomic (outcomes_by_opening pinned pack commands)) ≡ length commands

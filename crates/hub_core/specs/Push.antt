@@ -58,8 +58,17 @@ judged_by pinned twice objects command =
 abbrev pub judged : Pinned → List Content → List Command → Command → Option Outcome
 judged pinned pack commands command = judged_by pinned (is_named_twice commands command.name) (pinned.repository.objects ++ pack) command
 
-abbrev pub judgement : Pinned → List Content → List Command → List (Option Outcome)
-judgement pinned pack commands = map (judged pinned pack commands) commands
+-- the outcome of each command by the opening, where there is one
+abbrev pub outcomes_by_opening : Pinned → List Content → List Command → List (Option Outcome)
+outcomes_by_opening pinned pack commands = map (judged pinned pack commands) commands
+
+-- a judgement: those outcomes, and the objects among which it was made, which are the repository's and behind them the pack's
+pub record Judgement : Type 0 where
+  pub outcomes : List (Option Outcome)
+  pub objects : List Content
+
+abbrev pub judgement : Pinned → List Content → List Command → Judgement
+judgement pinned pack commands = record { outcomes = outcomes_by_opening pinned pack commands; objects = pinned.repository.objects ++ pack }
 
 -- II. By the refs just before, as the push's earlier commands leave them
 
@@ -140,9 +149,13 @@ refs_left refs [] outcomes = refs
 refs_left refs (c ∷ cs) [] = refs
 refs_left refs (c ∷ cs) (o ∷ os) = refs_left (refs_after refs c o) cs os
 
--- the repository that a push leaves, where a command is done: the refs of the commands that are done, and the objects with the pack's
-abbrev pub landed : Repository → List Content → List Command → List Outcome → Option Repository
-landed now pack commands outcomes =
+-- the repository that a push leaves, where a command is done: the refs of the commands that are done, and these objects
+abbrev pub landed_with : Repository → List Content → List Command → List Outcome → Option Repository
+landed_with now objects commands outcomes =
     if list_any is_done outcomes
-    then Some (record now { objects = with_pack now.objects pack; refs = refs_left now.refs commands outcomes })
+    then Some (record now { objects = objects; refs = refs_left now.refs commands outcomes })
     else None
+
+-- the objects are its own with the pack's
+abbrev pub landed : Repository → List Content → List Command → List Outcome → Option Repository
+landed now pack commands outcomes = landed_with now (with_pack now.objects pack) commands outcomes

@@ -1,5 +1,5 @@
 // The hub.
-ghost use Rattle.std.specs.Prelude.{◌≡◌, ◌≤◌, ◌-◌, ◌^◌, min, [], IfOk, IfSome, length, None, OnErr, OnOk, Some};
+ghost use Rattle.std.specs.Prelude.{◌≡◌, ◌≤◌, ◌-◌, ◌^◌, min, [], IfOk, IfSome, length, None, OnErr, OnOk, Some, true};
 ghost use Rattle.std.specs.FinMap as map;
 ghost use Rattle.std.specs.Option.{option_copied, option_map, unwrap_or};
 ghost use Rattle.hub_core.specs.Name.{map_of};
@@ -256,9 +256,12 @@ impl Hub {
         ensures logs { IfOk result (λ os. self.new ≡ logged self.old caller (Event.Pushed pin.now.place pack commands atomic os)) }
         ensures err { OnErr result (self.new ≡ self.old) }
     {
-        let Decided { outcomes, next } = self.decide_now(
-            alloc, pin, &pack, &commands, atomic, &judged,
-        )?;
+        let Decided {
+            outcomes,
+            next,
+            same,
+        } = self.decide_now(alloc, pin, &pack, &commands, atomic, judged)?;
+        self.learn(pin.repo_name(), same)?;
         let told = outcomes.clone()?;
         let changes = in_place(alloc, pin.repo_name(), next)?;
         let event = Event::Pushed {
@@ -281,15 +284,37 @@ impl Hub {
         pack: &ObjectList,
         commands: &CommandList,
         atomic: bool,
-        judged: &Judged,
+        judged: Judged,
     ) -> Result<Decided, NoMemory>
+        requires stands { Stands pin.now self.now }
         requires few { length commands.now ≤ 10000 }
-        requires judged { judged.now ≡ judgement pin.now.pinned pack.now commands.now }
+        requires judged { judged ≡ judgement pin.now.pinned pack.now commands.now }
         ensures outcomes { IfOk result (λ d. d.outcomes ≡ outcomes_at (replay self.now.admin self.now.log) pin.now.pinned pack.now commands.now atomic) }
         ensures next { IfOk result (λ d. d.next ≡ landed (repository_at (replay self.now.admin self.now.log) pin.now.pinned.repo) pack.now commands.now d.outcomes) }
+        ensures same { IfOk result (λ d. IfSome d.same (λ same. same ≡ repository_at (replay self.now.admin self.now.log) pin.now.pinned.repo)) }
     {
+        // The admin is read for the invariant, that the log is legal, which the proof cites.
+        let _legal = &self.admin;
         let now = self.hosted(alloc, pin.repo_name())?;
-        decide(alloc, &now, judged.as_slice(), pack, commands, atomic)
+        let unchanged = is_unchanged(pin.repo(), now.repo(), pack);
+        decide(alloc, &now, judged, pack, commands, atomic, unchanged)
+    }
+
+    // Puts a repository in the place of its equal, of which less is known. Contracts see no change.
+    fn learn(&mut self, name: &RepoName, same: Option<HostedRepo>) -> Result<(), NoMemory>
+        requires { IfSome same (λ same. same ≡ repository_at (replay self.old.admin self.old.log) name.now) }
+        ensures { self.new ≡ self.old }
+    {
+        let Some(same) = same else {
+            return Ok(());
+        };
+        let Some(_) = self.repositories.get(name) else {
+            return Ok(());
+        };
+        let name = name.clone()?;
+        self.repositories.reserve(1)?;
+        self.repositories.put(name, same);
+        Ok(())
     }
 
     // The pin of the opening that will be the next entry.
@@ -328,6 +353,16 @@ impl Hub {
         };
         by_verdict(self.policy.first_stage(user, repo, want), allowed)
     }
+}
+
+// Whether a push without objects was judged by as many objects as there are now.
+fn is_unchanged(pinned: &Repo, now: &Repo, pack: &ObjectList) -> bool
+    ensures { result ≡ true → (length pack.now ≡ 0) × (length pinned.now.objects ≡ length now.now.objects) }
+{
+    if pack.len() > 0 {
+        return false;
+    }
+    pinned.count() == now.count()
 }
 
 fn by_verdict(verdict: Verdict, allowed: EnterKept) -> EnterKept

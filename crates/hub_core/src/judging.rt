@@ -1,47 +1,62 @@
 // Judging a push by its opening.
-ghost use Rattle.std.specs.Prelude.{◌≡◌, IfOk, None, false};
+ghost use Rattle.std.specs.Prelude.{◌≡◌, ◌++◌, IfOk, None, false};
 ghost use Rattle.std.specs.FinMap as map;
 ghost use Rattle.std.specs.Option.{option_map_or};
 ghost use Rattle.ancestry.specs.Wholeness.{missing, wrong};
 ghost use Rattle.hub_core.specs.Push.{by_walk, judged_by, judgement, kind_at};
-ghost use Rattle.std.specs.List.{All};
-ghost use Rattle.git_object.specs.declared.object_id.ObjectId.{ObjectId};
-ghost use Rattle.hub_core.specs.Name.{Name};
-ghost use Rattle.hub_core.specs.Running.{Counts, IsWhole};
+ghost use Rattle.ancestry.specs.Known.{AreKnown};
+ghost use Rattle.hub_core.specs.Running.{Counts};
 
 use crate::outcome::Outcome;
 use crate::pin::Pin;
-use ancestry::{Walks, Wholeness};
+use ancestry::{Findings, Known, Walks, Wholeness};
 use base_types::{NameMap, NoMemory};
 use git_object::{Kind, ObjectId, ObjectList};
 use ref_store::{Command, CommandList, Lens, RefName};
 use std::alloc::Global;
 use std::marker::Model;
 
-/// The outcome of each command of a push by its opening, the pack and the commands alone, where there is one.
+/// The outcome of each command of a push by its opening, the pack and the commands alone, where there is one; and what was found out on the way.
 #[derive(Drop)]
 pub struct Judged {
     outcomes: Vec<Option<Outcome>>,
+    lens: Lens,
+    findings: Findings,
 }
 
 impl Model for Judged {
-    ghost use Rattle.std.specs.Prelude.{List, Option};
-    ghost use Rattle.hub_core.specs.declared.outcome.Outcome.{Outcome};
+    ghost use Rattle.ancestry.specs.Known.{AreFound};
+    ghost use Rattle.hub_core.specs.Push.{Judgement};
 
-    ghost Value = { List (Option Outcome) };
+    ghost Value = { Judgement };
 
-    ghost view = { λ j. j.outcomes.items };
+    ghost view = { λ j. record { outcomes = j.outcomes.items; objects = j.lens } };
+
+    ghost invariant = { λ j. AreFound j.lens j.findings };
 }
 
 impl Judged {
-    pub(crate) fn as_slice(&self) -> &[Option<Outcome>]
-        ensures { result.now ≡ self.now }
+    ghost use Rattle.ancestry.specs.Known.{AreFound};
+
+    pub(crate) fn outcomes(&self) -> &[Option<Outcome>]
+        ensures { result.now ≡ self.now.outcomes }
     {
         &self.outcomes
     }
+
+    pub(crate) fn into_findings(self) -> Findings
+        ensures { AreFound self.objects result }
+    {
+        let Judged {
+            outcomes: _,
+            lens: _,
+            findings,
+        } = self;
+        findings
+    }
 }
 
-/// Judges each command of a push. The hub isn't looked at, so nothing needs to be held meanwhile. It costs the refs of the opening and the objects that new values lead to before they come to those refs' values. Each of those objects is visited once, whatever the number of commands and whatever they are told; only where links lead in a circle does each command walk by itself, along all that it meets.
+/// Judges each command of a push. The hub isn't looked at, so nothing needs to be held meanwhile. It costs the pack, and the objects that new values lead to before they come to what an earlier push found to be whole. Each of those objects is visited once, whatever the number of commands and whatever they are told; only where links lead in a circle does each command walk by itself, along all that it meets.
 pub fn judge(
     alloc: Global,
     pin: &Pin,
@@ -51,26 +66,30 @@ pub fn judge(
     ensures { IfOk result (λ j. j ≡ judgement pin.now.pinned pack.now commands.now) }
 {
     let lens = Lens::new(alloc, pin.repo(), pack)?;
-    let mut walks = Walks::new(alloc, &lens);
-    trust_refs(pin, &mut walks)?;
+    let known = known_with(alloc, pin, pack)?;
+    let mut walks = Walks::knowing(alloc, &lens, known);
     let names = names_of(alloc, commands.as_slice())?;
     let mut outcomes = Vec::with_capacity(alloc, commands.len())?;
     for command in commands.as_slice() {
         let twice = is_named_twice(&names, command);
         outcomes.push(judge_one(pin, twice, &mut walks, command)?)?;
     }
-    Ok(Judged { outcomes })
+    let findings = walks.into_findings();
+    Ok(Judged {
+        outcomes,
+        lens,
+        findings,
+    })
 }
 
-// What the refs of the opening lead to is all there, and is not walked again.
-fn trust_refs(pin: &Pin, walks: &mut Walks<'_>) -> Result<(), NoMemory>
-    requires { All (λ (e : Name × ObjectId). IsWhole walks.old e.1 None) (map.entries pin.now.pinned.repository.refs) }
-    ensures { walks.new ≡ walks.old }
+// What is known of the opening's objects with those of a pack behind them.
+fn known_with(alloc: Global, pin: &Pin, pack: &ObjectList) -> Result<Known, NoMemory>
+    ensures { IfOk result (AreKnown (pin.now.pinned.repository.objects ++ pack.now)) }
 {
-    for (_, id) in pin.repo().refs() {
-        walks.trust(*id)?;
+    if pack.is_empty() {
+        return Ok(pin.known().clone()?);
     }
-    Ok(())
+    pin.known().grown(alloc)
 }
 
 // The refs of the commands, each with whether there are several commands for it.

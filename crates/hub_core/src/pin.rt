@@ -7,6 +7,7 @@ use crate::name::{RepoName, UserName};
 use crate::rule::Policy;
 use crate::state::HostedRepo;
 use crate::verdict::Want;
+use ancestry::Known;
 use ref_store::Repo;
 use std::marker::Model;
 
@@ -36,6 +37,8 @@ impl Model for Pin {
 }
 
 impl Pin {
+    ghost use Rattle.ancestry.specs.Known.{AreKnown};
+
     pub(crate) fn new(
         place: u64,
         user: UserName,
@@ -82,6 +85,13 @@ impl Pin {
         ensures whole { HasWholeRefs self.now.pinned.repository }
     {
         self.hosted.repo()
+    }
+
+    // What is known of the repository's objects.
+    pub(crate) fn known(&self) -> &Known
+        ensures { AreKnown self.now.pinned.repository.objects result.now }
+    {
+        self.hosted.known()
     }
 
     pub fn policy(&self) -> &Policy

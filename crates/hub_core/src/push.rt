@@ -1,60 +1,133 @@
 // What a push does to a repository.
-ghost use Rattle.std.specs.Prelude.{◌≡◌, ◌<◌, ◌≤◌, ◌^◌, if◌then◌else◌, IfOk, IfSome, length, map, None, not, OnOk, Some, true};
+ghost use Rattle.std.specs.Prelude.{◌≡◌, ◌+◌, ◌++◌, ◌<◌, ◌≤◌, ◌^◌, IfOk, IfSome, length, map, None, not, OnOk, Some, true};
 ghost use Rattle.std.specs.List.{list_any, position};
 ghost use Rattle.ref_store.specs.RefName.{is_ref_name};
-ghost use Rattle.hub_core.specs.Push.{beside, by_refs, in_order, is_done, landed, outcomes_in, refs_after, refs_left, together};
+ghost use Rattle.ref_store.specs.Objects.{HasNamesOnce, with_pack};
+ghost use Rattle.ancestry.specs.Known.{Extends};
+ghost use Rattle.hub_core.specs.Collision.{collision};
+ghost use Rattle.hub_core.specs.Push.{beside, by_refs, in_order, is_done, landed, landed_with, outcomes_in, refs_after, refs_left, together};
 ghost use Rattle.hub_core.specs.Running.{FitCommands, FitsCommand};
 
+use crate::judging::Judged;
 use crate::outcome::{Outcome, OutcomeList};
 use crate::state::HostedRepo;
 use base_types::NoMemory;
 use git_object::ObjectList;
-use ref_store::{Added, Applied, Command, CommandList, RefName, Repo};
+use ref_store::{Applied, Command, CommandList, Compared, FreshObjects, RefName, Repo};
 use std::alloc::Global;
 
-/// The outcomes of a push, and the repository that it leaves where a command is done.
+/// The outcomes of a push, and the repository that it leaves where a command is done. Where none is, and what was found out on the way is right
+/// for the repository as it is, that one with more known of it.
 #[derive(Drop)]
 pub struct Decided {
     pub outcomes: OutcomeList,
     pub next: Option<HostedRepo>,
+    pub same: Option<HostedRepo>,
 }
 
-/// Decides a push into a repository as it is just before.
+/// Decides a push into a repository as it is just before. Where no command is done nothing is built: it costs a look-up of each of the pack's
+/// objects then, and the commands. `unchanged` tells that the push was judged by just the objects that are there now.
 pub fn decide(
     alloc: Global,
     now: &HostedRepo,
-    judged: &[Option<Outcome>],
+    judged: Judged,
     pack: &ObjectList,
     commands: &CommandList,
     atomic: bool,
+    unchanged: bool,
 ) -> Result<Decided, NoMemory>
-    requires alike { length judged.now ≡ length commands.now }
+    requires alike { length judged.outcomes ≡ length commands.now }
     requires few { length commands.now ≤ 10000 }
-    requires fit { FitCommands commands.now judged.now }
-    ensures outcomes { IfOk result (λ d. d.outcomes ≡ outcomes_in now.now pack.now commands.now atomic judged.now) }
+    requires fit { FitCommands commands.now judged.outcomes }
+    requires among { collision now.now.objects pack.now ≡ None → Extends judged.objects (with_pack now.now.objects pack.now) }
+    requires unchanged { unchanged ≡ true → judged.objects ≡ now.now.objects }
+    ensures outcomes { IfOk result (λ d. d.outcomes ≡ outcomes_in now.now pack.now commands.now atomic judged.outcomes) }
     ensures next { IfOk result (λ d. d.next ≡ landed now.now pack.now commands.now d.outcomes) }
+    ensures same { IfOk result (λ d. IfSome d.same (λ same. same ≡ now.now)) }
+{
+    // `count` is called for its clause that no two objects have one name, which the proof cites.
+    let _count = now.repo().count();
+    match now.repo().compare(pack) {
+        Compared::Fresh(fresh) => decide_with(
+            alloc, now, judged, fresh, commands, atomic, unchanged,
+        ),
+        Compared::Collision { id, .. } => refuse_all(alloc, commands, &Outcome::Collided(id)),
+        Compared::Full(count) => refuse_all(alloc, commands, &Outcome::Full(count)),
+        Compared::NoMemory => Err(NoMemory),
+    }
+}
+
+// Every command of a push has this outcome.
+fn refuse_all(alloc: Global, commands: &CommandList, outcome: &Outcome) -> Result<Decided, NoMemory>
+    ensures outcomes { IfOk result (λ d. d.outcomes ≡ map (λ c. outcome.now) commands.now) }
+    ensures next { IfOk result (λ d. d.next ≡ None) }
+    ensures same { IfOk result (λ d. d.same ≡ None) }
+{
+    Ok(Decided {
+        outcomes: alike(alloc, commands, outcome)?,
+        next: None,
+        same: None,
+    })
+}
+
+// Decides a push whose pack has these fresh objects.
+fn decide_with(
+    alloc: Global,
+    now: &HostedRepo,
+    judged: Judged,
+    fresh: FreshObjects,
+    commands: &CommandList,
+    atomic: bool,
+    unchanged: bool,
+) -> Result<Decided, NoMemory>
+    requires alike { length judged.outcomes ≡ length commands.now }
+    requires few { length commands.now ≤ 10000 }
+    requires fit { FitCommands commands.now judged.outcomes }
+    requires names { HasNamesOnce (now.now.objects ++ fresh) }
+    requires room { length now.now.objects + length fresh ≤ 4294967295 }
+    requires among { Extends judged.objects (now.now.objects ++ fresh) }
+    requires unchanged { unchanged ≡ true → judged.objects ≡ now.now.objects }
+    ensures outcomes { IfOk result (λ d. d.outcomes ≡ together atomic (in_order now.now.refs commands.now judged.outcomes)) }
+    ensures next { IfOk result (λ d. d.next ≡ landed_with now.now (now.now.objects ++ fresh) commands.now d.outcomes) }
+    ensures same { IfOk result (λ d. IfSome d.same (λ same. same ≡ now.now)) }
 {
     let mut repo = now.repo().copy()?;
-    // A count tells that no two objects have one name.
-    let _count = repo.count();
-    match repo.add_objects(pack) {
-        Added::Added => {}
-        Added::Collision { id, .. } => {
-            let outcomes = alike(alloc, commands, &Outcome::Collided(id))?;
-            let next = None;
-            return Ok(Decided { outcomes, next });
-        }
-        Added::Full(count) => {
-            let outcomes = alike(alloc, commands, &Outcome::Full(count))?;
-            let next = None;
-            return Ok(Decided { outcomes, next });
-        }
-        Added::NoMemory => return Err(NoMemory),
-    }
-    let ran = run(alloc, &mut repo, judged, commands.as_slice())?;
+    let ran = run(alloc, &mut repo, judged.outcomes(), commands.as_slice())?;
     let outcomes = together(alloc, atomic, ran)?;
-    let next = land(alloc, now, repo, &outcomes)?;
-    Ok(Decided { outcomes, next })
+    if !any_done(&outcomes) {
+        let next = None;
+        let same = remember(alloc, now, judged, unchanged)?;
+        return Ok(Decided {
+            outcomes,
+            next,
+            same,
+        });
+    }
+    let next = Some(land(alloc, now, repo, fresh, judged)?);
+    let same = None;
+    Ok(Decided {
+        outcomes,
+        next,
+        same,
+    })
+}
+
+// The repository as it is, with what a push found out that was judged by its objects alone.
+fn remember(
+    alloc: Global,
+    now: &HostedRepo,
+    judged: Judged,
+    unchanged: bool,
+) -> Result<Option<HostedRepo>, NoMemory>
+    requires { unchanged ≡ true → judged.objects ≡ now.now.objects }
+    ensures { IfOk result (λ same. IfSome same (λ same. same ≡ now.now)) }
+{
+    if !unchanged {
+        return Ok(None);
+    }
+    let known = now.known().with(alloc, judged.into_findings())?;
+    let repo = now.repo().copy()?;
+    Ok(Some(now.with_repo(alloc, repo, known)?))
 }
 
 // The commands in order, over the refs as the earlier ones left them.
@@ -160,19 +233,23 @@ fn alike(alloc: Global, commands: &CommandList, outcome: &Outcome) -> Result<Out
     Ok(list)
 }
 
-// The repository that is left, where a command is done.
+// The repository that is left where a command is done: with these refs, and with the fresh objects added.
 fn land(
     alloc: Global,
     now: &HostedRepo,
-    repo: Repo,
-    outcomes: &OutcomeList,
-) -> Result<Option<HostedRepo>, NoMemory>
-    ensures { IfOk result (λ next. next ≡ (if list_any is_done outcomes.now then Some (record { objects = repo.objects; refs = repo.refs; creator = now.now.creator; roles = now.now.roles }) else None)) }
+    mut repo: Repo,
+    fresh: FreshObjects,
+    judged: Judged,
+) -> Result<HostedRepo, NoMemory>
+    requires objects { repo.objects ≡ now.now.objects }
+    requires names { HasNamesOnce (now.now.objects ++ fresh) }
+    requires room { length now.now.objects + length fresh ≤ 4294967295 }
+    requires among { Extends judged.objects (now.now.objects ++ fresh) }
+    ensures { IfOk result (λ next. next ≡ record { objects = now.now.objects ++ fresh; refs = repo.refs; creator = now.now.creator; roles = now.now.roles }) }
 {
-    if any_done(outcomes) {
-        return Ok(Some(now.with_repo(alloc, repo)?));
-    }
-    Ok(None)
+    repo.add(fresh)?;
+    let known = now.known().grown_with(alloc, judged.into_findings())?;
+    now.with_repo(alloc, repo, known)
 }
 
 fn any_done(outcomes: &OutcomeList) -> bool

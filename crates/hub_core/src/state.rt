@@ -3,6 +3,7 @@ ghost use Rattle.std.specs.Prelude.{◌≡◌, [], IfOk};
 ghost use Rattle.hub_core.specs.State.{store_of};
 
 use crate::name::UserName;
+use ancestry::Known;
 use base_types::NoMemory;
 use ref_store::Repo;
 use std::alloc::{AllocError, Global};
@@ -19,6 +20,8 @@ pub struct HostedRepo {
 struct Hosted {
     repo: Repo,
     creator: Option<UserName>,
+    // What earlier pushes found out about the objects, which contracts don't see.
+    known: Known,
 }
 
 impl Model for HostedRepo {
@@ -31,15 +34,40 @@ impl Model for HostedRepo {
 
     ghost coded = { coded_repository };
 
+    ghost use Rattle.ancestry.specs.Known.{AreKnown};
+
+    ghost invariant = { λ h. AreKnown (arc_value h.shared).repo.objects (arc_value h.shared).known };
+
     ghost view = { λ h. record { objects = (arc_value h.shared).repo.objects; refs = (arc_value h.shared).repo.refs; creator = (arc_value h.shared).creator; roles = [] } };
 }
 
 impl HostedRepo {
+    ghost use Rattle.ancestry.specs.Known.{AreKnown};
+
+    /// A repository of whose objects nothing is known yet.
     pub fn new(alloc: Global, repo: Repo, creator: Option<UserName>) -> Result<HostedRepo, NoMemory>
         ensures { IfOk result (λ h. h ≡ record { objects = repo.objects; refs = repo.refs; creator = creator; roles = [] }) }
     {
-        let shared = Arc::new(alloc, Hosted { repo, creator })?;
-        Ok(HostedRepo { shared })
+        HostedRepo::knowing(alloc, repo, creator, Known::nothing(alloc))
+    }
+
+    fn knowing(
+        alloc: Global,
+        repo: Repo,
+        creator: Option<UserName>,
+        known: Known,
+    ) -> Result<HostedRepo, NoMemory>
+        requires { AreKnown repo.objects known }
+        ensures { IfOk result (λ h. h ≡ record { objects = repo.objects; refs = repo.refs; creator = creator; roles = [] }) }
+    {
+        let hosted = Hosted {
+            repo,
+            creator,
+            known,
+        };
+        Ok(HostedRepo {
+            shared: Arc::new(alloc, hosted)?,
+        })
     }
 
     pub fn repo(&self) -> &Repo
@@ -48,15 +76,23 @@ impl HostedRepo {
         &self.shared.repo
     }
 
-    /// The same creator, with other objects and refs.
-    pub fn with_repo(&self, alloc: Global, repo: Repo) -> Result<HostedRepo, NoMemory>
+    /// What earlier pushes found out about the objects.
+    pub fn known(&self) -> &Known
+        ensures { AreKnown self.now.objects result.now }
+    {
+        &self.shared.known
+    }
+
+    /// The same creator, with other objects and refs, and with what is known of those objects.
+    pub fn with_repo(&self, alloc: Global, repo: Repo, known: Known) -> Result<HostedRepo, NoMemory>
+        requires { AreKnown repo.objects known }
         ensures { IfOk result (λ h. h ≡ record { objects = repo.objects; refs = repo.refs; creator = self.now.creator; roles = self.now.roles }) }
     {
         let creator = match &self.shared.creator {
             Some(name) => Some(name.clone()?),
             None => None,
         };
-        HostedRepo::new(alloc, repo, creator)
+        HostedRepo::knowing(alloc, repo, creator, known)
     }
 }
 

@@ -160,6 +160,15 @@ place_old xs o i there id = by_place (place_of xs id) refl (same_id id (object_n
     by_place None none false other = place_behind xs (o ∷ []) id none ∙ ap (λ b. option_map (λ i. length xs + i) (cond b (Some 0) None)) other ∙ sym none
     by_place (Some j) some b is = place_kept xs (o ∷ []) id j some ∙ sym some
 
+-- an object more whose name is there, which is put back in its place
+pub place_back : (xs : List Content) (o : Content) (i at : ℕ) → place_of xs (object_name o) ≡ Some i → (id : ObjectId)
+    → cond (same_id (object_name o) id) (Some i) (cond (same_id (object_name o) id) (Some at) (place_of xs id)) ≡ place_of (xs ++ o ∷ []) id
+place_back xs o i at there id = by_name (same_id (object_name o) id) refl ∙ sym (place_old xs o i there id)
+  where
+    by_name : (b : Bool) → same_id (object_name o) id ≡ b → cond b (Some i) (cond b (Some at) (place_of xs id)) ≡ place_of xs id
+    by_name true same = let e = id_is (object_name o) id same in sym there ∙ ap (place_of xs) e
+    by_name false other = refl
+
 pub absent_from : (p : Option ℕ) → is_some p ≡ false → p ≡ None
 absent_from None is = refl
 absent_from (Some i) is = cc

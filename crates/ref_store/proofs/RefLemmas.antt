@@ -4,6 +4,7 @@ use Rattle.std.proofs.lemmas.Bool.Decides.{nat_tests}
 use Rattle.std.proofs.lemmas.Cmp.{nat_cmp_total, nat_list_cmp_total, tied_itself}
 use Rattle.std.proofs.lemmas.List.{take-append-drop, drop_more, take_at, get_or_at, take-take}
 use Rattle.std.specs.Prelude.{IsSome}
+use Rattle.std.specs.Option.{unwrap_or}
 use Rattle.std.specs.BTreeMap.{BTreeMap}
 use Rattle.std.specs.BTreeMap.Range.{IsRangeOf}
 use Rattle.std.specs.declared.ops.Bound.TheVariants.{Included, Unbounded}
@@ -15,12 +16,12 @@ use Rattle.std.specs.FinMap.{get, from_entries, insert, remove, empty, get-inser
 use lib.Pointwise.{pointwise}
 use Rattle.base_types.proofs.NameMaps.{get-entries}
 use Rattle.git_object.specs.declared.object_id.ObjectId.{ObjectId}
-use Rattle.ref_store.specs.Refs.{Name, Refs, zero_id, moved, HasRefNames, IsLe, IsLeastFrom, IsLeastAtOdds, HasNoneAtOdds}
+use Rattle.ref_store.specs.Refs.{Name, Refs, zero_id, value, moved, HasRefNames, HasNoZero, IsLe, IsLeastFrom, IsLeastAtOdds, HasNoneAtOdds}
 use Rattle.std.specs.Cmp.Lexicographic.{texts_ties}
 use Rattle.ref_store.specs.Objects.{same_id}
 use Rattle.ref_store.specs.RefName.{is_ref_name}
 use Rattle.ref_store.specs.Odds.{HasNoDirectory}
-use Rattle.ref_store.proofs.ObjectLemmas.{same_bytes}
+use Rattle.ref_store.proofs.ObjectLemmas.{same_bytes, id_itself}
 
 some_is : (o : Option ObjectId) (id : ObjectId) → o ≡ Some id → IsSome o
 some_is None id is = cc
@@ -155,6 +156,26 @@ one_ref_less refs name all q some = by_name (eq_by_cmp (slice_cmp nat_cmp) q nam
     by_name : (b : Bool) → IsSome (cond b None (get refs q)) → is_ref_name q ≡ true
     by_name true here = let bad : false ≡ true = here in cc
     by_name false here = all q here
+
+pub no_zero : HasNoZero empty
+no_zero q id is = let none = get-empty {X = ObjectId} (slice_cmp nat_cmp) q in absurd (cc (none, is))
+
+pub no_zero_more : (refs : Refs) (name : Name) (new : ObjectId) → same_id new zero_id ≡ false → HasNoZero refs → HasNoZero (insert refs name new)
+no_zero_more refs name new other all q id is zero = by_name (eq_by_cmp (slice_cmp nat_cmp) q name) (sym (get-insert nat_list_cmp_total refs name new q) ∙ is)
+  where
+    by_name : (b : Bool) → cond b (Some new) (get refs q) ≡ Some id → ⊥
+    by_name true here =
+        let e : new ≡ id = cc in
+        let same : same_id new zero_id ≡ true = ap (λ (i : ObjectId). same_id i zero_id) (e ∙ zero) ∙ id_itself zero_id in
+        cc (same, other)
+    by_name false here = all q id here zero
+
+pub no_zero_less : (refs : Refs) (name : Name) → HasNoZero refs → HasNoZero (remove refs name)
+no_zero_less refs name all q id is zero = by_name (eq_by_cmp (slice_cmp nat_cmp) q name) (sym (get-remove nat_list_cmp_total refs name q) ∙ is)
+  where
+    by_name : (b : Bool) → cond b None (get refs q) ≡ Some id → ⊥
+    by_name true here = cc here
+    by_name false here = all q id here zero
 
 -- a value that isn't zero is put in place
 pub moved_some : (refs : Refs) (name : Name) (new : ObjectId) → same_id new zero_id ≡ false → insert refs name new ≡ moved refs name new

@@ -32,6 +32,10 @@ moved refs name new = if same_id new zero_id then remove refs name else insert r
 abbrev pub HasRefNames : Refs → Type 0
 HasRefNames refs = (q : Name) → IsSome (get refs q) → is_ref_name q ≡ true
 
+-- no ref has the value zero, which stands for none
+abbrev pub HasNoZero : Refs → Type 0
+HasNoZero refs = (q : Name) (id : ObjectId) → get refs q ≡ Some id → ¬ (id ≡ zero_id)
+
 -- in byte order
 abbrev pub IsLe : Name → Name → Type 0
 IsLe a b = is_gt (slice_cmp nat_cmp a b) ≡ false

@@ -1,12 +1,14 @@
 -- What a repository stores, and what adding a pack's objects and moving a ref tell and leave.
-use Rattle.std.specs.Prelude.{◌≡◌, ◌<◌, ◌≤◌, length, List, ◌++◌}
+use Rattle.std.specs.Prelude.{◌≡◌, ◌+◌, ◌<◌, ◌≤◌, length, List, ◌++◌}
 use Rattle.git_object.specs.Content.{Content}
 use Rattle.git_object.specs.declared.object_id.ObjectId.{ObjectId}
+use Rattle.ref_store.specs.declared.repo.Compared as compared
+use Rattle.ref_store.specs.declared.repo.Compared.TheVariants as beside
 use Rattle.ref_store.specs.declared.repo.Added as added
 use Rattle.ref_store.specs.declared.repo.Added.TheVariants as told
 use Rattle.ref_store.specs.declared.repo.Applied as applied
 use Rattle.ref_store.specs.declared.repo.Applied.TheVariants as moving
-use Rattle.ref_store.specs.Refs.{Name, Refs, zero_id, value, moved, HasRefNames, HasNoneAtOdds, IsLeastAtOdds}
+use Rattle.ref_store.specs.Refs.{Name, Refs, zero_id, value, moved, HasRefNames, HasNoZero, HasNoneAtOdds, IsLeastAtOdds}
 use Rattle.ref_store.specs.Objects.{with_pack, HasNamesOnce, HasNoCollision, IsFirstCollision}
 
 -- objects, in the order in which they came, and refs
@@ -14,10 +16,18 @@ pub record Store : Type 0 where
   pub objects : List Content
   pub refs : Refs
 
--- what a repository keeps: no two objects of one name, and only names that a ref may have
+-- what a repository keeps: no two objects of one name, only names that a ref may have, and no ref at zero
 pub record IsSound (store : Store) : Type 0 where
   pub names : HasNamesOnce store.objects
   pub refs : HasRefNames store.refs
+  pub values : HasNoZero store.refs
+
+-- what is told of a pack beside the objects that are there: where two objects of one name differ that is told; else, where there would be more than 4,294,967,295, how many there would be; else which ones to add
+abbrev pub TellsOfComparing : List Content → List Content → compared.Compared → Type 0
+TellsOfComparing objects pack (beside.Fresh fresh) = HasNoCollision (objects ++ pack) × (with_pack objects pack ≡ objects ++ fresh) × HasNamesOnce (objects ++ fresh) × (length objects + length fresh ≤ 4294967295)
+TellsOfComparing objects pack (beside.Collision id kept given) = IsFirstCollision (objects ++ pack) id kept given
+TellsOfComparing objects pack (beside.Full count) = HasNoCollision (objects ++ pack) × (count ≡ length (with_pack objects pack)) × (4294967295 < count)
+TellsOfComparing objects pack beside.NoMemory = Unit {0}
 
 -- what is told of adding a pack's objects: where two objects of one name differ that is told; else, where there would be more than 4,294,967,295, how many there would be
 abbrev pub TellsOfAdding : List Content → List Content → added.Added → Type 0

@@ -22,7 +22,7 @@ pub enum Lacking {
 }
 
 /// Goes through a pack beside the objects that are there.
-pub fn compare(alloc: Global, kept: &Segments, pack: &[Object]) -> Result<Lacking, NoMemory>
+pub fn find_lacking(alloc: Global, kept: &Segments, pack: &[Object]) -> Result<Lacking, NoMemory>
     requires { HasNamesOnce (all_of kept.now) }
     ensures { IfOk result (λ l. TellsOfPack (all_of kept.now) pack.now l) }
 {
@@ -31,12 +31,7 @@ pub fn compare(alloc: Global, kept: &Segments, pack: &[Object]) -> Result<Lackin
 }
 
 // The objects of the pack in order, each beside the first of its name.
-fn walk(
-    alloc: Global,
-    lens: &Lens<'_>,
-    kept: &Segments,
-    pack: &[Object],
-) -> Result<Lacking, NoMemory>
+fn walk(alloc: Global, lens: &Lens, kept: &Segments, pack: &[Object]) -> Result<Lacking, NoMemory>
     requires names { HasNamesOnce (all_of kept.now) }
     requires lens { lens.now ≡ all_of kept.now ++ pack.now }
     ensures { IfOk result (λ l. TellsOfPack (all_of kept.now) pack.now l) }

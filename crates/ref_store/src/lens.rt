@@ -6,46 +6,49 @@ ghost use Rattle.ref_store.specs.Segments.{all_of};
 
 use crate::object_table::ObjectTable;
 use crate::repo::Repo;
+use crate::salt::Salt;
 use crate::segments::Segments;
 use base_types::NoMemory;
 use git_object::{Object, ObjectId, ObjectList};
 use std::alloc::Global;
 use std::marker::Model;
 
-/// The objects of a repository, and behind them those of a pack that isn't added.
+/// The objects of a repository, and behind them those of a pack that isn't added. It shares them, so it sees nothing that comes later.
 #[derive(Drop)]
-pub struct Lens<'a> {
-    kept: &'a Segments,
+pub struct Lens {
+    kept: Segments,
     pack: ObjectTable,
 }
 
-impl<'a> Model for Lens<'a> {
+impl Model for Lens {
     ghost use Rattle.std.specs.Prelude.{List, ◌++◌};
     ghost use Rattle.git_object.specs.Content.{Content};
     ghost use Rattle.ref_store.specs.Segments.{all_of};
 
     ghost Value = { List Content };
 
-    ghost view = { λ l. all_of l.kept.now ++ l.pack };
+    ghost view = { λ l. all_of l.kept ++ l.pack };
 }
 
-impl<'a> Lens<'a> {
-    /// Holds handles of the pack's objects; their bodies are shared.
-    pub fn new(alloc: Global, repo: &'a Repo, pack: &ObjectList) -> Result<Lens<'a>, NoMemory>
+impl Lens {
+    /// Holds handles of the pack's objects; their bodies are shared. It costs the pack.
+    pub fn new(alloc: Global, repo: &Repo, pack: &ObjectList) -> Result<Lens, NoMemory>
         ensures { IfOk result (λ l. l ≡ repo.now.objects ++ pack.now) }
     {
         Lens::over(alloc, repo.kept(), pack.as_slice())
     }
 
-    pub(crate) fn over(
-        alloc: Global,
-        kept: &'a Segments,
-        pack: &[Object],
-    ) -> Result<Lens<'a>, NoMemory>
+    pub(crate) fn over(alloc: Global, kept: &Segments, pack: &[Object]) -> Result<Lens, NoMemory>
         ensures { IfOk result (λ l. l ≡ all_of kept.now ++ pack.now) }
     {
+        let kept = kept.copy()?;
         let pack = ObjectTable::of(alloc, pack)?;
         Ok(Lens { kept, pack })
+    }
+
+    /// A salt for tables of these objects' names, which whoever chooses names can't foresee.
+    pub fn salt(&self) -> Salt {
+        self.kept.salt().joined(self.pack.salt())
     }
 
     /// The object of the name that stands first: the repository's, if it has one.

@@ -3,7 +3,9 @@
 //! - `ref_name`: the names that a ref may have;
 //! - `command`: what a push asks for;
 //! - `ref_map`: refs in the byte order of their names;
+//! - `shared_refs`: refs that several repositories share;
 //! - `odds`: which ref can't stand beside a name;
+//! - `salt`: how the names in an index are hashed;
 //! - `object_table`: objects in order, found by their names;
 //! - `segments`: the objects of a repository in shared segments;
 //! - `lens`: the objects of a repository with those of a pack;
@@ -19,13 +21,16 @@ mod odds;
 mod ref_map;
 mod ref_name;
 mod repo;
+mod salt;
 mod segments;
+mod shared_refs;
 
 pub use base_types::{ItemList, NoMemory, Text};
 pub use command::{Command, CommandList};
 pub use lens::Lens;
 pub use ref_name::RefName;
-pub use repo::{Added, Applied, Repo};
+pub use repo::{Added, Applied, Compared, FreshObjects, Repo};
+pub use salt::Salt;
 
 #[cfg(test)]
 mod tests;

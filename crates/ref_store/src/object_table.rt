@@ -3,17 +3,18 @@ ghost use Rattle.std.specs.Prelude.{◌≡◌, ◌++◌, ◌∷◌, ◌<◌, ◌
 ghost use Rattle.std.specs.Option.{option_copied, option_map};
 ghost use Rattle.ref_store.specs.Objects.{first_named, place_of};
 
+use crate::salt::Salt;
 use base_types::NoMemory;
 use git_object::{Object, ObjectId};
 use indexmap::IndexMap;
 use std::alloc::Global;
 use std::marker::Model;
 
-/// Objects in order. Finding one by its name takes the same time however many there are.
+/// Objects in order. Finding one by its name takes the same time however many there are, whoever chose the names.
 #[derive(Drop)]
 pub struct ObjectTable {
     objects: Vec<Object>,
-    places: IndexMap<ObjectId, usize>,
+    places: IndexMap<ObjectId, usize, Salt>,
 }
 
 impl Model for ObjectTable {
@@ -29,20 +30,26 @@ impl Model for ObjectTable {
 }
 
 impl ObjectTable {
-    pub fn new(alloc: Global) -> ObjectTable
-        ensures { result ≡ [] }
+    /// An empty table with room for so many objects.
+    pub fn with_capacity(
+        alloc: Global,
+        salt: Salt,
+        capacity: usize,
+    ) -> Result<ObjectTable, NoMemory>
+        ensures { IfOk result (λ t. t ≡ []) }
     {
-        ObjectTable {
-            objects: Vec::new(alloc),
-            places: IndexMap::new(alloc),
-        }
+        Ok(ObjectTable {
+            objects: Vec::with_capacity(alloc, capacity)?,
+            places: IndexMap::with_capacity_and_hasher(alloc, capacity, salt)?,
+        })
     }
 
     /// A table of these objects, whose bodies are shared.
     pub fn of(alloc: Global, objects: &[Object]) -> Result<ObjectTable, NoMemory>
         ensures { IfOk result (λ t. t ≡ objects.now) }
     {
-        ObjectTable::new(alloc).followed_by(objects)
+        let table = ObjectTable::with_capacity(alloc, Salt::of(objects), objects.len())?;
+        table.followed_by(objects)
     }
 
     /// The table with these objects at its end, whose bodies are shared.
@@ -54,6 +61,10 @@ impl ObjectTable {
             table.push(object.clone()?)?;
         }
         Ok(table)
+    }
+
+    pub fn salt(&self) -> Salt {
+        *self.places.hasher()
     }
 
     pub fn objects(&self) -> &[Object]
@@ -117,20 +128,22 @@ impl ObjectTable {
         self.named(id, self.objects.len())
     }
 
-    /// Adds an object at the end.
+    /// Adds an object at the end. Its name is looked up once, and twice where it is there.
     pub fn push(&mut self, object: Object) -> Result<(), NoMemory>
         ensures ok { OnOk result (self.new ≡ self.old ++ object ∷ []) }
         ensures err { OnErr result (self.new ≡ self.old) }
     {
         let id = object.name();
         let at = self.objects.len();
-        let is_known = self.places.contains_key(&id);
         self.places.reserve(1)?;
         self.objects.push(object)?;
-        if is_known {
+        let Ok(before) = self.places.insert(id, at) else {
+            unreachable!()
+        };
+        let Some(first) = before else {
             return Ok(());
-        }
-        let Ok(_) = self.places.insert(id, at) else {
+        };
+        let Ok(_) = self.places.insert(id, first) else {
             unreachable!()
         };
         Ok(())

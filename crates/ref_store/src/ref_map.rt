@@ -6,7 +6,7 @@ ghost use Rattle.ref_store.specs.Refs.{IsLeastFrom};
 
 use base_types::{NoMemory, Text};
 use git_object::ObjectId;
-use std::alloc::Global;
+use std::alloc::{AllocError, Global};
 use std::collections::BTreeMap;
 use std::collections::btree_map::Iter;
 use std::marker::Model;
@@ -72,15 +72,6 @@ impl RefMap {
         self.entries.iter()
     }
 
-    pub fn copy(&self) -> Result<RefMap, NoMemory>
-        ensures { IfOk result (λ m. m ≡ self.now) }
-    {
-        let entries = self.entries.clone()?;
-        // A length tells that the names of its map ascend.
-        let _ascend = (self.entries.len(), entries.len());
-        Ok(RefMap { entries })
-    }
-
     /// The least name that is not before this one.
     pub fn first_from(&self, from: Text) -> Option<&Text>
         ensures { IsLeastFrom self.now from (option_map (λ n. n.now) result) }
@@ -90,5 +81,16 @@ impl RefMap {
             Some((name, _)) => Some(name),
             None => None,
         }
+    }
+}
+
+impl Clone for RefMap {
+    ghost is_clone = { λ refs copy. copy ≡ refs };
+
+    fn clone(&self) -> Result<RefMap, AllocError> {
+        let entries = self.entries.clone()?;
+        // `len` is called for its clause that the names ascend, which the proof cites.
+        let _ascend = (self.entries.len(), entries.len());
+        Ok(RefMap { entries })
     }
 }

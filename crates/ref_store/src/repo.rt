@@ -1,17 +1,17 @@
 // A repository.
-ghost use Rattle.std.specs.Prelude.{◌≡◌, ◌+◌, ◌↔◌, ◌≤◌, ◌^◌, [], IfOk, IsTrue, length, OnErr, OnOk, slice_get, take};
+ghost use Rattle.std.specs.Prelude.{◌≡◌, ◌+◌, ◌++◌, ◌↔◌, ◌≤◌, ◌^◌, [], IfOk, IsTrue, length, None, OnErr, OnOk, slice_get, take};
 ghost use Rattle.std.specs.FinMap as map;
 ghost use Rattle.std.specs.Option.{option_copied};
 ghost use Rattle.ref_store.specs.Objects.{first_named, HasNamesOnce, same_id};
-ghost use Rattle.ref_store.specs.Refs.{moved, value};
+ghost use Rattle.ref_store.specs.Refs.{moved, value, zero_id};
 ghost use Rattle.ref_store.specs.Segments.{all_of};
-ghost use Rattle.ref_store.specs.Store.{left_by, moved_by, TellsOfAdding, TellsOfMove};
+ghost use Rattle.ref_store.specs.Store.{left_by, moved_by, TellsOfAdding, TellsOfComparing, TellsOfMove};
 
-use crate::lacking::{Lacking, compare};
+use crate::lacking::{Lacking, find_lacking};
 use crate::odds::at_odds;
-use crate::ref_map::RefMap;
 use crate::ref_name::RefName;
 use crate::segments::Segments;
+use crate::shared_refs::SharedRefs;
 use base_types::{NoMemory, Text};
 use git_object::{Object, ObjectId, ObjectList};
 use std::alloc::Global;
@@ -21,12 +21,30 @@ use std::marker::Model;
 /// How many objects a repository has at most.
 const MAX_OBJECTS: usize = 4_294_967_295;
 
-/// Objects, in the order in which they came, and refs. Copies share the objects.
+/// Objects, in the order in which they came, and refs. Copies share both.
 #[derive(Drop)]
 pub struct Repo {
     alloc: Global,
     objects: Segments,
-    refs: RefMap,
+    refs: SharedRefs,
+}
+
+/// The objects of a pack that a repository lacks, in the order of the pack, each name once. Their bodies are shared with the pack.
+#[derive(Drop)]
+pub struct FreshObjects {
+    objects: Vec<Object>,
+}
+
+/// A pack beside a repository.
+#[derive(Drop)]
+pub enum Compared {
+    /// No object differs from one of its name before it. These are the ones to add.
+    Fresh(FreshObjects),
+    /// An object of the pack differs from one of its name before it. Places count the repository's objects and then the pack's.
+    Collision { id: ObjectId, kept: u64, given: u64 },
+    /// There would be this many objects.
+    Full(u64),
+    NoMemory,
 }
 
 /// What came of adding a pack's objects.
@@ -65,7 +83,17 @@ impl Model for Repo {
     ghost invariant = { λ r. IsSound (record { objects = all_of r.objects; refs = r.refs }) };
 }
 
+impl Model for FreshObjects {
+    ghost use Rattle.std.specs.Prelude.{List};
+    ghost use Rattle.git_object.specs.Content.{Content};
+
+    ghost Value = { List Content };
+
+    ghost view = { λ f. f.objects.items };
+}
+
 impl Repo {
+    /// A repository without objects and refs. It takes room for what its copies will share.
     pub fn empty(alloc: Global) -> Result<Repo, NoMemory>
         ensures objects { IfOk result (λ r. r.objects ≡ []) }
         ensures refs { IfOk result (λ r. r.refs ≡ map.empty) }
@@ -73,15 +101,15 @@ impl Repo {
         Ok(Repo {
             alloc,
             objects: Segments::new(alloc),
-            refs: RefMap::new(alloc),
+            refs: SharedRefs::new(alloc)?,
         })
     }
 
-    /// A copy with the same objects and refs. It costs the refs, and no object.
+    /// A copy with the same objects and refs, which it shares. It costs the number of the segments, of which there are 32 at most.
     pub fn copy(&self) -> Result<Repo, NoMemory>
         ensures { IfOk result (λ r. r ≡ self.now) }
     {
-        let refs = self.refs.copy()?;
+        let refs = self.refs.clone()?;
         let objects = self.objects.copy()?;
         Ok(Repo {
             alloc: self.alloc,
@@ -94,14 +122,15 @@ impl Repo {
     pub fn refs(&self) -> Iter<'_, Text, ObjectId>
         ensures { result ≡ map.entries self.now.refs }
     {
-        self.refs.iter()
+        self.refs.refs().iter()
     }
 
     /// A ref's value, zero where it is absent.
     pub fn value(&self, name: &Text) -> ObjectId
-        ensures { result ≡ value self.now.refs name.now }
+        ensures value { result ≡ value self.now.refs name.now }
+        ensures absent { result ≡ zero_id → map.get self.now.refs name.now ≡ None }
     {
-        match self.refs.get(name) {
+        match self.refs.refs().get(name) {
             Some(id) => *id,
             None => ObjectId::zero(),
         }
@@ -148,7 +177,7 @@ impl Repo {
     pub fn ref_count(&self) -> usize
         ensures { result ≡ map.len self.now.refs }
     {
-        self.refs.len()
+        self.refs.refs().len()
     }
 
     /// Moves a ref from its old value to a new one; zero stands for no value. A create looks at no more refs than the name has directories, and at one behind them.
@@ -161,7 +190,7 @@ impl Repo {
             return Applied::Stale(value);
         }
         if same_id(old, ObjectId::zero()) {
-            match at_odds(self.alloc, &self.refs, name.bytes()) {
+            match at_odds(self.alloc, self.refs.refs(), name.bytes()) {
                 Ok(Some(other)) => return Applied::DirFile(RefName::known(other)),
                 Ok(None) => {}
                 Err(NoMemory) => return Applied::NoMemory,
@@ -179,7 +208,7 @@ impl Repo {
         ensures err { OnErr result (self.new ≡ self.old) }
     {
         if same_id(new, ObjectId::zero()) {
-            self.refs.remove(name.text());
+            self.refs.remove(name.text())?;
             return Ok(());
         }
         let _rule = name.bytes();
@@ -188,31 +217,54 @@ impl Repo {
         Ok(())
     }
 
-    /// Adds the objects of a pack that are not there. Whoever has a copy doesn't see them.
-    pub fn add_objects(&mut self, pack: &ObjectList) -> Added
-        ensures told { TellsOfAdding self.old.objects pack.now result }
-        ensures repo { self.new ≡ left_by self.old pack.now result }
+    /// Compares a pack with the objects that are there, and changes nothing. It costs the pack, and a look-up in each segment for each of its objects.
+    pub fn compare(&self, pack: &ObjectList) -> Compared
+        ensures { TellsOfComparing self.now.objects pack.now result }
     {
-        let fresh = match compare(self.alloc, &self.objects, pack.as_slice()) {
+        let fresh = match find_lacking(self.alloc, &self.objects, pack.as_slice()) {
             Ok(Lacking::Fresh(fresh)) => fresh,
             Ok(Lacking::Differs { id, kept, given }) => {
-                return Added::Collision {
+                return Compared::Collision {
                     id,
                     kept: kept as u64,
                     given: given as u64,
                 };
             }
-            Err(NoMemory) => return Added::NoMemory,
+            Err(NoMemory) => return Compared::NoMemory,
         };
         let count = self.objects.len() + fresh.len();
         if count > MAX_OBJECTS {
-            return Added::Full(count as u64);
+            return Compared::Full(count as u64);
         }
-        let Ok(objects) = self.objects.with(self.alloc, &fresh) else {
-            return Added::NoMemory;
-        };
+        Compared::Fresh(FreshObjects { objects: fresh })
+    }
+
+    /// Adds objects at the end. Whoever has a copy doesn't see them.
+    pub fn add(&mut self, fresh: FreshObjects) -> Result<(), NoMemory>
+        requires names { HasNamesOnce (self.old.objects ++ fresh) }
+        requires few { length self.old.objects + length fresh ≤ 4294967295 }
+        ensures ok { OnOk result (self.new ≡ record self.old { objects = self.old.objects ++ fresh }) }
+        ensures err { OnErr result (self.new ≡ self.old) }
+    {
+        let objects = self.objects.with(self.alloc, &fresh.objects)?;
         self.objects = objects;
-        Added::Added
+        Ok(())
+    }
+
+    /// Adds the objects of a pack that are not there, as `compare` and `add` do. Whoever has a copy doesn't see them.
+    pub fn add_objects(&mut self, pack: &ObjectList) -> Added
+        ensures told { TellsOfAdding self.old.objects pack.now result }
+        ensures repo { self.new ≡ left_by self.old pack.now result }
+    {
+        match self.compare(pack) {
+            Compared::Fresh(fresh) => match self.add(fresh) {
+                Ok(()) => Added::Added,
+                Err(NoMemory) => Added::NoMemory,
+            },
+            Compared::Collision { id, kept, given } => Added::Collision { id, kept, given },
+            Compared::Full(count) => Added::Full(count),
+            Compared::NoMemory => Added::NoMemory,
+        }
     }
 }
 

@@ -5,6 +5,7 @@ ghost use Rattle.ref_store.specs.Objects.{first_named, place_of};
 ghost use Rattle.ref_store.specs.Segments.{all_of, joined, with_fresh};
 
 use crate::object_table::ObjectTable;
+use crate::salt::Salt;
 use base_types::NoMemory;
 use git_object::{Object, ObjectId};
 use std::alloc::{AllocError, Global};
@@ -82,6 +83,14 @@ impl Segments {
             segments: self.segments.clone()?,
             count: self.count,
         })
+    }
+
+    /// The salt of the newest segment.
+    pub fn salt(&self) -> Salt {
+        match self.segments.last() {
+            Some(segment) => segment.table().salt(),
+            None => Salt::of(&[]),
+        }
     }
 
     /// How many segments there are.
@@ -200,7 +209,11 @@ impl Segments {
 fn one_of(alloc: Global, segments: &[Segment], fresh: &[Object]) -> Result<Segment, NoMemory>
     ensures { IfOk result (λ s. s ≡ all_of segments.now ++ fresh.now) }
 {
-    let mut table = ObjectTable::new(alloc);
+    let mut table = ObjectTable::with_capacity(
+        alloc,
+        joined_salt(segments, fresh),
+        joined_len(segments, fresh),
+    )?;
     for segment in segments {
         table = table.followed_by(segment.table().objects())?;
     }
@@ -208,4 +221,22 @@ fn one_of(alloc: Global, segments: &[Segment], fresh: &[Object]) -> Result<Segme
     Ok(Segment {
         table: Arc::new(alloc, table)?,
     })
+}
+
+// The salt of the names of several segments, and of these objects.
+fn joined_salt(segments: &[Segment], fresh: &[Object]) -> Salt {
+    let mut salt = Salt::of(fresh);
+    for segment in segments {
+        salt = salt.joined(segment.table().salt());
+    }
+    salt
+}
+
+// How many objects several segments and these have together, for the room that they take.
+fn joined_len(segments: &[Segment], fresh: &[Object]) -> usize {
+    let mut len = fresh.len();
+    for segment in segments {
+        len = len.saturating_add(segment.table().len());
+    }
+    len
 }

@@ -7,7 +7,7 @@ use Rattle.ancestry.proofs.WalkedLemmas.{walk_begins, walk_goes_on, walk_ends, e
 use Rattle.ancestry.proofs.seen.walk.Goals as goal
 
 pub loop-id-init : goal.loop-id-init
-loop-id-init c = walk_begins c.args.lens.now c.args.root c.args.kind _ c.note.new.self c.new.ensures.empty refl c.in_ok-note.ensures
+loop-id-init c = walk_begins c.args.lens.now c.args.root c.args.kind _ c.note.new.self c.with_hasher.ensures.empty refl c.in_ok-note.ensures
 
 pub loop-id-preserved : goal.loop-id-preserved
 loop-id-preserved c =

@@ -1,15 +1,8 @@
 use Rattle.std.proofs.Common.{◌≡◌, Bool, List, ◌++◌, ◌∷◌, [], map, take, sym, subst, ◌∙◌, ap}
-use Rattle.std.specs.Prelude.{None}
-use Rattle.std.specs.List.{All}
-use Rattle.std.specs.FinMap.{entries}
 use Rattle.git_object.specs.Content.{Content}
-use Rattle.git_object.specs.declared.object_id.ObjectId.{ObjectId}
-use Rattle.ref_store.specs.Store.{Store}
-use Rattle.hub_core.specs.Name.{Name}
 use Rattle.hub_core.specs.Push.{judged, judged_by, is_named_twice}
-use Rattle.hub_core.specs.Running.{Counts, IsWhole}
+use Rattle.hub_core.specs.Running.{Counts}
 use Rattle.hub_core.proofs.RunningLemmas.{twice_is, one_more}
-use Rattle.hub_core.proofs.TrustLemmas.{trusted_values}
 use Rattle.hub_core.proofs.judging.judge.Goals as goal
 
 pub loop-command-preserved : goal.loop-command-preserved
@@ -29,9 +22,3 @@ loop-command-preserved c =
           ∙ sym (one_more (judged pinned c.args.pack.now c.args.commands.now) c.as_slice-command-items.result.now c.loop-command.command-index command c.loop-command-test.true c.command-item.is);
       walks = c.in_ok-judge_one.ensures.walks ∙ c.loop-command.invariant.walks;
     }
-
-pub trust_refs-requires : goal.trust_refs-requires
-trust_refs-requires c =
-    let pinned = c.args.pin.now.pinned in
-    let objects : c.new-walks.result ≡ pinned.repository.objects ++ c.args.pack.now = c.new-walks.ensures ∙ c.in_ok-lens.ensures ∙ ap (λ (s : Store). s.objects ++ c.args.pack.now) c.repo.ensures.repo in
-    subst (λ (os : List Content). All (λ (e : Name × ObjectId). IsWhole os e.1 None) (entries pinned.repository.refs)) (sym objects) (trusted_values pinned.repository c.args.pack.now c.repo.ensures.whole)

@@ -1,0 +1,18 @@
+use Rattle.std.proofs.Common.{◌≡◌, ◌++◌, ◌∷◌, [], List, take, drop, sym, ◌∙◌, ap, subst}
+use Rattle.std.proofs.lemmas.List.{take-append-drop}
+use Rattle.ancestry.specs.Tables.{Verdicts, AreOf}
+use Rattle.ancestry.proofs.TableLemmas.{of_parts}
+use Rattle.ancestry.proofs.layers.Layers.with.Goals as goal
+
+pub returns : goal.returns
+returns c =
+    let older = c.split_at.result.0.now in
+    let newer = c.split_at.result.1.now in
+    let all = c.args.self.now in
+    let at = c.staying.result in
+    let whole : c.deref.result.now ≡ all = c.deref.ensures.value ∙ c.self.view_is in
+    let parts : all ≡ older ++ newer =
+    sym whole ∙ sym (take-append-drop at c.deref.result.now) ∙ ap (λ (l : List Verdicts). l ++ drop at c.deref.result.now) (sym c.split_at.ensures.front) ∙ ap (λ (l : List Verdicts). older ++ l) (sym c.split_at.ensures.back) in
+    let items : c.push.new.self.items ≡ older ++ c.in_ok-table.table ∷ [] =
+    c.in_ok-push.ensures.items ∙ ap (λ (t : Verdicts). c.in_ok-layers.layers.items ++ t ∷ []) c.in_ok-new.ensures.ok ∙ ap (λ (l : List Verdicts). l ++ c.in_ok-table.table ∷ []) (c.in_ok-layers.ensures.items_if_clones_equal (λ x y e. e)) in
+    subst (λ (l : List Verdicts). AreOf all c.args.table l) (sym items) (of_parts all older newer c.args.table c.in_ok-table.table parts c.in_ok-table.ensures)

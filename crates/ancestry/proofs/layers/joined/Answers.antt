@@ -1,0 +1,16 @@
+use Rattle.std.proofs.Common.{inr, sym, subst}
+use Rattle.ancestry.specs.Tables.{Verdicts, IsOfTwo}
+use Rattle.ancestry.proofs.TableLemmas.{of_all_more}
+use Rattle.ancestry.proofs.layers.joined.Goals as goal
+
+pub loop-layer-init : goal.loop-layer-init
+loop-layer-init c = λ id verdict has. inr has
+
+pub loop-layer-preserved : goal.loop-layer-preserved
+loop-layer-preserved c =
+    of_all_more c.args.layers.now c.args.table c.loop-layer.joined c.in_ok-joined.joined c.layer-item.result c.loop-layer.invariant
+    (c.loop-layer.layer-index, c.loop-layer-test.true, sym c.layer-item.is)
+    (subst (λ (t : Verdicts). IsOfTwo c.loop-layer.joined t c.in_ok-joined.joined) c.table.ensures c.in_ok-joined.ensures)
+
+pub returns : goal.returns
+returns c = c.loop-layer.invariant

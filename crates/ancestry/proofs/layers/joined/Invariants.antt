@@ -1,0 +1,5 @@
+use Rattle.ancestry.specs.Tables.{IsOfAll}
+use Rattle.ancestry.proofs.layers.joined.Given as goal
+
+abbrev pub invariant-loop-layer : goal.invariant-loop-layer
+invariant-loop-layer l = IsOfAll l.layers l.fn.table l.joined

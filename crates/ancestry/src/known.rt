@@ -1,0 +1,135 @@
+// What walkers find out, and keep for later ones.
+ghost use Rattle.std.specs.Prelude.{◌≡◌, IfOk, IfSome, List, OnOk};
+ghost use Rattle.git_object.specs.Content.{Content};
+
+use crate::layers::Layers;
+use crate::table::Table;
+use crate::verdict::Verdict;
+use base_types::NoMemory;
+use git_object::ObjectId;
+use ref_store::Salt;
+use std::alloc::{AllocError, Global};
+
+/// What one walker found out.
+#[derive(Drop)]
+pub struct Findings {
+    whole: Table,
+    amiss: Table,
+}
+
+impl Findings {
+    ghost use Rattle.ancestry.specs.Known.{AreFound, IsRight};
+
+    pub(crate) fn none(alloc: Global, salt: Salt) -> Findings
+        ensures { (objects : List Content) → AreFound objects result }
+    {
+        Findings {
+            whole: Table::new(alloc, salt),
+            amiss: Table::new(alloc, salt),
+        }
+    }
+
+    // What is told of all that the links of an object lead to, where it was found out.
+    pub(crate) fn get(&self, id: ObjectId) -> Option<Verdict>
+        ensures { (objects : List Content) → AreFound objects self.now → IfSome result (IsRight objects id) }
+    {
+        if let Some(verdict) = self.whole.get(id) {
+            return Some(verdict);
+        }
+        match self.amiss.get(id) {
+            Some(verdict) => Some(verdict),
+            None => None,
+        }
+    }
+
+    pub(crate) fn insert(&mut self, id: ObjectId, verdict: Verdict) -> Result<(), NoMemory>
+        ensures { (objects : List Content) → AreFound objects self.old → IsRight objects id verdict → AreFound objects self.new }
+    {
+        match verdict {
+            Verdict::Whole => {
+                self.whole.insert(id, Verdict::Whole)?;
+                Ok(())
+            }
+            Verdict::Missing(_) | Verdict::WrongKind(_) => {
+                self.amiss.insert(id, verdict)?;
+                Ok(())
+            }
+        }
+    }
+}
+
+/// What earlier walks found out about the objects of a repository. Clones share it.
+///
+/// That all is whole that an object leads to stays known as objects come. What is amiss is known until an object comes.
+#[derive(Drop)]
+pub struct Known {
+    whole: Layers,
+    amiss: Layers,
+}
+
+impl Known {
+    ghost use Rattle.ancestry.specs.Known.{AreFound, AreKnown, Extends, IsRight};
+
+    pub fn nothing(alloc: Global) -> Known
+        ensures { (objects : List Content) → AreKnown objects result }
+    {
+        Known {
+            whole: Layers::none(alloc),
+            amiss: Layers::none(alloc),
+        }
+    }
+
+    // What is told of all that the links of an object lead to, where it is known. It costs a look-up in each of a few tables.
+    pub(crate) fn get(&self, id: ObjectId) -> Option<Verdict>
+        ensures { (objects : List Content) → AreKnown objects self.now → IfSome result (IsRight objects id) }
+    {
+        if let Some(verdict) = self.whole.get(id) {
+            return Some(verdict);
+        }
+        match self.amiss.get(id) {
+            Some(verdict) => Some(verdict),
+            None => None,
+        }
+    }
+
+    /// The same, and what a walker found out among the same objects.
+    pub fn with(&self, alloc: Global, findings: Findings) -> Result<Known, NoMemory>
+        ensures { (objects : List Content) → AreKnown objects self.now → AreFound objects findings → IfOk result (AreKnown objects) }
+    {
+        Ok(Known {
+            whole: self.whole.with(alloc, findings.whole)?,
+            amiss: self.amiss.with(alloc, findings.amiss)?,
+        })
+    }
+
+    /// What stays known where objects come.
+    pub fn grown(&self, alloc: Global) -> Result<Known, NoMemory>
+        ensures { (fewer more : List Content) → Extends fewer more → AreKnown fewer self.now → IfOk result (AreKnown more) }
+    {
+        Ok(Known {
+            whole: self.whole.clone()?,
+            amiss: Layers::none(alloc),
+        })
+    }
+
+    /// What stays known where objects come, and what of that a walker found out among some of them.
+    pub fn grown_with(&self, alloc: Global, findings: Findings) -> Result<Known, NoMemory>
+        ensures { (fewer among more : List Content) → Extends fewer more → Extends among more → AreKnown fewer self.now → AreFound among findings → IfOk result (AreKnown more) }
+    {
+        Ok(Known {
+            whole: self.whole.with(alloc, findings.whole)?,
+            amiss: Layers::none(alloc),
+        })
+    }
+}
+
+impl Clone for Known {
+    ghost is_clone = { λ known copy. copy ≡ known };
+
+    fn clone(&self) -> Result<Known, AllocError> {
+        Ok(Known {
+            whole: self.whole.clone()?,
+            amiss: self.amiss.clone()?,
+        })
+    }
+}
