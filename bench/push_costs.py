@@ -1,0 +1,232 @@
+#!/usr/bin/env python3
+"""What pushes cost: push_costs.py PROGRAM [CASE ..], by hand, never in the gate.
+
+PROGRAM is the built gitolite_shell. Each case makes its input, hands it to one running program session by session, and
+prints seconds from a session's first byte to its reply. Without a CASE all are run; `list` names them. Two of them, `refused`
+and `old`, fill repositories of millions of objects, and take some minutes and gigabytes.
+"""
+import hashlib
+import struct
+import subprocess
+import sys
+import time
+
+ZERO = "0" * 40
+KINDS = {"commit": 1, "tree": 2, "blob": 3, "tag": 4}
+IDENTITY = b"author C <c@example.com> 1700000000 +0000\ncommitter C <c@example.com> 1700000000 +0000\n\n"
+MOST_OBJECTS = 99_990  # of a pack of fill: a pack has 100,000 entries at most
+
+
+def object_id(item):
+    kind, body = item
+    return hashlib.sha1(b"%s %d\0" % (kind.encode(), len(body)) + body).digest()
+
+
+def entry_head(kind, size):
+    byte, size = KINDS[kind] << 4 | size & 15, size >> 4
+    head = bytearray()
+    while size:
+        head.append(byte | 128)
+        byte, size = size & 127, size >> 7
+    head.append(byte)
+    return bytes(head)
+
+
+def raw_pack(items):
+    data = b"PACK" + struct.pack(">II", 2, len(items)) + b"".join(entry_head(kind, len(body)) + body for kind, body in items)
+    return data + hashlib.sha1(data).digest()
+
+
+def packet(data):
+    return b"%04x" % (len(data) + 4) + data
+
+
+def push(creates, items):
+    """A session that creates these refs, each a name and an id, and sends a pack of these objects."""
+    out = [packet(b"carol git-receive-pack 'testing'")]
+    for at, (ref, new) in enumerate(creates):
+        out.append(packet(("%s %s %s" % (ZERO, new.hex(), ref)).encode() + (b"\0report-status" if at == 0 else b"")))
+    return b"".join(out) + b"0000" + raw_pack(items)
+
+
+def commit(word, tree, parents=()):
+    lines = b"".join(b"parent %s\n" % parent.hex().encode() for parent in parents)
+    return "commit", b"tree " + tree.hex().encode() + b"\n" + lines + IDENTITY + word
+
+
+def tree(rows):
+    return "tree", b"".join(mode + b" " + name + b"\0" + new for mode, name, new in rows)
+
+
+EMPTY = tree([])
+EMPTY_ID = object_id(EMPTY)
+FIRST = commit(b"first\n", EMPTY_ID)
+FIRST_ID = object_id(FIRST)
+
+
+class Program:
+    """A running program, which is given a session at a time."""
+
+    def __init__(self, path):
+        self.child = subprocess.Popen([path, "script", "--admin", "admin"], stdin=subprocess.PIPE, stdout=subprocess.PIPE)
+
+    def serve(self, data):
+        """Seconds, and the reply."""
+        began = time.perf_counter()
+        self.child.stdin.write(b"session %d\n" % len(data) + data + b"\n")
+        self.child.stdin.flush()
+        head = self.child.stdout.readline().split()
+        reply = self.child.stdout.read(int(head[3]) + 1)[:-1]
+        return time.perf_counter() - began, reply
+
+    def expect(self, data, word=b"ok refs/"):
+        took, reply = self.serve(data)
+        assert word in reply, reply[-300:]
+        return took
+
+    def fill(self, packs, first=0):
+        """Stores so many packs of small blobs, each behind a ref of its own."""
+        for number in range(first, first + packs):
+            blobs = [("blob", b"fill %d %d" % (number, n)) for n in range(MOST_OBJECTS)]
+            self.expect(push([("refs/fill/%d" % number, FIRST_ID)], ([FIRST, EMPTY] if number == 0 else []) + blobs))
+
+    def end(self):
+        self.child.stdin.close()
+        self.child.stdout.read()
+        self.child.wait()
+
+
+def times(seconds):
+    return "least %.3f, most %.3f ms" % (min(seconds) * 1e3, max(seconds) * 1e3)
+
+
+def refused(program):
+    """A refused push of 100,000 small blobs, into an empty repository and into ones that halve from 3,200,000 down."""
+    for packs in (0, 63):
+        program_now = Program(program)
+        program_now.fill(packs)
+        took = []
+        for turn in range(3):
+            blobs = [("blob", b"refused %d %d" % (turn, n)) for n in range(MOST_OBJECTS)]
+            took.append(program_now.expect(push([("refs/heads/a..b", FIRST_ID)], blobs), b"bad ref name"))
+        print("refused push of %d blobs beside %d objects: %s" % (MOST_OBJECTS, packs * MOST_OBJECTS, times(took)))
+        program_now.end()
+
+
+def old(program):
+    """Creates at older commits, with an empty pack, in a repository of a million objects, a history of 333,000 commits."""
+    program_now, commits = Program(program), [FIRST_ID]
+    program_now.expect(push([("refs/heads/first", FIRST_ID)], [FIRST, EMPTY]))
+    for number in range(10):
+        items = []
+        for n in range(MOST_OBJECTS // 3):
+            blob = ("blob", b"%d %d" % (number, n))
+            files = tree([(b"100644", b"f", object_id(blob))])
+            made = commit(b"%d %d\n" % (number, n), object_id(files), [commits[-1]])
+            commits.append(object_id(made))
+            items += [made, files, blob]
+        program_now.expect(push([("refs/heads/at%d" % number, commits[-1])], items))
+    took = [program_now.expect(push([("refs/heads/old%d" % n, commits[-2 - n])], [])) for n in range(8)]
+    print("create at an older commit, empty pack, beside a million objects: %s" % times(took))
+    program_now.end()
+
+
+def one_file(program):
+    """One file changed among 90,000 in 300 folders, behind 0 and 1,000,000 older objects."""
+    blobs, folders = [], []
+    for n in range(300):
+        some = [("blob", b"%d %d" % (n, k)) for k in range(300)]
+        blobs += some
+        folders.append(tree([(b"100644", b"%03d" % k, object_id(blob)) for k, blob in enumerate(some)]))
+    top = tree([(b"40000", b"%03d" % n, object_id(folder)) for n, folder in enumerate(folders)])
+    base = commit(b"base\n", object_id(top))
+    for packs in (0, 10):
+        program_now = Program(program)
+        program_now.fill(packs)
+        first = program_now.expect(push([("refs/heads/base", object_id(base))], [base, top] + folders + blobs))
+        took = []
+        for n in range(8):
+            blob = ("blob", b"changed %d" % n)
+            rows = [(b"100644", b"%03d" % k, object_id(blob if k == 7 else ("blob", b"7 %d" % k))) for k in range(300)]
+            folder = tree(rows)
+            root = tree([(b"40000", b"%03d" % k, object_id(folder if k == 7 else folders[k])) for k in range(300)])
+            made = commit(b"change %d\n" % n, object_id(root), [object_id(base)])
+            took.append(program_now.expect(push([("refs/heads/c%d" % n, object_id(made))], [made, root, folder, blob])))
+        print("one file changed among 90,000 beside %d older objects: %s (the first push %.3f s)" % (packs * MOST_OBJECTS, times(took), first))
+        program_now.end()
+
+
+def rootless(program):
+    """Creates at the top of a stored chain of commits whose first tree never came, with an empty pack."""
+    for packs in (1, 4, 10):
+        program_now, parent = Program(program), object_id(commit(b"never sent\n", EMPTY_ID))
+        for number in range(packs):
+            items = []
+            for n in range(MOST_OBJECTS):
+                made = commit(b"%d %d\n" % (number, n), EMPTY_ID, [parent])
+                parent = object_id(made)
+                items.append(made)
+            program_now.expect(push([("refs/tmp/%d" % number, FIRST_ID)], [FIRST, EMPTY] + items))
+        took = [program_now.expect(push([("refs/heads/top", parent)], []), b"missing object") for _ in range(4)]
+        print("create at the top of %d rootless commits: first %.3f s, then %s" % (packs * MOST_OBJECTS, took[0], times(took[1:])))
+        program_now.end()
+
+
+def large_trees(program):
+    """A push of one tree of 480,000 entries, and of 15."""
+    blob = ("blob", b"")
+    for count in (1, 15):
+        made = [tree([(b"100644", b"%06d" % (n + k), object_id(blob)) for n in range(480_000)]) for k in range(count)]
+        root = tree([(b"40000", b"%06d" % k, object_id(item)) for k, item in enumerate(made)])
+        top = commit(b"trees\n", object_id(root))
+        program_now = Program(program)
+        took = program_now.expect(push([("refs/heads/trees", object_id(top))], [top, root, blob] + made))
+        print("%d trees of 480,000 entries: %.3f s" % (count, took))
+        program_now.end()
+
+
+def deep_refs(program):
+    """10,000 creates of refs with 510 slashes."""
+    program_now = Program(program)
+    creates = [("refs/" + "a/" * 506 + "%05d" % n, FIRST_ID) for n in range(10_000)]
+    print("10,000 creates of refs with 507 slashes: %.3f s" % program_now.expect(push(creates, [FIRST, EMPTY])))
+    program_now.end()
+
+
+def one_ref(program):
+    """10,000 sessions at one ref."""
+    program_now = Program(program)
+    data = push([("refs/heads/master", FIRST_ID)], [FIRST, EMPTY])
+    began = time.perf_counter()
+    for _ in range(10_000):
+        program_now.serve(data)
+    print("10,000 sessions at one ref: %.3f s" % (time.perf_counter() - began))
+    program_now.end()
+
+
+def large_pack(program):
+    """A pack of 100 blobs of 1 MiB."""
+    blobs = [("blob", bytes([n]) * (1 << 20)) for n in range(100)]
+    data = push([("refs/heads/master", FIRST_ID)], [FIRST, EMPTY] + blobs)
+    took = []
+    for _ in range(3):
+        program_now = Program(program)
+        took.append(program_now.expect(data))
+        program_now.end()
+    print("a pack of %.1f MB: %.3f s, %.0f MB/s" % (len(data) / 1e6, min(took), len(data) / 1e6 / min(took)))
+
+
+CASES = {case.__name__: case for case in (refused, old, one_file, rootless, large_trees, deep_refs, one_ref, large_pack)}
+
+
+def main():
+    if len(sys.argv) < 2 or sys.argv[1:] == ["list"]:
+        print(__doc__)
+        for name, case in CASES.items():
+            print("%-12s %s" % (name, case.__doc__))
+        return
+    for name in sys.argv[2:] or CASES:
+        CASES[name](sys.argv[1])
+
+
+main()
