@@ -1,6 +1,7 @@
 pub mod ReaderLemmas
 pub mod IdLemmas
 pub mod TreeLemmas
+pub mod OrderLemmas
 pub mod TreeCheckLemmas
 pub mod ListLemmas
 pub mod SpellingLemmas

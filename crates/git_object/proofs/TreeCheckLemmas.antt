@@ -1,15 +1,13 @@
 -- What the check of a tree keeps, and the first break.
-use Rattle.std.proofs.Common.{◌≡◌, ℕ, zero, suc, ◌+◌, ◌<◌, ◌==◌, Bool, true, false, cond, ◌&&◌, ◌||◌, not, List, [], ◌∷◌, length, Option, Some, None, refl, sym, ◌∙◌, ap, ap₂, arith, Bor}
+use Rattle.std.proofs.Common.{◌≡◌, ℕ, zero, suc, ◌+◌, ◌<◌, ◌==◌, Bool, true, false, cond, ◌&&◌, not, List, [], ◌∷◌, ◌++◌, map, length, Option, Some, None, refl, sym, ◌∙◌, ap, subst, arith, Bor}
+use Rattle.std.proofs.lemmas.List.{map-append}
 use Rattle.std.specs.List.{list_any, slice_get}
 use Rattle.std.specs.Option.{option_map, option_map_or}
 use Rattle.std.specs.Str.{bytes_eq}
-use Rattle.std.specs.Ordering.{nat_cmp, is_eq}
-use Rattle.std.specs.Cmp.Lexicographic.{slice_cmp}
-use Rattle.std.specs.BTreeSet.{contains, BTreeSet}
-use Rattle.std.proofs.lemmas.Map.Text.{is_eq-slice_cmp}
 use Rattle.git_object.specs.Reader.{items, behind, items_within, behind_within}
-use Rattle.git_object.specs.Tree.{Entry, entry_of, sorts_below, may_follow, tree_entry, first_break, size}
-use Rattle.git_object.specs.Before.{Keeps}
+use Rattle.git_object.specs.Tree.{Entry, entry_of, sorts_below, is_directory, may_follow, tree_entry, first_break, size}
+use Rattle.git_object.specs.Before.{file_names, AllBelow, Rise, Keeps}
+use Rattle.git_object.proofs.OrderLemmas.{all_below, same_name_is_file}
 use Rattle.git_object.specs.declared.tree.TreeEntry.{TreeEntry}
 use Rattle.git_object.specs.declared.tree.Before.{Before}
 use Rattle.git_object.proofs.ReaderLemmas.{items-none, items-some, behind-none, behind-some}
@@ -29,29 +27,31 @@ may_follow_parts (Some n) (f ∷ fs) e h =
     let same : entry_of n ≡ f = cc in
     ap (λ g. sorts_below g e && not (list_any (λ f. bytes_eq f.name e.name) (f ∷ fs))) (sym same)
 
--- the same, of what is kept
-pub may_follow_kept : (kept : Before) (before : List Entry) (e : Entry) (name : Bor (List ℕ)) (rising is_new answer : Bool) → Keeps kept before → name.now ≡ e.name
-    → rising ≡ rises kept.nearest e → is_new ≡ not (contains (λ a b. slice_cmp nat_cmp a.now b.now) kept.names name) → (rising && is_new) ≡ answer
-    → answer ≡ may_follow before e
-may_follow_kept kept before e name rising is_new answer keeps is up fresh both =
-    let names : is_new ≡ not (list_any (λ f. bytes_eq f.name e.name) before) =
-    fresh ∙ ap not (keeps.names name ∙ ap (λ n. list_any (λ f. bytes_eq f.name n) before) is) in
-    sym (may_follow_parts kept.nearest before e keeps.nearest ∙ ap₂ ◌&&◌ (sym up) (sym names) ∙ both)
+pub stops_falling : (kept : Before) (before : List Entry) (e : Entry) → Keeps kept before → rises kept.nearest e ≡ false → may_follow before e ≡ false
+stops_falling kept before e keeps falls = may_follow_parts kept.nearest before e keeps.nearest ∙ ap (λ b. b && not (list_any (λ f. bytes_eq f.name e.name) before)) falls
 
-cond_or : (b c : Bool) → cond b true c ≡ (b || c)
-cond_or true c = refl
-cond_or false c = refl
+-- all before sort below an entry that rises
+all_before : (nearest : Option TreeEntry) (before : List Entry) (e : Entry) → option_map entry_of nearest ≡ slice_get before 0 → Rise before → rises nearest e ≡ true → AllBelow before e
+all_before None [] e is rise up = tt
+all_before (Some n) [] e is rise up = tt
+all_before None (f ∷ fs) e is rise up = absurd cc
+all_before (Some n) (f ∷ fs) e is rise up =
+    let same : entry_of n ≡ f = cc in
+    all_below f e fs rise (subst (λ (g : Entry). sorts_below g e ≡ true) same up)
 
--- the names with one more
-pub names_more : (old new : BTreeSet (Bor (List ℕ))) (before : List Entry) (name : Bor (List ℕ)) (e : Entry) → name.now ≡ e.name
-    → ((q : Bor (List ℕ)) → contains (λ a b. slice_cmp nat_cmp a.now b.now) old q ≡ list_any (λ f. bytes_eq f.name q.now) before)
-    → ((q : Bor (List ℕ)) → contains (λ a b. slice_cmp nat_cmp a.now b.now) new q ≡ cond (is_eq (slice_cmp nat_cmp name.now q.now)) true (contains (λ a b. slice_cmp nat_cmp a.now b.now) old q))
-    → (q : Bor (List ℕ)) → contains (λ a b. slice_cmp nat_cmp a.now b.now) new q ≡ list_any (λ f. bytes_eq f.name q.now) (e ∷ before)
-names_more old new before name e is had updates q =
-    updates q
-    ∙ ap (λ b. cond b true (contains (λ a b. slice_cmp nat_cmp a.now b.now) old q)) (is_eq-slice_cmp name.now q.now ∙ ap (λ n. bytes_eq n q.now) is)
-    ∙ ap (λ c. cond (bytes_eq e.name q.now) true c) (had q)
-    ∙ cond_or (bytes_eq e.name q.now) (list_any (λ f. bytes_eq f.name q.now) before)
+pub rising : (kept : Before) (before : List Entry) (e : Entry) → Keeps kept before → rises kept.nearest e ≡ true → AllBelow before e
+rising kept before e keeps up = all_before kept.nearest before e keeps.nearest keeps.rise up
+
+-- an entry that rises may follow where it is no directory, or no file has its name
+pub may_follow_rising : (kept : Before) (before : List Entry) (e : Entry) → Keeps kept before → rises kept.nearest e ≡ true → may_follow before e ≡ not (is_directory e && list_any (λ n. bytes_eq n e.name) (file_names before))
+may_follow_rising kept before e keeps up =
+    may_follow_parts kept.nearest before e keeps.nearest
+    ∙ ap (λ b. b && not (list_any (λ f. bytes_eq f.name e.name) before)) up
+    ∙ ap not (same_name_is_file before e (rising kept before e keeps up))
+
+pub names_push : (old new : List (Bor (List ℕ))) (name : Bor (List ℕ)) (names : List (List ℕ)) → new ≡ old ++ name ∷ [] → map (λ f. f.now) old ≡ names → map (λ f. f.now) new ≡ names ++ name.now ∷ []
+names_push old new name names push was =
+    ap (λ (l : List (Bor (List ℕ))). map (λ f. f.now) l) push ∙ map-append (λ (f : Bor (List ℕ)). f.now) old (name ∷ []) ∙ ap (λ (l : List (List ℕ)). l ++ name.now ∷ []) was
 
 -- ---- the first break, as the bytes are read
 

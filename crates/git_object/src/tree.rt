@@ -9,7 +9,6 @@ use crate::object_id::ObjectId;
 use crate::reader::up_to;
 use base_types::NoMemory;
 use std::alloc::Global;
-use std::collections::BTreeSet;
 use std::marker::Model;
 
 /// An entry of a tree: its mode in octal digits, its name, and the object there.
@@ -117,11 +116,17 @@ fn tree_entry(bytes: &[u8]) -> Option<(TreeEntry<'_>, &[u8])>
     None
 }
 
+fn is_directory(entry: &TreeEntry<'_>) -> bool
+    ensures { result ≡ is_directory (entry_of entry.now) }
+{
+    entry.mode == b"40000".as_slice()
+}
+
 // What is put behind the name of a directory where names are compared.
 fn slash(entry: &TreeEntry<'_>) -> &'static [u8]
     ensures { result.now ≡ (if is_directory (entry_of entry.now) then 47 ∷ [] else []) }
 {
-    if entry.mode == b"40000".as_slice() {
+    if is_directory(entry) {
         return b"/";
     }
     b""
@@ -135,25 +140,28 @@ fn sorts_below(first: &TreeEntry<'_>, second: &TreeEntry<'_>) -> bool
     first_key.cmp(second_key).is_lt()
 }
 
-// What the check of a tree keeps of the entries before: the nearest, and the names of all.
+// What the check of a tree keeps of the entries before: the nearest, and the names of the files, which ascend. Only a directory may sort above an
+// entry of its own name, and that is a file.
 #[derive(Drop)]
 struct Before<'a> {
     nearest: Option<TreeEntry<'a>>,
-    names: BTreeSet<&'a [u8]>,
+    files: Vec<&'a [u8]>,
 }
 
 impl<'a> Before<'a> {
     ghost use Rattle.std.specs.Prelude.{List, [], ◌∷◌, true};
-    ghost use Rattle.git_object.specs.Tree.{Entry};
-    ghost use Rattle.git_object.specs.Before.{Keeps};
+    ghost use Rattle.std.specs.List.{list_any};
     ghost use Rattle.std.specs.Option.{option_map_or};
+    ghost use Rattle.std.specs.Str.{bytes_eq};
+    ghost use Rattle.git_object.specs.Tree.{Entry};
+    ghost use Rattle.git_object.specs.Before.{file_names, Keeps};
 
     fn new(alloc: Global) -> Before<'a>
         ensures { Keeps result [] }
     {
         Before {
             nearest: None,
-            names: BTreeSet::new(alloc),
+            files: Vec::new(alloc),
         }
     }
 
@@ -167,6 +175,13 @@ impl<'a> Before<'a> {
         }
     }
 
+    // Whether a file before has this name.
+    fn has_file(&self, name: &'a [u8]) -> bool
+        ensures { (before : List Entry) → Keeps self.now before → result ≡ list_any (λ n. bytes_eq n name.now) (file_names before) }
+    {
+        self.files.binary_search(&name).is_ok()
+    }
+
     // Whether an entry may stand behind those before. If so, it is kept as one of them.
     fn add(&mut self, entry: TreeEntry<'a>) -> Result<bool, NoMemory>
         ensures { (before : List Entry) → Keeps self.old before → IfOk result (λ may.
@@ -175,10 +190,14 @@ impl<'a> Before<'a> {
         if !self.rises(&entry) {
             return Ok(false);
         }
-        let is_new = self.names.insert(entry.name)?;
-        if !is_new {
-            return Ok(false);
+        if is_directory(&entry) {
+            if self.has_file(entry.name) {
+                return Ok(false);
+            }
+            self.nearest = Some(entry);
+            return Ok(true);
         }
+        self.files.push(entry.name)?;
         self.nearest = Some(entry);
         Ok(true)
     }

@@ -52,6 +52,7 @@ use post::Post;
 use program::shell_main;
 use standard::{StdSink, StdSource};
 use std::alloc::Global;
+use std::io::BufReader;
 use std::process::ExitCode;
 use std::{env, io};
 
@@ -77,7 +78,10 @@ fn main(rt: HostRuntime) -> ExitCode {
     let Ok(words) = words_of(&rt) else {
         return ExitCode::from(4);
     };
-    let mut input = StdSource::new(rt.stdin());
+    let Ok(reader) = BufReader::new(alloc, rt.stdin()) else {
+        return ExitCode::from(4);
+    };
+    let mut input = StdSource::new(reader);
     let mut output = StdSink::new(rt.stdout());
     let mut posts: Vec<Post<MemoryDoor<MemoryLink>, OpenGate>> = Vec::new(alloc);
     let ended = shell_main(alloc, &words, &mut input, &mut output, &mut posts);

@@ -1,12 +1,17 @@
 // Packets, written to a sink.
-ghost use Rattle.std.specs.Prelude.{◌≡◌, ◌≤◌, ◌<◌, length};
+ghost use Rattle.std.specs.Prelude.{◌≡◌, ◌≤◌, ◌<◌, ◌+◌, ◌++◌, length};
 ghost use Rattle.pktline_core.specs.Links.{Writes, TellsWriting, IsLater, KeepsReading};
 ghost use Rattle.pktline_core.specs.Packets.{hex_digit, four_digits, spelling, Line, Flush};
 
 use crate::links::{Sink, WriteFault, write_all};
 use crate::packets::MAX_PAYLOAD;
+use arrayvec::ArrayVec;
 
-/// Writes a line with this payload. It takes no memory itself, and copies the payload into the sink alone.
+// Lines of up to so many bytes go out in one call of `put`, since over a socket a second one may wait until the first is acknowledged.
+const SHORT_LINE: usize = 1024;
+
+/// Writes a line with this payload. It takes no memory itself. A line of at most 1,024 bytes is put together on the stack, and of a longer one the
+/// payload goes out as it lies.
 pub fn write_pkt<S: Sink>(sink: &mut S, payload: &[u8]) -> Result<(), WriteFault>
     requires { length payload.now ≤ MAX_PAYLOAD }
     ensures writes { Writes (S.state sink.old) (S.state sink.new) (spelling (Line payload.now)) result }
@@ -15,8 +20,29 @@ pub fn write_pkt<S: Sink>(sink: &mut S, payload: &[u8]) -> Result<(), WriteFault
     ensures later { IsLater (S.state sink.old) (S.state sink.new) }
 {
     let digits = length_digits(payload.len() as u16 + 4);
+    if payload.len() <= SHORT_LINE - 4 {
+        return write_together(sink, &digits, payload);
+    }
     write_all(sink, &digits)?;
     write_all(sink, payload)
+}
+
+// Writes some bytes and others behind them, together at most a short line.
+fn write_together<S: Sink>(sink: &mut S, front: &[u8], rest: &[u8]) -> Result<(), WriteFault>
+    requires { length front.now + length rest.now ≤ SHORT_LINE }
+    ensures writes { Writes (S.state sink.old) (S.state sink.new) (front.now ++ rest.now) result }
+    ensures tells { TellsWriting (S.state sink.old) (S.state sink.new) result }
+    ensures reading { KeepsReading (S.state sink.old) (S.state sink.new) }
+    ensures later { IsLater (S.state sink.old) (S.state sink.new) }
+{
+    let mut line = ArrayVec::<u8, SHORT_LINE>::new();
+    let Ok(()) = line.try_extend_from_slice(front) else {
+        unreachable!()
+    };
+    let Ok(()) = line.try_extend_from_slice(rest) else {
+        unreachable!()
+    };
+    write_all(sink, line.as_slice())
 }
 
 /// Writes a flush, `0000`.
