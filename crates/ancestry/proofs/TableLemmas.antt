@@ -1,5 +1,5 @@
 -- Tables of verdicts by name.
-use Rattle.std.proofs.Common.{◌≡◌, ℕ, ◌+◌, ◌<◌, Bool, true, false, cond, List, [], ◌∷◌, ◌++◌, get_or, length, Some, refl, sym, ◌∙◌, ap, subst, arith, ◌⊎◌, inl, inr}
+use Rattle.std.proofs.Common.{◌≡◌, ℕ, ◌<◌, Bool, true, false, cond, List, [], ◌∷◌, ◌++◌, get_or, length, None, Some, refl, sym, ◌∙◌, subst, ◌⊎◌, inl, inr}
 use Rattle.std.proofs.lemmas.List.Elements.{Contains-get_or, Contains-append_left, Contains-append_right, Contains-append_cases}
 use Rattle.std.specs.List.{Contains}
 use Rattle.std.specs.Map.{lookup}
@@ -7,8 +7,8 @@ use Rattle.git_object.specs.declared.object_id.ObjectId.{ObjectId}
 use Rattle.ref_store.specs.Objects.{same_id}
 use Rattle.ref_store.proofs.ObjectLemmas.{id_is}
 use Rattle.ancestry.specs.declared.verdict.Verdict.{Verdict}
-use Rattle.ancestry.specs.Tables.{Verdicts, Has, HasOne, Puts, IsOfTwo, IsOfAll, AreOf}
-use Rattle.ancestry.proofs.ListLemmas.{contains_one, contains_here}
+use Rattle.ancestry.specs.Tables.{Verdicts, Has, Puts, IsOfTwo, IsOfAll, AreOf}
+use Rattle.ancestry.proofs.ListLemmas.{contains_one}
 
 -- what a table has once a verdict is put in
 pub has_put : (old new : Verdicts) (id : ObjectId) (verdict : Verdict) → Puts old new id verdict → (other : ObjectId) (told : Verdict) → Has new other told → ((other ≡ id) × (told ≡ verdict)) ⊎ Has old other told
@@ -23,6 +23,13 @@ pub of_two_more : (one other old new : Verdicts) (id : ObjectId) (verdict : Verd
 of_two_more one other old new id verdict of has puts = λ q told is. elim (has_put old new id verdict puts q told is) [
   | inl same ↦ inr (subst (λ (i : ObjectId). Has other i told) (sym same.0) (subst (λ (v : Verdict). Has other id v) (sym same.1) has))
   | inr before ↦ of q told before
+]
+
+-- a table of nothing and of another has what the other has
+pub of_nothing : (other table : Verdicts) → IsOfTwo [] other table → (id : ObjectId) (verdict : Verdict) → Has table id verdict → Has other id verdict
+of_nothing other table of id verdict has = elim (of id verdict has) [
+  | inl none ↦ let bad : None ≡ Some verdict = none in cc
+  | inr here ↦ here
 ]
 
 -- a table of several with those of one of the several put in

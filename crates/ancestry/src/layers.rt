@@ -6,6 +6,7 @@ use crate::table::Table;
 use crate::verdict::Verdict;
 use base_types::NoMemory;
 use git_object::ObjectId;
+use ref_store::Salt;
 use std::alloc::{AllocError, Global};
 use std::marker::Model;
 use std::sync::Arc;
@@ -89,7 +90,7 @@ impl Layers {
         }
         let (older, newer) = self.layers.split_at(self.staying(table.len()));
         let mut layers = older.to_vec(alloc)?;
-        let table = joined(newer, table)?;
+        let table = joined(alloc, newer, table)?;
         layers.push(Layer {
             table: Arc::new(alloc, table)?,
         })?;
@@ -124,13 +125,26 @@ impl Clone for Layers {
     }
 }
 
-// A table with the verdicts of several put in.
-fn joined(layers: &[Layer], table: Table) -> Result<Table, NoMemory>
+// A table with the verdicts of several put in. Its salt is made of all their salts, so whoever chooses names knows it for none of them.
+fn joined(alloc: Global, layers: &[Layer], table: Table) -> Result<Table, NoMemory>
     ensures { IfOk result (IsOfAll layers.now table) }
 {
-    let mut joined = table;
+    if layers.is_empty() {
+        return Ok(table);
+    }
+    let empty = Table::new(alloc, joined_salt(layers, table.salt()));
+    let mut joined = empty.with_all(&table)?;
     for layer in layers {
         joined = joined.with_all(layer.table())?;
     }
     Ok(joined)
+}
+
+// The salt of the names in several tables and in one more.
+fn joined_salt(layers: &[Layer], with: Salt) -> Salt {
+    let mut salt = with;
+    for layer in layers {
+        salt = salt.joined(layer.table().salt());
+    }
+    salt
 }

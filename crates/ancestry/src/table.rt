@@ -42,6 +42,11 @@ impl Table {
         self.verdicts.len()
     }
 
+    /// Where the hash of each name in the table begins.
+    pub fn salt(&self) -> Salt {
+        *self.verdicts.hasher()
+    }
+
     pub fn get(&self, id: ObjectId) -> Option<Verdict>
         ensures { result ≡ lookup (same_id id) self.now }
     {

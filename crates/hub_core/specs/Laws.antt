@@ -12,7 +12,8 @@ use Rattle.hub_core.specs.declared.entry.EnterKept.TheVariants.{Granted, Created
 use Rattle.hub_core.specs.declared.entry.Event.TheVariants.{Entered, Pushed}
 use Rattle.hub_core.specs.Name.{Name}
 use Rattle.ref_store.specs.Objects.{HasNamesOnce}
-use Rattle.hub_core.specs.State.{Repository, HasShortNames, HasRefsApart}
+use Rattle.ref_store.specs.Refs.{HasRefsApart}
+use Rattle.hub_core.specs.State.{Repository, HasShortNames}
 use Rattle.hub_core.specs.Pin.{Opening, Pinned, pinned_in}
 use Rattle.hub_core.specs.Push.{AreWithinLimits, HasWholeRefs, outcomes_by_opening, outcomes_in}
 use Rattle.hub_core.specs.History.{history, replay, opening_at, pinned_by, outcomes_at, IsDue, IsLegal}

@@ -1,5 +1,5 @@
 -- The state of a hub: repositories by their names, and the conf in force.
-use Rattle.std.specs.Prelude.{ℕ, ◌≤◌, length, List, [], ◌∷◌, Option, None, Some, IsSome, codes}
+use Rattle.std.specs.Prelude.{ℕ, ◌≤◌, length, List, [], ◌∷◌, Option, None, Some, codes}
 use Rattle.std.specs.List.{sum_by, All}
 use Rattle.std.specs.Option.{unwrap_or}
 use Rattle.std.specs.FinMap.{empty, entries, get, insert, len}
@@ -9,7 +9,7 @@ use Rattle.git_object.specs.declared.object_id.ObjectId.{ObjectId}
 use Rattle.hub_core.specs.declared.name_table.Named.{Named}
 use Rattle.hub_core.specs.declared.rule.Rule.{Rule}
 use Rattle.hub_core.specs.Name.{Name, placed_in}
-use Rattle.ref_store.specs.Refs.{Refs, HasNoneAtOdds}
+use Rattle.ref_store.specs.Refs.{Refs}
 use Rattle.ref_store.specs.Store.{Store}
 use Rattle.hub_core.specs.Rule.{setup_rules}
 
@@ -26,10 +26,6 @@ store_of repository = record { objects = repository.objects; refs = repository.r
 -- no ref's name has more than 1,024 bytes
 abbrev pub HasShortNames : Refs → Type 0
 HasShortNames refs = All (λ (ref : Name × ObjectId). length ref.0 ≤ 1024) (entries refs)
-
--- no ref is a directory of another
-abbrev pub HasRefsApart : Refs → Type 0
-HasRefsApart refs = (name : Name) → IsSome (get refs name) → HasNoneAtOdds refs name
 
 abbrev pub empty_repository : Option Name → Repository
 empty_repository creator = record { objects = []; refs = empty; creator = creator; roles = [] }

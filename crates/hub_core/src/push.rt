@@ -25,8 +25,10 @@ pub struct Decided {
     pub same: Option<HostedRepo>,
 }
 
-/// Decides a push into a repository as it is just before. Where no command is done nothing is built: it costs a look-up of each of the pack's
-/// objects then, and the commands. `unchanged` tells that the push was judged by just the objects that are there now.
+/// Decides a push into a repository as it is just before. It costs the pack, the commands and, once a ref moves, the repository's refs.
+///
+/// Where no command is done no segment is built. What was found out on the way is kept where a command is done, and where the push is
+/// `unchanged`: judged by just the objects that are there now. That costs what was found out, and may join it with what was known.
 pub fn decide(
     alloc: Global,
     now: &HostedRepo,

@@ -3,4 +3,5 @@ pub mod ObjectLemmas
 pub mod PackLemmas
 pub mod SegmentLemmas
 pub mod RefLemmas
+pub mod ApartLemmas
 pub mod OddsLemmas

@@ -3,16 +3,16 @@ use Rattle.std.proofs.Common.{◌≡◌, ℕ, Bool, true, false, ◌||◌, ◌&&
 use Rattle.std.proofs.lemmas.Cmp.{nat_list_cmp_total, tied_itself}
 use Rattle.std.proofs.lemmas.List.{take-append-drop, take_at}
 use Rattle.std.specs.Prelude.{IsSome, is_some}
-use Rattle.std.specs.List.{find as first_of, starts_with}
+use Rattle.std.specs.List.{find as first_of}
 use Rattle.std.specs.declared.cmp.Ordering.{Ordering}
 use Rattle.std.specs.declared.cmp.Ordering.TheVariants.{Less, Equal, Greater}
 use Rattle.std.specs.Ordering.{nat_cmp, is_gt, is_lt, is_eq, eq_by_cmp, ordering_reverse}
 use Rattle.std.specs.Cmp.Lexicographic.{slice_cmp, texts_ties}
-use Rattle.std.specs.FinMap.{get, entries, entries_sorted, keys, find, is_sorted, get-entries}
+use Rattle.std.specs.FinMap.{get, entries, entries_sorted, find, is_sorted, get-entries}
 use Rattle.std.specs.FinMap.Entries.{below_all}
 use lib.Pointwise.{pointwise}
 use Rattle.git_object.specs.declared.object_id.ObjectId.{ObjectId}
-use Rattle.ref_store.specs.Refs.{Name, Refs, IsLe, IsBelow, AreAtOdds, IsLeastAtOdds, HasNoneAtOdds, TellsOfOdds, is_below, are_at_odds, first_at_odds}
+use Rattle.ref_store.specs.Refs.{Name, Refs, IsLe, IsBelow, AreAtOdds, TellsOfOdds, is_below, are_at_odds, first_at_odds}
 use Rattle.ref_store.proofs.ObjectLemmas.{same_bytes}
 
 same_itself : (xs : List ℕ) → pointwise nat_eq xs xs ≡ true
@@ -45,7 +45,7 @@ either_way : (b : Bool) → (b || true) ≡ true
 either_way true = refl
 either_way false = refl
 
-test_of_odds : (a b : Name) → AreAtOdds a b → are_at_odds a b ≡ true
+pub test_of_odds : (a b : Name) → AreAtOdds a b → are_at_odds a b ≡ true
 test_of_odds a b odds = elim odds [
   | inl l ↦ ap (λ t. t || is_below b a) (test_of_below a b l)
   | inr r ↦ ap (λ t. is_below a b || t) (test_of_below b a r) ∙ either_way (is_below a b)

@@ -4,19 +4,18 @@ use Rattle.std.proofs.lemmas.Bool.Decides.{nat_tests}
 use Rattle.std.proofs.lemmas.Cmp.{nat_cmp_total, nat_list_cmp_total, tied_itself}
 use Rattle.std.proofs.lemmas.List.{take-append-drop, drop_more, take_at, get_or_at, take-take}
 use Rattle.std.specs.Prelude.{IsSome}
-use Rattle.std.specs.Option.{unwrap_or}
 use Rattle.std.specs.BTreeMap.{BTreeMap}
 use Rattle.std.specs.BTreeMap.Range.{IsRangeOf}
 use Rattle.std.specs.declared.ops.Bound.TheVariants.{Included, Unbounded}
 use Rattle.std.specs.declared.cmp.Ordering.{Ordering}
-use Rattle.std.specs.declared.cmp.Ordering.TheVariants.{Equal, Greater}
-use Rattle.std.specs.Ordering.{nat_cmp, is_gt, ordering_then, eq_by_cmp}
+use Rattle.std.specs.declared.cmp.Ordering.TheVariants.{Less, Equal, Greater}
+use Rattle.std.specs.Ordering.{nat_cmp, is_gt, is_lt, ordering_then, ordering_reverse, eq_by_cmp}
 use Rattle.std.specs.Cmp.Lexicographic.{slice_cmp}
 use Rattle.std.specs.FinMap.{get, from_entries, insert, remove, empty, get-insert, get-remove, get-empty}
 use lib.Pointwise.{pointwise}
 use Rattle.base_types.proofs.NameMaps.{get-entries}
 use Rattle.git_object.specs.declared.object_id.ObjectId.{ObjectId}
-use Rattle.ref_store.specs.Refs.{Name, Refs, zero_id, value, moved, HasRefNames, HasNoZero, IsLe, IsLeastFrom, IsLeastAtOdds, HasNoneAtOdds}
+use Rattle.ref_store.specs.Refs.{Name, Refs, zero_id, moved, HasRefNames, HasNoZero, IsLe, IsLeastFrom, IsGreatestTo, IsLeastAtOdds, HasNoneAtOdds}
 use Rattle.std.specs.Cmp.Lexicographic.{texts_ties}
 use Rattle.ref_store.specs.Objects.{same_id}
 use Rattle.ref_store.specs.RefName.{is_ref_name}
@@ -27,7 +26,7 @@ some_is : (o : Option ObjectId) (id : ObjectId) → o ≡ Some id → IsSome o
 some_is None id is = cc
 some_is (Some i) id is = refl
 
-none_isnt : (o : Option ObjectId) → IsSome o → o ≡ None → ⊥
+pub none_isnt : (o : Option ObjectId) → IsSome o → o ≡ None → ⊥
 none_isnt None some is = let bad : false ≡ true = some in cc
 none_isnt (Some i) some is = cc
 
@@ -46,8 +45,30 @@ pub least_none : (refs : Refs) (m : BTreeMap Name ObjectId) (from : Name) (r : L
     → IsRangeOf (slice_cmp nat_cmp) (Included from) Unbounded m r → r ≡ [] → IsLeastFrom refs from None
 least_none refs m from r is range empty = λ q from_q. ap (λ (s : Refs). get s q) (sym is) ∙ get-entries m q ∙ range.5 empty q (from_q, tt)
 
+-- the last of what a range gives
+pub greatest_some : (refs : Refs) (m : BTreeMap Name ObjectId) (to n : Name) (id : ObjectId) (r t : List (Name × ObjectId)) → from_entries m.entries ≡ refs
+    → IsRangeOf (slice_cmp nat_cmp) Unbounded (Included to) m r → r ≡ t ++ (n, id) ∷ [] → IsGreatestTo refs to (Some n)
+greatest_some refs m to n id r t is range last =
+    let here = range.3 (n, id) t last in (
+      some_is (get refs n) id (ap (λ (s : Refs). get s n) (sym is) ∙ get-entries m n ∙ here.1),
+      here.0.1,
+      λ q to_q some. not_less n q (range.4 (n, id) t last q (tt, to_q) (subst IsSome (ap (λ (s : Refs). get s q) (sym is) ∙ get-entries m q) some)),
+    )
+  where
+    not_less : (n q : Name) → is_lt (slice_cmp nat_cmp n q) ≡ false → IsLe q n
+    not_less n q least = by_order (slice_cmp nat_cmp n q) refl least
+      where
+        by_order : (o : Ordering) → slice_cmp nat_cmp n q ≡ o → is_lt o ≡ false → IsLe q n
+        by_order Less is bad = cc bad
+        by_order Equal is same = ap is_gt (nat_list_cmp_total.antisymm q n ∙ ap ordering_reverse is)
+        by_order Greater is less = ap is_gt (nat_list_cmp_total.antisymm q n ∙ ap ordering_reverse is)
+
+pub greatest_none : (refs : Refs) (m : BTreeMap Name ObjectId) (to : Name) (r : List (Name × ObjectId)) → from_entries m.entries ≡ refs
+    → IsRangeOf (slice_cmp nat_cmp) Unbounded (Included to) m r → r ≡ [] → IsGreatestTo refs to None
+greatest_none refs m to r is range empty = λ q to_q. ap (λ (s : Refs). get s q) (sym is) ∙ get-entries m q ∙ range.5 empty q (tt, to_q)
+
 -- a beginning is not behind the whole
-prefix_le : (xs ys : Name) → IsLe xs (xs ++ ys)
+pub prefix_le : (xs ys : Name) → IsLe xs (xs ++ ys)
 prefix_le [] [] = refl
 prefix_le [] (y ∷ ys) = refl
 prefix_le (x ∷ xs) ys = ap (λ o. is_gt (ordering_then o (slice_cmp nat_cmp xs (xs ++ ys)))) (tied_itself nat_cmp_total x) ∙ prefix_le xs ys
@@ -73,7 +94,7 @@ past_front (f ∷ fs) [] rest le unlike = cc
 past_front (f ∷ fs) (e ∷ es) rest le unlike = past_step f e (pointwise nat_eq fs (take (length fs) es)) (slice_cmp nat_cmp fs es) (slice_cmp nat_cmp es (fs ++ rest)) (past_front fs es rest) le unlike
 
 -- where a directory of the name ends
-dir_ends : (name dir rest : Name) → name ≡ dir ++ 47 ∷ rest → (length dir < length name) × (get_or name (length dir) 0 ≡ 47) × (take (length dir) name ≡ dir)
+pub dir_ends : (name dir rest : Name) → name ≡ dir ++ 47 ∷ rest → (length dir < length name) × (get_or name (length dir) 0 ≡ 47) × (take (length dir) name ≡ dir)
 dir_ends name dir rest is = (
   omega (arith, ap length is, length-append dir (47 ∷ rest)),
   ap (λ (l : Name). get_or l (length dir) 0) is ∙ get_or_at dir 47 rest 0 (length dir) refl,

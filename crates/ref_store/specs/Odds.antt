@@ -1,5 +1,5 @@
 -- Steps on the way to a ref that can't stand beside a name.
-use Rattle.std.specs.Prelude.{◌≡◌, ℕ, take, get_or, Option, None, Some, IsSome}
+use Rattle.std.specs.Prelude.{◌≡◌, ℕ, suc, ◌==◌, [], ◌∷◌, take, get_or, Option, None, Some, IsSome, if◌then◌else◌}
 use Rattle.std.specs.FinMap.{get}
 use Rattle.ref_store.specs.Refs.{Name, Refs, IsBelow, IsLeastAtOdds}
 
@@ -15,3 +15,9 @@ TellsOfDirectory refs name (Some r) = IsLeastAtOdds refs name r
 abbrev pub TellsOfPlace : Refs → Name → ℕ → Option Name → Type 0
 TellsOfPlace refs name i None = get_or name i 0 ≡ 47 → get refs (take i name) ≡ None
 TellsOfPlace refs name i (Some r) = (get_or name i 0 ≡ 47) × (r ≡ take i name) × IsSome (get refs (take i name))
+
+-- how many bytes two names have in common at the front
+abbrev pub common : Name → Name → ℕ
+common [] b = 0
+common (x ∷ a) [] = 0
+common (x ∷ a) (y ∷ b) = if x == y then suc (common a b) else 0

@@ -49,6 +49,11 @@ IsLeastFrom refs from (Some n) = IsSome (get refs n) × IsLe from n × ((q : Nam
 abbrev pub IsBelow : Name → Name → Type 0
 IsBelow name dir = (rest : Name) × (name ≡ dir ++ 47 ∷ rest)
 
+-- the greatest name that is not behind this one, or none
+abbrev pub IsGreatestTo : Refs → Name → Option Name → Type 0
+IsGreatestTo refs to None = (q : Name) → IsLe q to → get refs q ≡ None
+IsGreatestTo refs to (Some n) = IsSome (get refs n) × IsLe n to × ((q : Name) → IsLe q to → IsSome (get refs q) → IsLe q n)
+
 -- one is a directory of the other
 abbrev pub AreAtOdds : Name → Name → Type 0
 AreAtOdds a b = IsBelow a b ⊎ IsBelow b a
@@ -62,6 +67,10 @@ pub record IsLeastAtOdds (refs : Refs) (name r : Name) : Type 0 where
 -- each ref can stand beside the name
 abbrev pub HasNoneAtOdds : Refs → Name → Type 0
 HasNoneAtOdds refs name = (q : Name) → IsSome (get refs q) → ¬ AreAtOdds q name
+
+-- no ref is a directory of another
+abbrev pub HasRefsApart : Refs → Type 0
+HasRefsApart refs = (name : Name) → IsSome (get refs name) → HasNoneAtOdds refs name
 
 abbrev pub TellsOfOdds : Refs → Name → Option Name → Type 0
 TellsOfOdds refs name None = HasNoneAtOdds refs name

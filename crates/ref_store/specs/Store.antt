@@ -8,7 +8,7 @@ use Rattle.ref_store.specs.declared.repo.Added as added
 use Rattle.ref_store.specs.declared.repo.Added.TheVariants as told
 use Rattle.ref_store.specs.declared.repo.Applied as applied
 use Rattle.ref_store.specs.declared.repo.Applied.TheVariants as moving
-use Rattle.ref_store.specs.Refs.{Name, Refs, zero_id, value, moved, HasRefNames, HasNoZero, HasNoneAtOdds, IsLeastAtOdds}
+use Rattle.ref_store.specs.Refs.{Name, Refs, zero_id, value, moved, HasRefNames, HasNoZero, HasRefsApart, HasNoneAtOdds, IsLeastAtOdds}
 use Rattle.ref_store.specs.Objects.{with_pack, HasNamesOnce, HasNoCollision, IsFirstCollision}
 
 -- objects, in the order in which they came, and refs
@@ -16,11 +16,12 @@ pub record Store : Type 0 where
   pub objects : List Content
   pub refs : Refs
 
--- what a repository keeps: no two objects of one name, only names that a ref may have, and no ref at zero
+-- what a repository keeps: no two objects of one name, only names that a ref may have, no ref at zero, and no ref a directory of another
 pub record IsSound (store : Store) : Type 0 where
   pub names : HasNamesOnce store.objects
   pub refs : HasRefNames store.refs
   pub values : HasNoZero store.refs
+  pub apart : HasRefsApart store.refs
 
 -- what is told of a pack beside the objects that are there: where two objects of one name differ that is told; else, where there would be more than 4,294,967,295, how many there would be; else which ones to add
 abbrev pub TellsOfComparing : List Content → List Content → compared.Compared → Type 0

@@ -1,5 +1,5 @@
 // The objects of a repository with those of a pack.
-ghost use Rattle.std.specs.Prelude.{◌≡◌, ◌++◌, IfOk, IfSome, slice_get, Some, take};
+ghost use Rattle.std.specs.Prelude.{◌≡◌, ◌++◌, IfOk, IfSome, length, slice_get, Some, take};
 ghost use Rattle.std.specs.Option.{option_copied, option_map};
 ghost use Rattle.ref_store.specs.Objects.{first_named, place_of};
 ghost use Rattle.ref_store.specs.Segments.{all_of};
@@ -46,9 +46,16 @@ impl Lens {
         Ok(Lens { kept, pack })
     }
 
-    /// A salt for tables of these objects' names, which whoever chooses names can't foresee.
+    /// A salt for tables of these objects' names. All of them go into it, so none is known before all are chosen. It costs the number of the segments.
     pub fn salt(&self) -> Salt {
         self.kept.salt().joined(self.pack.salt())
+    }
+
+    /// How many objects there are.
+    pub fn len(&self) -> usize
+        ensures { result ≡ length self.now }
+    {
+        self.kept.len() + self.pack.len()
     }
 
     /// The object of the name that stands first: the repository's, if it has one.

@@ -1,14 +1,15 @@
 // Which ref can't stand beside a name.
 ghost use Rattle.std.specs.Prelude.{◌≡◌, ◌++◌, ◌∷◌, ◌<◌, [], IfOk, length};
-ghost use Rattle.ref_store.specs.Odds.{HasNoDirectory, TellsOfDirectory, TellsOfPlace};
-ghost use Rattle.ref_store.specs.Refs.{TellsOfOdds};
+ghost use Rattle.ref_store.specs.Odds.{common, HasNoDirectory, TellsOfDirectory, TellsOfPlace};
+ghost use Rattle.ref_store.specs.Refs.{HasRefsApart, TellsOfOdds};
 
 use crate::ref_map::RefMap;
 use base_types::{NoMemory, Text};
 use std::alloc::Global;
 
-/// The least ref that is a directory of the name or stands below it. Directories are looked up one by one, and what stands below is the next name behind.
+/// The least ref that is a directory of the name or stands below it. Either is next to the name in the order of names, so it costs a few look-ups.
 pub fn at_odds(alloc: Global, refs: &RefMap, name: &[u8]) -> Result<Option<Text>, NoMemory>
+    requires { HasRefsApart refs.now }
     ensures { IfOk result (λ r. TellsOfOdds refs.now name.now r) }
 {
     match directory(alloc, refs, name)? {
@@ -17,15 +18,35 @@ pub fn at_odds(alloc: Global, refs: &RefMap, name: &[u8]) -> Result<Option<Text>
     }
 }
 
+// The ref that is a directory of the name. A directory of the name is a beginning of the greatest ref that isn't behind the name, but it is no
+// directory of that ref where refs stand apart: so it ends just where the two names part.
 fn directory(alloc: Global, refs: &RefMap, name: &[u8]) -> Result<Option<Text>, NoMemory>
+    requires { HasRefsApart refs.now }
     ensures { IfOk result (λ r. TellsOfDirectory refs.now name.now r) }
 {
-    for i in 0..name.len() {
-        if let Some(dir) = dir_at(alloc, refs, name, i)? {
-            return Ok(Some(dir));
+    let Some(nearest) = refs.last_to(Text::of(alloc, name)?) else {
+        return Ok(None);
+    };
+    let end = common_len(nearest.bytes(), name);
+    if end >= name.len() {
+        return Ok(None);
+    }
+    dir_at(alloc, refs, name, end)
+}
+
+// How many bytes two names have in common at the front.
+fn common_len(first: &[u8], second: &[u8]) -> usize
+    ensures { result ≡ common first.now second.now }
+{
+    for i in 0..first.len() {
+        if i >= second.len() {
+            return i;
+        }
+        if first[i] != second[i] {
+            return i;
         }
     }
-    Ok(None)
+    first.len()
 }
 
 // The directory that ends at this place, if it is a ref.

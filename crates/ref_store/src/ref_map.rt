@@ -2,7 +2,7 @@
 ghost use Rattle.std.specs.Prelude.{◌≡◌, IfOk, IfSome, None, OnErr, OnOk};
 ghost use Rattle.std.specs.FinMap as map;
 ghost use Rattle.std.specs.Option.{option_copied, option_map};
-ghost use Rattle.ref_store.specs.Refs.{IsLeastFrom};
+ghost use Rattle.ref_store.specs.Refs.{IsGreatestTo, IsLeastFrom};
 
 use base_types::{NoMemory, Text};
 use git_object::ObjectId;
@@ -11,7 +11,7 @@ use std::collections::BTreeMap;
 use std::collections::btree_map::Iter;
 use std::marker::Model;
 
-/// Refs in the byte order of their names. Beside the map of `base_types` it finds the next name behind one.
+/// Refs in the byte order of their names. Beside the map of `base_types` it finds the nearest names on both sides of one.
 #[derive(Drop)]
 pub struct RefMap {
     entries: BTreeMap<Text, ObjectId>,
@@ -78,6 +78,17 @@ impl RefMap {
     {
         let mut names = self.entries.range(from..);
         match names.next() {
+            Some((name, _)) => Some(name),
+            None => None,
+        }
+    }
+
+    /// The greatest name that is not behind this one.
+    pub fn last_to(&self, to: Text) -> Option<&Text>
+        ensures { IsGreatestTo self.now to (option_map (λ n. n.now) result) }
+    {
+        let mut names = self.entries.range(..=to);
+        match names.next_back() {
             Some((name, _)) => Some(name),
             None => None,
         }

@@ -1,15 +1,16 @@
 // A repository.
-ghost use Rattle.std.specs.Prelude.{◌≡◌, ◌+◌, ◌++◌, ◌↔◌, ◌≤◌, ◌^◌, [], IfOk, IsTrue, length, None, OnErr, OnOk, slice_get, take};
+ghost use Rattle.std.specs.Prelude.{◌≡◌, ◌+◌, ◌++◌, ◌↔◌, ◌≤◌, ◌^◌, [], IfOk, IfSome, IsTrue, length, None, OnErr, OnOk, slice_get, take};
 ghost use Rattle.std.specs.FinMap as map;
 ghost use Rattle.std.specs.Option.{option_copied};
-ghost use Rattle.ref_store.specs.Objects.{first_named, HasNamesOnce, same_id};
-ghost use Rattle.ref_store.specs.Refs.{moved, value, zero_id};
+ghost use Rattle.ref_store.specs.Objects.{first_named, HasNamesOnce, place_of, same_id};
+ghost use Rattle.ref_store.specs.Refs.{HasNoneAtOdds, moved, TellsOfOdds, value, zero_id};
 ghost use Rattle.ref_store.specs.Segments.{all_of};
 ghost use Rattle.ref_store.specs.Store.{left_by, moved_by, TellsOfAdding, TellsOfComparing, TellsOfMove};
 
 use crate::lacking::{Lacking, find_lacking};
 use crate::odds::at_odds;
 use crate::ref_name::RefName;
+use crate::salt::Salt;
 use crate::segments::Segments;
 use crate::shared_refs::SharedRefs;
 use base_types::{NoMemory, Text};
@@ -151,9 +152,15 @@ impl Repo {
         &self.objects
     }
 
+    /// A salt of the names of all objects. It costs the number of the segments.
+    pub fn salt(&self) -> Salt {
+        self.objects.salt()
+    }
+
     /// How many objects there are, of which no two have one name.
     pub fn count(&self) -> usize
         ensures count { result ≡ length self.now.objects }
+        ensures few { result ≤ 4294967295 }
         ensures names { HasNamesOnce self.now.objects }
     {
         self.objects.len()
@@ -173,6 +180,16 @@ impl Repo {
         self.objects.named(id, first_k)
     }
 
+    /// The place of the object of this name, among the first so many.
+    pub fn place(&self, id: ObjectId, first_k: usize) -> Option<usize>
+        ensures { result ≡ place_of (take first_k self.now.objects) id }
+    {
+        match self.objects.before(id, first_k) {
+            Some((at, _)) => Some(at),
+            None => None,
+        }
+    }
+
     /// How many refs there are.
     pub fn ref_count(&self) -> usize
         ensures { result ≡ map.len self.now.refs }
@@ -180,7 +197,7 @@ impl Repo {
         self.refs.refs().len()
     }
 
-    /// Moves a ref from its old value to a new one; zero stands for no value. A create looks at no more refs than the name has directories, and at one behind them.
+    /// Moves a ref from its old value to a new one; zero stands for no value. It costs a few look-ups, and where another repository shares the refs a copy of them.
     pub fn apply(&mut self, name: &RefName, old: ObjectId, new: ObjectId) -> Applied
         ensures told { TellsOfMove self.old.refs name.now old result }
         ensures repo { self.new ≡ moved_by self.old name.now new result }
@@ -189,12 +206,10 @@ impl Repo {
         if !same_id(value, old) {
             return Applied::Stale(value);
         }
-        if same_id(old, ObjectId::zero()) {
-            match at_odds(self.alloc, self.refs.refs(), name.bytes()) {
-                Ok(Some(other)) => return Applied::DirFile(RefName::known(other)),
-                Ok(None) => {}
-                Err(NoMemory) => return Applied::NoMemory,
-            }
+        match self.at_odds(name, old) {
+            Ok(Some(other)) => return Applied::DirFile(other),
+            Ok(None) => {}
+            Err(NoMemory) => return Applied::NoMemory,
         }
         match self.put(name, new) {
             Ok(()) => Applied::Moved,
@@ -202,8 +217,25 @@ impl Repo {
         }
     }
 
+    // The least ref that can't stand beside a name, which has this value. All can stand beside a ref that is there.
+    fn at_odds(&self, name: &RefName, old: ObjectId) -> Result<Option<RefName>, NoMemory>
+        requires { value self.now.refs name.now ≡ old }
+        ensures odds { IfOk result (TellsOfOdds self.now.refs name.now) }
+        ensures create { IfOk result (λ odds. IfSome odds (λ _. old ≡ zero_id)) }
+    {
+        let refs = self.refs.refs();
+        if !same_id(old, ObjectId::zero()) {
+            return Ok(None);
+        }
+        match at_odds(self.alloc, refs, name.bytes())? {
+            Some(other) => Ok(Some(RefName::known(other))),
+            None => Ok(None),
+        }
+    }
+
     // Gives a ref its value, or takes it away.
     fn put(&mut self, name: &RefName, new: ObjectId) -> Result<(), NoMemory>
+        requires { HasNoneAtOdds self.old.refs name.now }
         ensures ok { OnOk result (self.new ≡ record self.old { refs = moved self.old.refs name.now new }) }
         ensures err { OnErr result (self.new ≡ self.old) }
     {

@@ -1,5 +1,5 @@
 // How the names in an index are hashed.
-use git_object::Object;
+use git_object::{Object, ObjectId};
 use sha1::Sha1;
 use std::hash::{BuildHasher, FoldHasher, Hasher};
 
@@ -17,6 +17,15 @@ impl Salt {
         let mut hasher = Sha1::new();
         for object in objects {
             hasher.update(&object.name().bytes);
+        }
+        salt_from(hasher.finalize())
+    }
+
+    /// The salt of an index of these names.
+    pub fn of_ids(ids: &[ObjectId]) -> Salt {
+        let mut hasher = Sha1::new();
+        for id in ids {
+            hasher.update(&id.bytes);
         }
         salt_from(hasher.finalize())
     }

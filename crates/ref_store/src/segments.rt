@@ -85,12 +85,9 @@ impl Segments {
         })
     }
 
-    /// The salt of the newest segment.
+    /// A salt of the names of all these objects, made of the segments' salts.
     pub fn salt(&self) -> Salt {
-        match self.segments.last() {
-            Some(segment) => segment.table().salt(),
-            None => Salt::of(&[]),
-        }
+        joined_salt(&self.segments, &[])
     }
 
     /// How many segments there are.

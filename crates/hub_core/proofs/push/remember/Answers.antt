@@ -2,7 +2,6 @@ use Rattle.std.proofs.Common.{◌≡◌, List, sym, ◌∙◌, ap, subst}
 use Rattle.git_object.specs.Content.{Content}
 use Rattle.ref_store.specs.Store.{Store}
 use Rattle.ancestry.specs.Known.{AreFound, AreKnown}
-use Rattle.ancestry.specs.declared.known.Findings.{Findings}
 use Rattle.hub_core.proofs.push.remember.Goals as goal
 
 pub with_repo-requires : goal.with_repo-requires

@@ -16,7 +16,7 @@ invariant_of-self c =
     let objects : kept ≡ c.args.self.now.objects = ap (λ (s : Store). s.objects) c.self.view_is in
     let is : all_of c.in_ok-objects.objects ≡ c.args.self.now.objects ++ c.args.fresh =
     all_added c.self.inside.objects c.in_ok-objects.objects c.deref.result.now c.args.fresh (c.args.self.now.objects ++ c.args.fresh) c.in_ok-objects.ensures (c.deref.ensures.value ∙ c.fresh.view_is) (ap (λ os. os ++ c.args.fresh) (sym objects)) in
-    record { names = subst HasNamesOnce (sym is) c.requires.names; refs = c.self.invariant.refs; values = c.self.invariant.values }
+    record { names = subst HasNamesOnce (sym is) c.requires.names; refs = c.self.invariant.refs; values = c.self.invariant.values; apart = c.self.invariant.apart }
 
 pub returns-clause-ok : goal.returns-clause-ok
 returns-clause-ok c =

@@ -1,5 +1,4 @@
-use Rattle.std.proofs.Common.{rules, ◌≡◌, ◌+◌, ◌≤◌, ◌++◌, List, length, sym, ◌∙◌, ap, subst, arith, length-append}
-use Rattle.git_object.specs.Content.{Content}
+use Rattle.std.proofs.Common.{rules, ◌≡◌, ◌+◌, ◌≤◌, ◌++◌, length, sym, ◌∙◌, ap, subst, arith}
 use Rattle.ref_store.specs.Objects.{with_pack, HasNamesOnce, HasNoCollision}
 use Rattle.ref_store.specs.Segments.{all_of}
 use Rattle.ref_store.specs.Store.{Store}
