@@ -1,18 +1,15 @@
 -- What is known of some objects.
-use Rattle.std.proofs.Common.{◌≡◌, ℕ, ◌+◌, ◌-◌, ◌*◌, ◌<◌, arith, List, [], ◌∷◌, ◌++◌, Bool, true, false, not, cond, is_none, Option, None, Some, Contains, refl, sym, ◌∙◌, ap, subst, ◌⊎◌, inl, inr}
+use Rattle.std.proofs.Common.{◌≡◌, ℕ, ◌+◌, ◌-◌, ◌*◌, ◌<◌, arith, List, [], Bool, true, false, not, cond, is_none, Option, None, Some, Contains, refl, sym, ◌∙◌, ap, subst, inl, inr}
 use Rattle.std.specs.Prelude.{IsSome}
 use Rattle.std.specs.Option.{option_map_or}
 use Rattle.git_object.specs.Content.{Content}
 use Rattle.git_object.specs.Object.{links_of}
 use Rattle.git_object.specs.declared.kind.Kind.{Kind}
-use Rattle.git_object.specs.declared.kind.Kind.TheVariants.{Blob}
 use Rattle.git_object.specs.declared.object_id.ObjectId.{ObjectId}
 use Rattle.ref_store.specs.Objects.{first_named}
-use Rattle.ancestry.specs.declared.known.Findings.{Findings}
-use Rattle.ancestry.specs.declared.known.Known.{Known}
 use Rattle.ancestry.specs.declared.verdict.Verdict.{Verdict}
-use Rattle.ancestry.specs.declared.verdict.Verdict.TheVariants.{Whole, Missing, WrongKind}
-use Rattle.ancestry.specs.Known.{IsRight, AreFound, AreKnown, Extends}
+use Rattle.ancestry.specs.declared.verdict.Verdict.TheVariants.{Whole, WrongKind}
+use Rattle.ancestry.specs.Known.{IsRight, Extends}
 use Rattle.ancestry.specs.Tables.{Verdicts, Has, HasOne, Puts, AreOf}
 use Rattle.ancestry.specs.Verdict.{alone, worse, IsToldOf, IsToldOfAll}
 use Rattle.ancestry.specs.Walk.{Want, IsMet, Root, Link, wanted_by, links_at, suits}

@@ -6,3 +6,7 @@ pub mod TableLemmas
 pub mod KnownLemmas
 pub mod SeenLemmas
 pub mod WalkedLemmas
+pub mod ReachedLemmas
+pub mod LineLemmas
+pub mod PlaceLemmas
+pub mod TagLemmas

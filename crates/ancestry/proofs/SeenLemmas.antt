@@ -21,17 +21,17 @@ module _ (ids : List ObjectId) (new : ObjectId) where
   abbrev pub put : List ObjectId
   put = cond (list_any (same_id new) ids) ids (ids ++ new ∷ [])
 
-  put_adds : (more : List ObjectId) × (put ≡ ids ++ more)
+  pub put_adds : (more : List ObjectId) × (put ≡ ids ++ more)
   put_adds = elim (list_any (same_id new) ids) as (λ b. (more : List ObjectId) × (cond b ids (ids ++ new ∷ []) ≡ ids ++ more)) [ true ↦ ([], sym (append-nil ids)) | false ↦ (new ∷ [], refl) ]
 
-  put_there : Contains put new
+  pub put_there : Contains put new
   put_there = by_test (list_any (same_id new) ids) refl
     where
       by_test : (b : Bool) → list_any (same_id new) ids ≡ b → Contains (cond b ids (ids ++ new ∷ [])) new
       by_test true e = let found = any_contains (same_id new) ids e in subst (λ (i : ObjectId). Contains ids i) (sym (id_is new found.0 found.2)) found.1
       by_test false e = Contains-append_right ids (new ∷ []) new (contains_here new [])
 
-  put_only : (id : ObjectId) → Contains put id → Contains ids id ⊎ (new ≡ id)
+  pub put_only : (id : ObjectId) → Contains put id → Contains ids id ⊎ (new ≡ id)
   put_only id c = by_test (list_any (same_id new) ids) c
     where
       by_test : (b : Bool) → Contains (cond b ids (ids ++ new ∷ [])) id → Contains ids id ⊎ (new ≡ id)

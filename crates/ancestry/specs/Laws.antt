@@ -1,10 +1,13 @@
 -- Laws of the definitions.
-use Rattle.std.specs.Prelude.{◌≡◌, ◌↔◌, true, List, Option}
+use Rattle.std.specs.Prelude.{◌≡◌, ◌↔◌, true, List, [], ◌∷◌, Option, None}
 use Rattle.std.specs.List.{Contains}
 use Rattle.git_object.specs.Content.{Content}
 use Rattle.git_object.specs.declared.object_id.ObjectId.{ObjectId}
 use Rattle.git_object.specs.declared.kind.Kind.{Kind}
+use Rattle.ancestry.specs.Ancestors.{parents_at, BringsMerge, IsAncestor}
 use Rattle.ancestry.specs.Order.{IsLeast}
+use Rattle.ancestry.specs.Reached.{IsReached}
+use Rattle.ancestry.specs.Sent.{linked_at}
 use Rattle.ancestry.specs.Walk.{Want, IsMet, met}
 use Rattle.ancestry.specs.Wholeness.{is_missing, is_wrong, missing, wrong}
 
@@ -27,3 +30,24 @@ MissingIsLeast = (objects : List Content) (root : ObjectId) (kind : Option Kind)
 -- what is told wrong is the least that any walk shows to be wrong, and none where no walk does
 abbrev pub WrongIsLeast : Type 0
 WrongIsLeast = (objects : List Content) (root : ObjectId) (kind : Option Kind) → IsLeast (IsWrong objects root kind) (wrong objects root kind)
+
+-- a line of commits that leads from one back to another: each is a parent of the one before
+abbrev pub IsLine : List Content → ObjectId → List ObjectId → ObjectId → Type 0
+IsLine objects from [] to = from ≡ to
+IsLine objects from (next ∷ line) to = Contains (parents_at objects from) next × IsLine objects next line to
+
+-- an ancestor is one to which some line leads
+abbrev pub LinesLeadToAncestors : Type 0
+LinesLeadToAncestors = (objects : List Content) (ancestor id : ObjectId) → IsAncestor objects ancestor id ↔ ((line : List ObjectId) × IsLine objects id line ancestor)
+
+-- an ancestor of an ancestor is one
+abbrev pub AncestorsOfAncestors : Type 0
+AncestorsOfAncestors = (objects : List Content) (first second third : ObjectId) → IsAncestor objects first second → IsAncestor objects second third → IsAncestor objects first third
+
+-- a commit brings no merge to itself
+abbrev pub NoMergeByItself : Type 0
+NoMergeByItself = (objects : List Content) (id : ObjectId) → ¬ BringsMerge objects id id
+
+-- what a fetch of an id reaches is what the walks meet that tell whether the id is whole
+abbrev pub ReachedIsMet : Type 0
+ReachedIsMet = (objects : List Content) (root id : ObjectId) → IsReached (linked_at objects) (root ∷ []) id ↔ ((kind : Option Kind) × IsMet objects root None (id, kind))

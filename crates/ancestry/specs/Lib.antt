@@ -1,8 +1,13 @@
 pub mod Order
 pub mod Walk
 pub mod Wholeness
-pub mod Laws
 pub mod Verdict
 pub mod Tables
 pub mod Known
 pub mod Seen
+pub mod IdSet
+pub mod Reached
+pub mod Ancestors
+pub mod Sent
+pub mod Tags
+pub mod Laws

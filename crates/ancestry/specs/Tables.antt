@@ -1,5 +1,5 @@
 -- Tables of verdicts by name, and lists of such tables.
-use Rattle.std.specs.Prelude.{◌≡◌, List, Option, Some, ◌⊎◌, if◌then◌else◌}
+use Rattle.std.specs.Prelude.{◌≡◌, List, Some, ◌⊎◌, if◌then◌else◌}
 use Rattle.std.specs.List.{Contains}
 use Rattle.std.specs.Map.{lookup}
 use Rattle.git_object.specs.declared.object_id.ObjectId.{ObjectId}

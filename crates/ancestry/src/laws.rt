@@ -1,9 +1,13 @@
 // Laws of the definitions.
-ghost use Rattle.ancestry.specs.Laws.{MeetsWithinObjects, MissingIsLeast, WrongIsLeast};
+ghost use Rattle.ancestry.specs.Laws.{AncestorsOfAncestors, LinesLeadToAncestors, MeetsWithinObjects, MissingIsLeast, NoMergeByItself, ReachedIsMet, WrongIsLeast};
 
 /// The laws hold, of all objects and every root.
 pub fn hold_laws()
     ensures within { MeetsWithinObjects }
     ensures missing { MissingIsLeast }
     ensures wrong { WrongIsLeast }
+    ensures reached { ReachedIsMet }
+    ensures lines { LinesLeadToAncestors }
+    ensures ancestors { AncestorsOfAncestors }
+    ensures itself { NoMergeByItself }
 {}

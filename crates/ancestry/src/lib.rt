@@ -7,25 +7,39 @@
 //! - `known`: what walkers find out, and keep for later ones;
 //! - `seen`: a plain walk, which keeps nothing;
 //! - `walks`: walks among the same objects;
-//! - `laws`: laws that what a walk of any length meets is met early.
+//! - `id_set`, `reached`: names, each once, and the one walk that goes along them;
+//! - `ancestors`: along the parents of commits;
+//! - `sent`: what a fetch sends;
+//! - `tags`: what a tag stands for;
+//! - `laws`: laws of the definitions.
 #![tactic(auto)]
 
+mod ancestors;
 mod facts;
+mod id_set;
 mod known;
 mod laws;
 mod layers;
+mod reached;
 mod seen;
+mod sent;
 mod table;
+mod tags;
 mod verdict;
 mod walks;
 mod wholeness;
 
+pub use ancestors::{Advance, advance_between, brings_merge, is_ancestor};
 pub use base_types::NoMemory;
 pub use facts::{Change, Facts};
 pub use known::{Findings, Known};
 pub use laws::hold_laws;
+pub use sent::reach;
+pub use tags::peel;
 pub use walks::Walks;
 pub use wholeness::{Wholeness, whole};
 
+#[cfg(test)]
+mod history_tests;
 #[cfg(test)]
 mod tests;

@@ -6,7 +6,7 @@ use ref_store::{Added, Lens, Repo};
 use std::alloc::Global;
 use std::test::Fail;
 
-fn object(alloc: Global, kind: Kind, body: &[u8]) -> Result<Object, Fail> {
+pub(crate) fn object(alloc: Global, kind: Kind, body: &[u8]) -> Result<Object, Fail> {
     if body.len() > 1000 {
         return Err(Fail::from("a short body"));
     }
@@ -14,7 +14,7 @@ fn object(alloc: Global, kind: Kind, body: &[u8]) -> Result<Object, Fail> {
 }
 
 // A tree of entries, each a mode and a name beside an id.
-fn tree(alloc: Global, entries: &[(&str, ObjectId)]) -> Result<Object, Fail> {
+pub(crate) fn tree(alloc: Global, entries: &[(&str, ObjectId)]) -> Result<Object, Fail> {
     let mut body = Vec::new(alloc);
     for (entry, id) in entries {
         body.extend_from_slice(entry.as_bytes())?;
@@ -24,7 +24,7 @@ fn tree(alloc: Global, entries: &[(&str, ObjectId)]) -> Result<Object, Fail> {
     object(alloc, Kind::Tree, &body)
 }
 
-fn commit(alloc: Global, tree: ObjectId, parents: &[ObjectId]) -> Result<Object, Fail> {
+pub(crate) fn commit(alloc: Global, tree: ObjectId, parents: &[ObjectId]) -> Result<Object, Fail> {
     let mut body = b"tree ".to_vec(alloc)?;
     body.extend_from_slice(&tree.hex())?;
     body.push(b'\n')?;
@@ -36,7 +36,7 @@ fn commit(alloc: Global, tree: ObjectId, parents: &[ObjectId]) -> Result<Object,
     object(alloc, Kind::Commit, &body)
 }
 
-fn tag(alloc: Global, target: ObjectId, kind: Kind) -> Result<Object, Fail> {
+pub(crate) fn tag(alloc: Global, target: ObjectId, kind: Kind) -> Result<Object, Fail> {
     let mut body = b"object ".to_vec(alloc)?;
     body.extend_from_slice(&target.hex())?;
     body.extend_from_slice(b"\ntype ")?;
@@ -46,11 +46,11 @@ fn tag(alloc: Global, target: ObjectId, kind: Kind) -> Result<Object, Fail> {
 }
 
 // A name that no object has.
-fn absent(byte: u8) -> ObjectId {
+pub(crate) fn absent(byte: u8) -> ObjectId {
     ObjectId { bytes: [byte; 20] }
 }
 
-fn repo_of(alloc: Global, objects: &ObjectList) -> Result<Repo, Fail> {
+pub(crate) fn repo_of(alloc: Global, objects: &ObjectList) -> Result<Repo, Fail> {
     let mut repo = Repo::empty(alloc)?;
     match repo.add_objects(objects) {
         Added::Added => Ok(repo),
@@ -116,7 +116,7 @@ fn knowing_told_otherwise(
 }
 
 // Puts an object into a list, and gives its name.
-fn put(objects: &mut ObjectList, object: Object) -> Result<ObjectId, Fail> {
+pub(crate) fn put(objects: &mut ObjectList, object: Object) -> Result<ObjectId, Fail> {
     let name = object.name();
     objects.push(object)?;
     Ok(name)

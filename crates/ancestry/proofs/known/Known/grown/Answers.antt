@@ -1,4 +1,4 @@
-use Rattle.std.proofs.Common.{List, sym, subst}
+use Rattle.std.proofs.Common.{List, subst}
 use Rattle.ancestry.specs.Tables.{Verdicts, HasOne}
 use Rattle.ancestry.proofs.ListLemmas.{contains_none}
 use Rattle.ancestry.proofs.KnownLemmas.{right_grows}

@@ -1,0 +1,134 @@
+-- Ancestors and lines, and walks that stop short.
+use Rattle.std.proofs.Common.{◌≡◌, ◌⊎◌, inl, inr, Bool, true, false, cond, List, [], ◌∷◌, ◌++◌, map, Option, None, Some, Contains, refl, sym, ap, subst}
+use Rattle.std.specs.Option.{option_map_or}
+use Rattle.std.specs.List.{list_any}
+use Rattle.ancestry.proofs.ListLemmas.{contains_here, contains_one, contains_none, contains_map, map_contains, any_contains, contains_any}
+use Rattle.git_object.specs.Content.{Content}
+use Rattle.git_object.specs.declared.object_id.ObjectId.{ObjectId}
+use Rattle.git_object.specs.declared.kind.Kind.{Kind}
+use Rattle.git_object.specs.Object.{links_of}
+use Rattle.ref_store.specs.Objects.{first_named, same_id}
+use Rattle.ref_store.proofs.ObjectLemmas.{id_is, id_itself}
+use Rattle.ancestry.specs.Reached.{IsReached, Root, Next}
+use Rattle.ancestry.specs.Sent.{linked_at, linked_outside}
+use Rattle.ancestry.specs.Walk.{Want, IsMet, wanted_by, links_at}
+use Rattle.ancestry.specs.Walk as walk
+use Rattle.ancestry.specs.Ancestors.{parents_at, parents_short_of, IsAncestor, BringsMerge, HasNewMerge}
+use Rattle.ancestry.specs.Laws.{IsLine}
+
+module _ (objects : List Content) where
+  pub further : (second third first : ObjectId) → IsAncestor objects first second → IsAncestor objects second third → IsAncestor objects first third
+  further second third first (Root id root) rest = subst (λ (i : ObjectId). IsAncestor objects i third) (contains_one second id root) rest
+  further second third first (Next from to is link) rest = Next from to (further second third from is rest) link
+
+  longer : (from : ObjectId) (line : List ObjectId) (to next : ObjectId) → IsLine objects from line to → Contains (parents_at objects to) next → IsLine objects from (line ++ next ∷ []) next
+  longer from [] to next is link = (subst (λ (i : ObjectId). Contains (parents_at objects i) next) (sym is) link, refl)
+  longer from (one ∷ line) to next is link = (is.0, longer one line to next is.1 link)
+
+  pub line_of : (id ancestor : ObjectId) → IsAncestor objects ancestor id → (line : List ObjectId) × IsLine objects id line ancestor
+  line_of id ancestor (Root root c) = ([], contains_one id root c)
+  line_of id ancestor (Next from to is link) = let before = line_of id from is in (before.0 ++ to ∷ [], longer id before.0 from to before.1 link)
+
+  pub of_line : (ancestor id : ObjectId) (line : List ObjectId) → IsLine objects id line ancestor → IsAncestor objects ancestor id
+  of_line ancestor id [] is = Root ancestor (subst (λ (i : ObjectId). Contains (id ∷ []) i) is (contains_here id []))
+  of_line ancestor id (next ∷ line) is = further next id ancestor (of_line ancestor next line is.1) (Next id next (Root id (contains_here id [])) is.0)
+
+-- ---- walks that go nowhere from some names
+
+contains_if : (b : Bool) (ids : List ObjectId) (id : ObjectId) → Contains (cond b [] ids) id → Contains ids id
+contains_if true ids id c = absurd (contains_none id c)
+contains_if false ids id c = c
+
+module _ (objects : List Content) (stop new : ObjectId) where
+  abbrev Short : ObjectId → Type 0
+  Short = IsReached (parents_short_of objects (Some stop)) (new ∷ [])
+
+  pub short_reached : (id : ObjectId) → Short id → IsAncestor objects id new
+  short_reached id (Root root c) = Root id c
+  short_reached id (Next from to is link) = Next from id (short_reached from is) (contains_if (same_id stop from) (parents_at objects from) id link)
+
+  goes_on : (from to : ObjectId) → Short from → Contains (parents_at objects from) to → (stop ≡ from) ⊎ Short to
+  goes_on from to is link = by_test (same_id stop from) refl
+    where
+      by_test : (b : Bool) → same_id stop from ≡ b → (stop ≡ from) ⊎ Short to
+      by_test true same = inl (id_is stop from same)
+      by_test false other = inr (Next from to is (subst (λ (b : Bool). Contains (cond b [] (parents_at objects from)) to) (sym other) link))
+
+  -- an ancestor of the new commit is met, or it is one of the commit where the walk stops, which is met then
+  pub short_or_before : (id : ObjectId) → IsAncestor objects id new → Short id ⊎ (IsAncestor objects id stop × Short stop)
+  short_or_before id (Root root c) = inl (Root id c)
+  short_or_before id (Next from to is link) = elim (short_or_before from is) [
+    | inl short ↦ elim (goes_on from id short link) [
+      | inl here ↦ inr (Next from id (Root from (subst (λ (i : ObjectId). Contains (stop ∷ []) i) here (contains_here stop []))) link, subst Short (sym here) short)
+      | inr further ↦ inl further
+    ]
+    | inr before ↦ inr (Next from id before.0 link, before.1)
+  ]
+
+  -- the commit where it stops is met just where it is an ancestor
+  pub stop_met : IsAncestor objects stop new → Short stop
+  stop_met is = elim (short_or_before stop is) [ inl short ↦ short | inr before ↦ before.1 ]
+
+  -- a merge is brought just where one is met that is no ancestor of the commit where the walk stops
+  pub merge_met : (line : List ObjectId) → ((id : ObjectId) → (Contains line id → Short id) × (Short id → Contains line id)) → (HasNewMerge objects stop line → BringsMerge objects stop new) × (BringsMerge objects stop new → HasNewMerge objects stop line)
+  merge_met line met = (
+    λ has. (has.0, short_reached has.0 ((met has.0).0 has.1), has.2, has.3),
+    λ brings. (brings.0, (met brings.0).1 (fresh brings.0 brings.1 brings.3), brings.2, brings.3),
+  )
+    where
+      fresh : (id : ObjectId) → IsAncestor objects id new → ¬ IsAncestor objects id stop → Short id
+      fresh id is old = elim (short_or_before id is) [ inl short ↦ short | inr before ↦ absurd (old before.0) ]
+
+pub outside_none : (objects : List Content) (had : List ObjectId) (id : ObjectId) → Contains had id → linked_outside objects had id ≡ []
+outside_none objects had id c = ap (λ (b : Bool). cond b [] (linked_at objects id)) (contains_any (same_id id) had id c (id_itself id))
+
+pub outside_links : (objects : List Content) (had : List ObjectId) (id : ObjectId) → ¬ Contains had id → linked_outside objects had id ≡ linked_at objects id
+outside_links objects had id isnt = by_test (list_any (same_id id) had) refl
+  where
+    by_test : (b : Bool) → list_any (same_id id) had ≡ b → linked_outside objects had id ≡ linked_at objects id
+    by_test true t = let found = any_contains (same_id id) had t in absurd (isnt (subst (λ (i : ObjectId). Contains had i) (sym (id_is id found.0 found.2)) found.1))
+    by_test false t = ap (λ (b : Bool). cond b [] (linked_at objects id)) t
+
+-- what is reached from the wants and not from the haves is met where a walk goes nowhere from what is had
+module _ (objects : List Content) (wants haves had : List ObjectId) (known : (id : ObjectId) → (Contains had id → IsReached (linked_at objects) haves id) × (IsReached (linked_at objects) haves id → Contains had id)) where
+  pub outside_reached : (id : ObjectId) → IsReached (linked_outside objects had) wants id → IsReached (linked_at objects) wants id
+  outside_reached id (Root root c) = Root id c
+  outside_reached id (Next from to is link) = Next from id (outside_reached from is) (contains_if (list_any (same_id from) had) (linked_at objects from) id link)
+
+  pub fresh_outside : (id : ObjectId) → IsReached (linked_at objects) wants id → ¬ IsReached (linked_at objects) haves id → IsReached (linked_outside objects had) wants id
+  fresh_outside id (Root root c) not_had = Root id c
+  fresh_outside id (Next from to is link) not_had = Next from id (fresh_outside from is before) (by_test (list_any (same_id from) had) refl)
+    where
+      before : ¬ IsReached (linked_at objects) haves from
+      before reached = not_had (Next from id reached link)
+
+      by_test : (b : Bool) → list_any (same_id from) had ≡ b → Contains (linked_outside objects had from) id
+      by_test true t = let found = any_contains (same_id from) had t in absurd (before ((known from).0 (subst (λ (i : ObjectId). Contains had i) (sym (id_is from found.0 found.2)) found.1)))
+      by_test false t = subst (λ (b : Bool). Contains (cond b [] (linked_at objects from)) id) (sym t) link
+
+-- ---- links, and walks that want a kind
+
+link_met : (o : Option Content) (to : ObjectId) → Contains (option_map_or (λ o. map (λ link. link.0) (links_of o.kind o.body)) o []) to → (kind : Option Kind) × Contains (option_map_or (λ o. wanted_by (links_of o.kind o.body)) o []) (to, kind)
+link_met None to c = absurd (contains_none to c)
+link_met (Some o) to c =
+    let found = map_contains (λ (link : ObjectId × Kind). link.0) (links_of o.kind o.body) to c in (
+      Some found.0.1,
+      subst (λ (i : ObjectId). Contains (wanted_by (links_of o.kind o.body)) (i, Some found.0.1)) found.2 (contains_map (λ (link : ObjectId × Kind). (link.0, Some link.1)) (links_of o.kind o.body) found.0 found.1),
+    )
+
+met_link : (o : Option Content) (want : Want) → Contains (option_map_or (λ o. wanted_by (links_of o.kind o.body)) o []) want → Contains (option_map_or (λ o. map (λ link. link.0) (links_of o.kind o.body)) o []) want.0
+met_link None want c = absurd (contains_none want c)
+met_link (Some o) want c =
+    let found = map_contains (λ (link : ObjectId × Kind). (link.0, Some link.1)) (links_of o.kind o.body) want c in
+    subst (λ (i : ObjectId). Contains (map (λ (link : ObjectId × Kind). link.0) (links_of o.kind o.body)) i) (ap (λ (w : Want). w.0) found.2) (contains_map (λ (link : ObjectId × Kind). link.0) (links_of o.kind o.body) found.0 found.1)
+
+pub met_of_reached : (objects : List Content) (root id : ObjectId) → IsReached (linked_at objects) (root ∷ []) id → (kind : Option Kind) × IsMet objects root None (id, kind)
+met_of_reached objects root id (Root root_id c) = (None, subst (λ (i : ObjectId). IsMet objects root None (i, None)) (contains_one root id c) walk.Root)
+met_of_reached objects root id (Next from to is link) =
+    let before = met_of_reached objects root from is in
+    let next = link_met (first_named objects from) id link in
+    (next.0, walk.Link (from, before.0) (id, next.0) before.1 next.1)
+
+pub reached_of_met : (objects : List Content) (root : ObjectId) (want : Want) → IsMet objects root None want → IsReached (linked_at objects) (root ∷ []) want.0
+reached_of_met objects root want walk.Root = Root root (contains_here root [])
+reached_of_met objects root want (walk.Link from to is link) = Next from.0 to.0 (reached_of_met objects root from is) (met_link (first_named objects from.0) to link)
