@@ -3,6 +3,8 @@ use Rattle.std.proofs.Common.{◌||◌, take-append-drop, ◌≡◌, ℕ, zero, 
 use Rattle.std.proofs.Math.Seq.{take-add}
 use Rattle.std.proofs.lemmas.Bool.{cases_lt, lt-ltb, le-ltb, ltb-false, eqb-true, eqb-false}
 use Rattle.std.proofs.lemmas.List.{append-nil, length-take-le, length-drop, get_or_append_left, get_or-append-add, get_or_past}
+use Rattle.std.proofs.lemmas.List.Elements.{All-nil, All-cons}
+use Rattle.std.specs.Prelude.{All, flat_map}
 use Rattle.std.proofs.lemmas.Nat.{be_bytes_4}
 use Rattle.std.proofs.lemmas.Slice.Eq.{bytes_eq-Decides}
 use Rattle.std.specs.Int.{w32, from_be_bytes, to_be_bytes}
@@ -15,13 +17,14 @@ use Rattle.git_object.specs.declared.kind.Kind.{Kind}
 use Rattle.git_object.specs.declared.kind.Kind.TheVariants.{Commit, Tree, Blob, Tag}
 use Rattle.git_object.specs.declared.fault.ObjFault.{ObjFault}
 use Rattle.raw_pack.specs.Formats.{gives, fails, bytes, ◌>>=◌, front, behind, and_then}
-use Rattle.raw_pack.specs.Grammar.{kind_bits, SpellsSize, IsHead, IsEntry, AreEntries, signed, IsPack}
-use Rattle.raw_pack.specs.Laws.{AreBytes, AreShort, BeginsWith, IsWithin, total}
+use Rattle.raw_pack.specs.Grammar.{kind_bits, spelled_head, spelled_entry, before_trailer, spelled_pack, IsPackable, ArePackable, IsPack}
+use Rattle.raw_pack.specs.Laws.{AreBytes, BeginsWith, IsWithin, total}
 use Rattle.raw_pack.specs.Packs.{word, signature, version, entry_count, header, byte, is_too_large, sized, more_size, kind_of_bits, head_by_kind, entry_head, formed, pack_entry, pack_entries, signed_part, trailer, pack_end, pack_front}
 use Rattle.raw_pack.specs.declared.head.Head.{Head}
 use Rattle.raw_pack.specs.declared.fault.PackFault.{PackFault}
 use Rattle.raw_pack.specs.declared.fault.PackFault.TheVariants.{NotAPack, Version, TooMany, TooLarge, BadHead, BadObject, Delta, Truncated, TrailerDiffers}
 use Rattle.raw_pack.proofs.FormatLemmas.{decided_behind, whole_within}
+use Rattle.raw_pack.proofs.HeadForms.{SpellsSize, IsHead, head_is_spelled}
 use Rattle.raw_pack.proofs.SpellingLemmas.{Spells, gives_spelled, fails_spelled, if_spelled, unless_spelled, whole_alone, bytes_spelled, splits}
 
 -- parts of bytes are bytes
@@ -204,10 +207,20 @@ formed_spelled : (entry : ℕ) (made content : Content) (at : Option ObjFault) (
 formed_spelled entry made content None xs is = let both = gives_spelled made content xs is in (refl, both.0, both.1)
 formed_spelled entry made content (Some fault) xs is = absurd (fails_spelled (BadObject entry) content xs is)
 
+or_false : (a b : Bool) → (a || b) ≡ false → (a ≡ false) × (b ≡ false)
+or_false true b is = absurd (cc)
+or_false false b is = (refl, is)
+
+fits_is : (sum size : ℕ) → is_too_large sum size ≡ false → (size ≤ 16777216) × (sum + size ≤ 268435456)
+fits_is sum size is =
+    let both = or_false (nat_lt 16777216 size) (nat_lt 268435456 (sum + size)) is in
+    (ltb-false 16777216 size both.0, ltb-false 268435456 (sum + size) both.1)
+
 -- an entry by the grammar, within the limits
 record HasEntry (sum : ℕ) (xs : List ℕ) (content : Content) : Type 0 where
-  is : IsEntry xs content
-  fits : is_too_large sum (length content.body) ≡ false
+  is : xs ≡ spelled_entry content
+  good : IsPackable content
+  light : sum + length content.body ≤ 268435456
 
 entry_spelled : (entry sum : ℕ) (xs : List ℕ) (content : Content) → AreBytes xs → Spells (pack_entry entry sum) xs content → HasEntry sum xs content
 unfolding pack_entry
@@ -219,72 +232,66 @@ entry_spelled entry sum xs content are is =
     let tail : parts.zs ≡ more.v = more.both ∙ ap (λ (l : List ℕ). more.ys ++ l) last.1 ∙ append-nil more.ys ∙ sym body.1 in
     let size : parts.v.size ≡ length more.v = sym body.0 ∙ ap length (sym body.1) in
     let head = head_spelled entry sum parts.ys parts.v (bytes_before parts.ys parts.zs (subst AreBytes parts.both are)) parts.first in
-    let made : IsEntry xs (record { kind = parts.v.kind; body = more.v }) = (parts.ys, parts.both ∙ ap (λ (l : List ℕ). parts.ys ++ l) tail, subst (IsHead parts.ys parts.v.kind) size head.is, last.0) in
+    let fits = fits_is sum (length more.v) (subst (λ (n : ℕ). is_too_large sum n ≡ false) size head.fits) in
+    let front : parts.ys ≡ spelled_head parts.v.kind (length more.v) = head_is_spelled parts.ys parts.v.kind (length more.v) fits.0 (subst (IsHead parts.ys parts.v.kind) size head.is) in
+    let made : HasEntry sum xs (record { kind = parts.v.kind; body = more.v }) =
     record {
-      is = subst (IsEntry xs) last.2 made;
-      fits = subst (λ (c : Content). is_too_large sum (length c.body) ≡ false) last.2 (subst (λ (n : ℕ). is_too_large sum n ≡ false) size head.fits);
-    }
-
-or_false : (a b : Bool) → (a || b) ≡ false → (a ≡ false) × (b ≡ false)
-or_false true b is = absurd (cc)
-or_false false b is = (refl, is)
-
-fits_is : (sum size : ℕ) → is_too_large sum size ≡ false → (size ≤ 16777216) × (sum + size ≤ 268435456)
-fits_is sum size is =
-    let both = or_false (nat_lt 16777216 size) (nat_lt 268435456 (sum + size)) is in
-    (ltb-false 16777216 size both.0, ltb-false 268435456 (sum + size) both.1)
+      is = parts.both ∙ ap (λ (l : List ℕ). parts.ys ++ l) tail ∙ ap (λ (l : List ℕ). l ++ more.v) front;
+      good = record { short = fits.0; form = last.0 };
+      light = fits.1;
+    } in
+    subst (HasEntry sum xs) last.2 made
 
 record HasEntries (left sum : ℕ) (read : List Content) (xs : List ℕ) (all : List Content) : Type 0 where
   news : List Content
   both : all ≡ read ++ news
-  are : AreEntries xs news
+  spelled : xs ≡ flat_map spelled_entry news
   count : length news ≡ left
-  short : AreShort news
+  each : All IsPackable news
   light : sum + total news ≤ 268435456
 
 entries_spelled : (left entry sum : ℕ) (read : List Content) (xs : List ℕ) (all : List Content) → sum ≤ 268435456 → AreBytes xs → Spells (pack_entries left entry sum read) xs all → HasEntries left sum read xs all
 unfolding pack_entries
 entries_spelled zero entry sum read xs all low are is =
     let both = gives_spelled read all xs is in
-    record { news = []; both = sym both.1 ∙ sym (append-nil read); are = both.0; count = refl; short = tt; light = omega (arith, low) }
+    record { news = []; both = sym both.1 ∙ sym (append-nil read); spelled = both.0; count = refl; each = All-nil IsPackable; light = omega (arith, low) }
 entries_spelled (suc left) entry sum read xs all low are is =
     let parts = splits (λ content. pack_entries left (entry + 1) (sum + length content.body) (read ++ content ∷ [])) (pack_entry entry sum) xs all is in
     let are_both : AreBytes (parts.ys ++ parts.zs) = subst AreBytes parts.both are in
     let one = entry_spelled entry sum parts.ys parts.v (bytes_before parts.ys parts.zs are_both) parts.first in
-    let fits = fits_is sum (length parts.v.body) one.fits in
-    let rest = entries_spelled left (entry + 1) (sum + length parts.v.body) (read ++ parts.v ∷ []) parts.zs all fits.1 (bytes_behind parts.ys parts.zs are_both) parts.second in
+    let rest = entries_spelled left (entry + 1) (sum + length parts.v.body) (read ++ parts.v ∷ []) parts.zs all one.light (bytes_behind parts.ys parts.zs are_both) parts.second in
     record {
       news = parts.v ∷ rest.news;
       both = rest.both ∙ append_assoc read (parts.v ∷ []) rest.news;
-      are = (parts.ys, parts.zs, parts.both, one.is, rest.are);
+      spelled = parts.both ∙ ap (λ (l : List ℕ). l ++ parts.zs) one.is ∙ ap (λ (l : List ℕ). spelled_entry parts.v ++ l) rest.spelled;
       count = omega (arith, rest.count);
-      short = (fits.0, rest.short);
+      each = All-cons IsPackable parts.v rest.news one.good rest.each;
       light = omega (arith, rest.light);
     }
 
 record HasSigned (xs : List ℕ) (contents : List Content) : Type 0 where
-  entries : List ℕ
-  are : AreEntries entries contents
+  packable : ArePackable contents
   within : IsWithin contents
-  whole : xs ≡ signed entries contents
+  whole : xs ≡ before_trailer contents
 
 signed_spelled : (xs : List ℕ) (contents : List Content) → AreBytes xs → Spells signed_part xs contents → HasSigned xs contents
-unfolding signed_part
+unfolding signed_part before_trailer
 signed_spelled xs contents are is =
     let parts = splits (λ count. pack_entries count 0 0 []) header xs contents is in
     let are_both : AreBytes (parts.ys ++ parts.zs) = subst AreBytes parts.both are in
     let rest = entries_spelled parts.v 0 0 [] parts.zs contents (omega arith) (bytes_behind parts.ys parts.zs are_both) parts.second in
     let head = header_spelled parts.ys parts.v (bytes_before parts.ys parts.zs are_both) parts.first in
     let count : parts.v ≡ length contents = sym rest.count ∙ ap length (sym rest.both) in
+    let few : length contents ≤ 100000 = subst (λ (n : ℕ). n ≤ 100000) count head.1 in
+    let entries : parts.zs ≡ flat_map spelled_entry contents = rest.spelled ∙ ap (flat_map spelled_entry) (sym rest.both) in
     record {
-      entries = parts.zs;
-      are = subst (AreEntries parts.zs) (sym rest.both) rest.are;
-      within = record {
-        few = subst (λ (n : ℕ). n ≤ 100000) count head.1;
-        short = subst AreShort (sym rest.both) rest.short;
-        light = subst (λ (l : List Content). total l ≤ 268435456) (sym rest.both) (omega (arith, rest.light));
-      };
-      whole = parts.both ∙ ap (λ (l : List ℕ). l ++ parts.zs) head.0 ∙ ap (λ (n : ℕ). codes "PACK" ++ to_be_bytes w32 2 ++ to_be_bytes w32 n ++ parts.zs) count;
+      packable = record { few = omega (arith, few); each = subst (All IsPackable) (sym rest.both) rest.each };
+      within = record { few = few; light = subst (λ (l : List Content). total l ≤ 268435456) (sym rest.both) (omega (arith, rest.light)) };
+      whole =
+          parts.both
+          ∙ ap (λ (l : List ℕ). l ++ parts.zs) head.0
+          ∙ ap (λ (n : ℕ). codes "PACK" ++ to_be_bytes w32 2 ++ to_be_bytes w32 n ++ parts.zs) count
+          ∙ ap (λ (l : List ℕ). codes "PACK" ++ to_be_bytes w32 2 ++ to_be_bytes w32 (length contents) ++ l) entries;
     }
 
 end_spelled : (computed : List ℕ) (found contents : List Content) (xs : List ℕ) → Spells (pack_end computed found) xs contents → (xs ≡ computed) × (found ≡ contents)
@@ -302,7 +309,7 @@ end_spelled computed found contents xs is =
 
 pack_by : (input : List ℕ) (n : ℕ) (contents : List Content) (at : Front (List Content) PackFault) → AreBytes input → front signed_part input ≡ at → pack_front input ≡ Whole n contents
     → BeginsWith input n contents
-unfolding pack_front
+unfolding pack_front spelled_pack
 pack_by input n contents (Broken m fault) are is whole = absurd (let at : pack_front input ≡ Broken m fault = ap (λ at. and_then at (λ n found. front (pack_end (sha1 (take n input)) found) (drop n input))) is in cc)
 pack_by input n contents (Partial fault) are is whole = absurd (let at : pack_front input ≡ Partial fault = ap (λ at. and_then at (λ n found. front (pack_end (sha1 (take n input)) found) (drop n input))) is in cc)
 pack_by input n contents (Whole m found) are is whole =
@@ -317,8 +324,7 @@ pack_by input n contents (Whole m found) are is whole =
     let signed_is = signed_spelled (take m input) found (bytes_before (take m input) (drop m input) (subst AreBytes (sym (take-append-drop m input)) are)) first in
     let end_is = end_spelled (sha1 (take m input)) found contents (take inner.0 (drop m input)) second in
     let cut : take n input ≡ take m input ++ take inner.0 (drop m input) = ap (λ (i : ℕ). take i input) inner.2 ∙ take-add m inner.0 input in
-    let pack : IsPack (take n input) found =
-    (omega (arith, signed_is.within.few), signed_is.entries, signed_is.are, cut ∙ ap (λ (l : List ℕ). take m input ++ l) end_is.0 ∙ ap (λ (l : List ℕ). l ++ sha1 l) signed_is.whole) in
+    let pack : IsPack (take n input) found = (signed_is.packable, cut ∙ ap (λ (l : List ℕ). take m input ++ l) end_is.0 ∙ ap (λ (l : List ℕ). l ++ sha1 l) signed_is.whole) in
     record {
       within = omega (arith, inner.2, rest, within, length-drop m input);
       pack = subst (IsPack (take n input)) end_is.1 pack;

@@ -6,5 +6,8 @@ pub mod PackLemmas
 pub mod ToldLemmas
 pub mod ReaderLemmas
 pub mod SpellingLemmas
+pub mod HeadForms
 pub mod GrammarLemmas
 pub mod WrittenLemmas
+pub mod UniqueLemmas
+pub mod WritingLemmas

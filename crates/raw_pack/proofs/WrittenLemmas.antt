@@ -3,6 +3,8 @@ use Rattle.std.proofs.Common.{◌≡◌, ℕ, zero, suc, ◌+◌, ◌*◌, ◌/�
 use Rattle.std.proofs.Math.Nat.{mul-le-mul_left}
 use Rattle.std.proofs.lemmas.Bool.{lt-ltb, le-ltb, ne_eqb}
 use Rattle.std.proofs.lemmas.List.{append-nil, length-take-le}
+use Rattle.std.proofs.lemmas.List.Elements.{All-head, All-rest}
+use Rattle.std.specs.Prelude.{All, flat_map}
 use Rattle.std.proofs.lemmas.Nat.{from_be_bytes-to_be_bytes_4}
 use Rattle.std.proofs.lemmas.Slice.Eq.{bytes_eq-Decides}
 use Rattle.std.specs.Int.{w32, from_be_bytes, to_be_bytes}
@@ -14,12 +16,13 @@ use Rattle.git_object.specs.Object.{fault_of}
 use Rattle.git_object.specs.declared.kind.Kind.{Kind}
 use Rattle.git_object.specs.declared.kind.Kind.TheVariants.{Commit, Tree, Blob, Tag}
 use Rattle.raw_pack.specs.Formats.{Format, gives, fails, wants, bytes, ◌>>=◌, front, behind}
-use Rattle.raw_pack.specs.Grammar.{kind_bits, SpellsSize, IsHead, IsEntry, AreEntries, signed, IsPack}
-use Rattle.raw_pack.specs.Laws.{AreShort, BeginsWith, IsWithin, total}
+use Rattle.raw_pack.specs.Grammar.{kind_bits, spelled_head, spelled_entry, before_trailer, spelled_pack, IsPackable, ArePackable}
+use Rattle.raw_pack.specs.Laws.{BeginsWith, IsWithin, total}
 use Rattle.raw_pack.specs.Packs.{word, signature, version, entry_count, header, byte, is_too_large, sized, more_size, kind_of_bits, head_by_kind, entry_head, formed, pack_entry, pack_entries, signed_part, trailer, pack_end, pack_front}
 use Rattle.raw_pack.specs.declared.fault.PackFault.{PackFault}
 use Rattle.raw_pack.specs.declared.fault.PackFault.TheVariants.{NotAPack, Version, TooMany, BadHead, Truncated, TrailerDiffers}
 use Rattle.raw_pack.proofs.FormatLemmas.{front-wants}
+use Rattle.raw_pack.proofs.HeadForms.{SpellsSize, IsHead, size_positive, spelled_is_head}
 use Rattle.raw_pack.proofs.ReadLemmas.{front-both, given_here}
 use Rattle.raw_pack.proofs.SpellingLemmas.{Spells}
 use Rattle.raw_pack.proofs.PackLemmas.{front-pack, pack_whole_stays}
@@ -37,7 +40,7 @@ unfolding bytes
 taken k cut xs len =
     ap (front (wants k cut (λ found. gives found))) (sym (append-nil xs)) ∙ front-wants k cut (λ found. gives found) xs [] len ∙ given_here k xs [] ∙ ap (λ (n : ℕ). Whole n xs) (sym len)
 
-word_taken : (n : ℕ) → n < 2 ^ 32 → Spells word (to_be_bytes w32 n) n
+pub word_taken : (n : ℕ) → n < 2 ^ 32 → Spells word (to_be_bytes w32 n) n
 unfolding word
 word_taken n low =
     joins_end (bytes 4 (Truncated 0)) (λ four. gives (from_be_bytes w32 four)) (to_be_bytes w32 n) (to_be_bytes w32 n) n (taken 4 (Truncated 0) (to_be_bytes w32 n) refl)
@@ -69,11 +72,6 @@ byte_taken entry b = joins_end (bytes 1 (Truncated entry)) (λ one. gives (get_o
 
 small_is : (sum size : ℕ) → size ≤ 16777216 → sum + size ≤ 268435456 → is_too_large sum size ≡ false
 small_is sum size body both = rw (le-ltb 16777216 size body, le-ltb 268435456 (sum + size) both)
-
-size_positive : (xs : List ℕ) (n : ℕ) → SpellsSize xs n → 0 < n
-size_positive [] n s = absurd s
-size_positive (last ∷ []) n s = s.1
-size_positive (b ∷ c ∷ more) n s = let rest : 0 < n / 128 = size_positive (c ∷ more) (n / 128) s.1 in omega arith
 
 -- 128 to a power
 abbrev power : ℕ → ℕ
@@ -147,34 +145,33 @@ head_taken entry sum (first ∷ b ∷ more) kind size is body both =
     joins (byte entry) (λ b. head_by_kind entry sum b (kind_of_bits (b / 16 % 8))) (first ∷ []) (b ∷ more) first (record { kind = kind; size = size }) (byte_taken entry first)
     (rw (some, le-ltb first 128 (omega (arith, is.0))) rest_is)
 
-entry_taken : (entry sum : ℕ) (xs : List ℕ) (content : Content) → IsEntry xs content → length content.body ≤ 16777216 → sum + length content.body ≤ 268435456 → Spells (pack_entry entry sum) xs content
+pub entry_taken : (entry sum : ℕ) (content : Content) → IsPackable content → sum + length content.body ≤ 268435456 → Spells (pack_entry entry sum) (spelled_entry content) content
 unfolding pack_entry
-entry_taken entry sum xs content (head, is, spelled, form) body both =
-    subst (λ (l : List ℕ). Spells (entry_head entry sum >>= (λ h. bytes h.size (Truncated entry) >>= (λ b. formed entry (record { kind = h.kind; body = b }) (fault_of h.kind b)))) l content) (sym is)
-    (joins (entry_head entry sum) (λ h. bytes h.size (Truncated entry) >>= (λ b. formed entry (record { kind = h.kind; body = b }) (fault_of h.kind b))) head content.body
-    (record { kind = content.kind; size = length content.body }) content (head_taken entry sum head content.kind (length content.body) spelled body both)
+entry_taken entry sum content good both =
+    let head = spelled_head content.kind (length content.body) in
+    joins (entry_head entry sum) (λ h. bytes h.size (Truncated entry) >>= (λ b. formed entry (record { kind = h.kind; body = b }) (fault_of h.kind b))) head content.body
+    (record { kind = content.kind; size = length content.body }) content
+    (head_taken entry sum head content.kind (length content.body) (spelled_is_head content.kind (length content.body) good.short) good.short both)
     (joins_end (bytes (length content.body) (Truncated entry)) (λ b. formed entry (record { kind = content.kind; body = b }) (fault_of content.kind b)) content.body content.body content
-    (taken (length content.body) (Truncated entry) content.body refl) (rw form)))
+    (taken (length content.body) (Truncated entry) content.body refl) (rw good.form))
 
-entries_taken : (contents : List Content) (entry sum : ℕ) (read : List Content) (xs : List ℕ) → AreEntries xs contents → AreShort contents → sum + total contents ≤ 268435456
-    → Spells (pack_entries (length contents) entry sum read) xs (read ++ contents)
+entries_taken : (contents : List Content) (entry sum : ℕ) (read : List Content) → All IsPackable contents → sum + total contents ≤ 268435456
+    → Spells (pack_entries (length contents) entry sum read) (flat_map spelled_entry contents) (read ++ contents)
 unfolding pack_entries front
-entries_taken [] entry sum read xs are short light =
-    subst (λ (l : List ℕ). front {F = PackFault} (gives read) l ≡ Whole (length l) (read ++ [])) (sym are) (ap (λ (l : List Content). Whole 0 l) (sym (append-nil read)))
-entries_taken (content ∷ contents) entry sum read xs (first, more, is, one, rest) short light =
+entries_taken [] entry sum read good light = ap (λ (l : List Content). Whole 0 l) (sym (append-nil read))
+entries_taken (content ∷ contents) entry sum read good light =
     let first_light : sum + length content.body ≤ 268435456 = omega (arith, light) in
     let rest_light : sum + length content.body + total contents ≤ 268435456 = omega (arith, light) in
-    let rest_taken = entries_taken contents (entry + 1) (sum + length content.body) (read ++ content ∷ []) more rest short.1 rest_light in
-    subst (λ (l : List ℕ). Spells (pack_entry entry sum >>= (λ c. pack_entries (length contents) (entry + 1) (sum + length c.body) (read ++ c ∷ []))) l (read ++ content ∷ contents)) (sym is)
-    (joins (pack_entry entry sum) (λ c. pack_entries (length contents) (entry + 1) (sum + length c.body) (read ++ c ∷ [])) first more content (read ++ content ∷ contents)
-    (entry_taken entry sum first content one short.0 first_light)
-    (subst (λ (l : List Content). Spells (pack_entries (length contents) (entry + 1) (sum + length content.body) (read ++ content ∷ [])) more l) (append_assoc read (content ∷ []) contents) rest_taken))
+    let rest_taken = entries_taken contents (entry + 1) (sum + length content.body) (read ++ content ∷ []) (All-rest IsPackable content contents (content ∷ contents) refl good) rest_light in
+    joins (pack_entry entry sum) (λ c. pack_entries (length contents) (entry + 1) (sum + length c.body) (read ++ c ∷ [])) (spelled_entry content) (flat_map spelled_entry contents) content (read ++ content ∷ contents)
+    (entry_taken entry sum content (All-head IsPackable content contents good) first_light)
+    (subst (λ (l : List Content). Spells (pack_entries (length contents) (entry + 1) (sum + length content.body) (read ++ content ∷ [])) (flat_map spelled_entry contents) l) (append_assoc read (content ∷ []) contents) rest_taken)
 
-signed_taken : (entries : List ℕ) (contents : List Content) → AreEntries entries contents → IsWithin contents → Spells signed_part (signed entries contents) contents
-unfolding signed_part
-signed_taken entries contents are within =
-    joins header (λ count. pack_entries count 0 0 []) (codes "PACK" ++ to_be_bytes w32 2 ++ to_be_bytes w32 (length contents)) entries (length contents) contents (header_taken (length contents) within.few)
-    (entries_taken contents 0 0 [] entries are within.short (omega (arith, within.light)))
+signed_taken : (contents : List Content) → ArePackable contents → IsWithin contents → Spells signed_part (before_trailer contents) contents
+unfolding signed_part before_trailer
+signed_taken contents good within =
+    joins header (λ count. pack_entries count 0 0 []) (codes "PACK" ++ to_be_bytes w32 2 ++ to_be_bytes w32 (length contents)) (flat_map spelled_entry contents) (length contents) contents (header_taken (length contents) within.few)
+    (entries_taken contents 0 0 [] good.each (omega (arith, within.light)))
 
 twenty : (m : List ℕ) → length (sha1 m) ≡ 20
 unfolding sha1 digest_bytes
@@ -189,16 +186,20 @@ end_taken computed contents len =
     (taken 20 (Truncated (length contents)) computed len) (rw same))
     refl
 
-pack_taken : (xs : List ℕ) (contents : List Content) → IsPack xs contents → IsWithin contents → pack_front xs ≡ Whole (length xs) contents
-pack_taken xs contents (few, entries, are, is) within =
-    let part = signed entries contents in
-    ap pack_front is
-    ∙ front-pack (signed entries contents) (sha1 (signed entries contents)) contents (signed_taken entries contents are within)
-    ∙ ap (behind (length (signed entries contents))) (end_taken (sha1 (signed entries contents)) contents (twenty (signed entries contents)))
-    ∙ ap (λ (n : ℕ). Whole n contents) (sym (length-append (signed entries contents) (sha1 (signed entries contents))) ∙ ap length (sym is))
+pack_taken : (contents : List Content) → ArePackable contents → IsWithin contents → pack_front (spelled_pack contents) ≡ Whole (length (spelled_pack contents)) contents
+unfolding spelled_pack
+pack_taken contents good within =
+    front-pack (before_trailer contents) (sha1 (before_trailer contents)) contents (signed_taken contents good within)
+    ∙ ap (behind (length (before_trailer contents))) (end_taken (sha1 (before_trailer contents)) contents (twenty (before_trailer contents)))
+    ∙ ap (λ (n : ℕ). Whole n contents) (sym (length-append (before_trailer contents) (sha1 (before_trailer contents))))
+
+-- what is written is read, whatever follows
+pub written_is_read : (contents : List Content) (more : List ℕ) → ArePackable contents → IsWithin contents → pack_front (spelled_pack contents ++ more) ≡ Whole (length (spelled_pack contents)) contents
+written_is_read contents more good within = pack_whole_stays (spelled_pack contents) more (length (spelled_pack contents)) contents (pack_taken contents good within)
 
 pub pack_is_read : (input : List ℕ) (n : ℕ) (contents : List Content) → BeginsWith input n contents → pack_front input ≡ Whole n contents
 pack_is_read input n contents begins =
-    ap pack_front (sym (take-append-drop n input))
-    ∙ pack_whole_stays (take n input) (drop n input) (length (take n input)) contents (pack_taken (take n input) contents begins.pack begins.limits)
-    ∙ ap (λ (m : ℕ). Whole m contents) (length-take-le n input begins.within)
+    let is : take n input ≡ spelled_pack contents = begins.pack.1 in
+    ap pack_front (sym (take-append-drop n input) ∙ ap (λ (l : List ℕ). l ++ drop n input) is)
+    ∙ written_is_read contents (drop n input) begins.pack.0 begins.limits
+    ∙ ap (λ (m : ℕ). Whole m contents) (sym (ap length is) ∙ length-take-le n input begins.within)

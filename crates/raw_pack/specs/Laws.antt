@@ -2,8 +2,8 @@
 use Rattle.std.specs.Prelude.{◌≡◌, ◌↔◌, ℕ, ◌+◌, ◌≤◌, ◌<◌, List, [], ◌∷◌, ◌++◌, length, take, slice_index}
 use Rattle.base_types.specs.Fronts.{Whole, Broken}
 use Rattle.git_object.specs.Content.{Content}
-use Rattle.raw_pack.specs.Grammar.{IsPack}
-use Rattle.raw_pack.specs.Packs.{largest_body, largest_sum, most_entries, pack_front}
+use Rattle.raw_pack.specs.Grammar.{ArePackable, IsPack, spelled_pack}
+use Rattle.raw_pack.specs.Packs.{largest_sum, most_entries, pack_front}
 use Rattle.raw_pack.specs.declared.fault.PackFault.{PackFault}
 
 -- each of these numbers is a byte
@@ -15,15 +15,9 @@ abbrev pub total : List Content → ℕ
 total [] = 0
 total (content ∷ contents) = length content.body + total contents
 
--- no body is longer than a reader takes
-abbrev pub AreShort : List Content → Type 0
-AreShort [] = Unit {0}
-AreShort (content ∷ contents) = (length content.body ≤ largest_body) × AreShort contents
-
--- these objects are within the limits of a reader
+-- these objects are within the limits that a reader sets of its own
 pub record IsWithin (contents : List Content) : Type 0 where
   pub few : length contents ≤ most_entries
-  pub short : AreShort contents
   pub light : total contents ≤ largest_sum
 
 -- these bytes begin with a pack of these objects, of so many bytes and within the limits
@@ -38,3 +32,7 @@ pub record PackLaws : Type 0 where
   -- What is known of a beginning stays so, whatever follows it.
   pub whole_stays : (bytes more : List ℕ) (n : ℕ) (contents : List Content) → pack_front bytes ≡ Whole n contents → pack_front (bytes ++ more) ≡ Whole n contents
   pub broken_stays : (bytes more : List ℕ) (n : ℕ) (fault : PackFault) → pack_front bytes ≡ Broken n fault → pack_front (bytes ++ more) ≡ Broken n fault
+  -- What is written is read as these objects, whatever follows it.
+  pub written_is_read : (contents : List Content) (more : List ℕ) → ArePackable contents → IsWithin contents → pack_front (spelled_pack contents ++ more) ≡ Whole (length (spelled_pack contents)) contents
+  -- No pack begins another, and no bytes are the packs of two lists of objects. This holds of the grammar, beyond a reader's limits too.
+  pub begins_no_other : (bytes more : List ℕ) (one other : List Content) → IsPack bytes one → IsPack (bytes ++ more) other → (more ≡ []) × (one ≡ other)

@@ -11,16 +11,14 @@ use Rattle.git_object.specs.declared.kind.Kind.{Kind}
 use Rattle.git_object.specs.declared.kind.Kind.TheVariants.{Commit, Tree, Blob, Tag}
 use Rattle.git_object.specs.declared.fault.ObjFault.{ObjFault}
 use Rattle.raw_pack.specs.Formats.{Format, gives, fails, ◌>>=◌, bytes, front, and_then}
+use Rattle.raw_pack.specs.Grammar.{largest_body}
 use Rattle.raw_pack.specs.declared.head.Head.{Head}
 use Rattle.raw_pack.specs.declared.fault.PackFault.{PackFault}
 use Rattle.raw_pack.specs.declared.fault.PackFault.TheVariants.{NotAPack, Version, Delta, BadHead, BadObject, Truncated, TrailerDiffers, TooLarge, TooMany}
 
--- the reader's limits: entries of a pack, bytes of a body, bytes of all bodies
+-- the reader's own limits: entries of a pack, and bytes of all bodies together
 abbrev pub most_entries : ℕ
 most_entries = 100000
-
-abbrev pub largest_body : ℕ
-largest_body = 16777216
 
 abbrev pub largest_sum : ℕ
 largest_sum = 268435456
@@ -61,7 +59,7 @@ byte entry = do
   one ← bytes 1 (Truncated entry)
   gives (slice_index one 0)
 
--- whether a body of this size, behind bodies of so many bytes, is more than the reader takes
+-- whether a body of this size is longer than a pack has, or, behind bodies of so many bytes, more than the reader takes
 abbrev pub is_too_large : ℕ → ℕ → Bool
 is_too_large sum size = nat_lt largest_body size || nat_lt largest_sum (sum + size)
 

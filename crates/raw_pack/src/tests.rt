@@ -1,12 +1,13 @@
 // Values from outside: the trailers by `sha1sum`, of GNU coreutils, over what comes before them; the name by
-// `git hash-object -t commit --stdin`, of Git 2.39.5.
+// `git hash-object -t commit --stdin`, and the heads of blobs by `git pack-objects`, of Git 2.39.5.
 ghost use Rattle.std.specs.Prelude.{◌<◌, ◌^◌, None, false, length};
 ghost use Rattle.std.proofs.Common.{arith};
 ghost use Rattle.pktline_core.specs.LinkState.{LinkState};
 
 use super::*;
-use git_object::Kind;
-use pktline_core::{Endpoint, MemoryLink, Source, Taken};
+use git_object::{Kind, Object, ObjectList};
+use pktline_core::{Endpoint, MemoryLink, Source, Taken, WriteFault};
+use ref_store::{Added, Repo};
 use std::alloc::Global;
 use std::test::Fail;
 
@@ -181,6 +182,147 @@ fn entries_are_lent_one_by_one(rt: HostRuntime) -> Result<(), Fail> {
         assert!(rt; reader.next_entry(&mut link) == Err(PackFault::ReadFault));
         assert_eq!(rt; link.left().len(), 172);
     }
+    Ok(())
+}
+
+fn repo_of(alloc: Global, objects: &ObjectList) -> Result<Repo, Fail> {
+    let mut repo = Repo::empty(alloc)?;
+    match repo.add_objects(objects) {
+        Added::Added => Ok(repo),
+        Added::Collision { .. } | Added::Full(_) | Added::NoMemory => Err(Fail::from(
+            "a repository",
+        )),
+    }
+}
+
+// A repository with the commit and the empty tree of the pack above.
+fn commit_and_tree(alloc: Global) -> Result<Repo, Fail> {
+    let mut link = link_over(alloc, &pack_with(alloc, 0, b"")?, 1000, &[])?;
+    repo_of(alloc, &read_pack(alloc, &mut link).ok().ok_or("refused")?)
+}
+
+// A link that moves so many bytes in a call and fails at these puts.
+fn sink_of(alloc: Global, most: usize, failing_puts: &[u64]) -> Result<MemoryLink, Fail> {
+    Ok(MemoryLink::new(
+        Vec::new(alloc),
+        most.max(1),
+        Vec::new(alloc),
+        failing_puts.to_vec(alloc)?,
+    ))
+}
+
+// Writes the pack of the objects at these places.
+fn write_places(
+    link: &mut MemoryLink,
+    repo: &Repo,
+    places: &[u32],
+) -> Result<Result<(), WriteFault>, Fail> {
+    let count = repo.count();
+    if places.len() > 1000 || !places.iter().all(|place| (*place as usize) < count) {
+        return Err(Fail::from("a place of the repository"));
+    }
+    Ok(write_pack(link, repo, places))
+}
+
+#[test]
+fn a_pack_is_written(rt: HostRuntime) -> Result<(), Fail> {
+    let alloc = rt.alloc();
+    let repo = commit_and_tree(alloc)?;
+    let mut both = SIGNED.to_vec(alloc)?;
+    both.extend_from_slice(&TRAILER)?;
+    for most in [1, 5, 1000] {
+        let mut link = sink_of(alloc, most, &[])?;
+        write_places(&mut link, &repo, &[])??;
+        assert_eq!(rt; link.written(), EMPTY_PACK);
+        let mut link = sink_of(alloc, most, &[])?;
+        write_places(&mut link, &repo, &[0, 1])??;
+        assert!(rt; link.written() == both.as_slice());
+    }
+    Ok(())
+}
+
+#[test]
+fn each_failing_put_ends_a_pack_there(rt: HostRuntime) -> Result<(), Fail> {
+    let alloc = rt.alloc();
+    let repo = commit_and_tree(alloc)?;
+    let whole = pack_with(alloc, 0, b"")?;
+    for size in 0..191u64 {
+        let mut link = sink_of(alloc, 1, &[size])?;
+        let answer = write_places(&mut link, &repo, &[0, 1])?;
+        assert!(rt; answer == Err(WriteFault::Failed), "{size}");
+        assert_eq!(rt; link.written().len() as u64, size);
+        assert!(rt; whole.starts_with(link.written()), "{size}");
+    }
+    Ok(())
+}
+
+#[test]
+fn objects_are_written_in_the_order_of_their_places(rt: HostRuntime) -> Result<(), Fail> {
+    let alloc = rt.alloc();
+    let repo = commit_and_tree(alloc)?;
+    let mut link = sink_of(alloc, 1000, &[])?;
+    write_places(&mut link, &repo, &[1, 0, 1])??;
+    let mut link = link_over(alloc, link.written(), 1000, &[])?;
+    let objects = read_pack(alloc, &mut link).ok().ok_or("refused")?;
+    assert_eq!(rt; objects.len(), 3);
+    for (at, kind) in [(0, Kind::Tree), (1, Kind::Commit), (2, Kind::Tree)] {
+        let object = objects.get(at).ok_or("none")?;
+        assert!(rt; object.kind() == kind, "{at}");
+    }
+    Ok(())
+}
+
+// The size of a blob, and the head of its entry.
+const HEADS: [(usize, &[u8]); 7] = [
+    (0, b"\x30"),
+    (15, b"\x3f"),
+    (16, b"\xb0\x01"),
+    (2047, b"\xbf\x7f"),
+    (2048, b"\xb0\x80\x01"),
+    (262_143, b"\xbf\xff\x7f"),
+    (262_144, b"\xb0\x80\x80\x01"),
+];
+
+#[test]
+fn heads_are_as_short_as_can_be(rt: HostRuntime) -> Result<(), Fail> {
+    let alloc = rt.alloc();
+    for (size, head) in HEADS {
+        let body = vec![in alloc; 0; size.min(262_144)]?;
+        let blob = Object::from_body(alloc, Kind::Blob, body)
+            .ok()
+            .ok_or("refused")?;
+        let mut blobs = ObjectList::new(alloc);
+        blobs.push(blob)?;
+        let mut link = sink_of(alloc, 1_000_000, &[])?;
+        write_places(&mut link, &repo_of(alloc, &blobs)?, &[0])??;
+        let behind = link.written().split_at(link.written().len().min(12)).1;
+        assert!(rt; behind.starts_with(head), "{size}");
+        assert_eq!(rt;
+            behind.len().saturating_sub(head.len()),
+            size.saturating_add(20)
+        );
+        let mut link = link_over(alloc, link.written(), 1_000_000, &[])?;
+        let objects = read_pack(alloc, &mut link).ok().ok_or("refused")?;
+        assert_eq!(rt; objects.get(0).ok_or("none")?.body().len(), size);
+        assert!(rt; objects.len() == 1 && link.left().is_empty());
+    }
+    Ok(())
+}
+
+fn crosses_threads<T: Send + Sync + Drop>(_value: T) {}
+
+#[test]
+fn readers_cross_threads(rt: HostRuntime) -> Result<(), Fail> {
+    let mut link = link_over(rt.alloc(), EMPTY_PACK, 1000, &[])?;
+    let reader = PackReader::begin(rt.alloc(), &mut link)
+        .ok()
+        .ok_or("refused")?;
+    crosses_threads(reader);
+    crosses_threads(PackFault::NotAPack);
+    crosses_threads(PackEntry {
+        kind: Kind::Blob,
+        body: EMPTY_PACK,
+    });
     Ok(())
 }
 
