@@ -7,6 +7,7 @@ pub mod OpeningLemmas
 pub mod ShortNames
 pub mod PinLemmas
 pub mod PushLemmas
+pub mod PreparedLemmas
 pub mod EachRepository
 pub mod GrownObjects
 pub mod WholeRefs

@@ -246,11 +246,11 @@ pub pinned_extends : (old now pack : List Content) → Begins old now → collis
 pinned_extends old now pack begins apart =
     subst (λ (os : List Content). Extends (old ++ pack) (with_pack os pack)) (sym begins.1) (extends_beginning old begins.0 pack (ap (λ os. collision os pack) (sym begins.1) ∙ apart))
 
--- where a beginning is as long as the whole, and no pack is behind it, it is the whole
-pub pinned_same : (old now pack : List Content) → Begins old now → length pack ≡ 0 → length old ≡ length now → old ++ pack ≡ now
-pinned_same old now pack begins none long =
+-- where a beginning is as long as the whole it is the whole
+pub pinned_same : (old now : List Content) → Begins old now → length old ≡ length now → old ≡ now
+pinned_same old now begins long =
     let nothing : length begins.0 ≡ 0 = omega (arith, long, ap length begins.1, length-append old begins.0) in
-    ap (λ (os : List Content). old ++ os) (no_items pack none ∙ sym (no_items begins.0 nothing)) ∙ sym begins.1
+    sym (append-nil old) ∙ ap (λ (os : List Content). old ++ os) (sym (no_items begins.0 nothing)) ∙ sym begins.1
   where
     no_items : (os : List Content) → length os ≡ 0 → os ≡ []
     no_items [] is = refl

@@ -62,13 +62,14 @@ judged pinned pack commands command = judged_by pinned (is_named_twice commands 
 abbrev pub outcomes_by_opening : Pinned → List Content → List Command → List (Option Outcome)
 outcomes_by_opening pinned pack commands = map (judged pinned pack commands) commands
 
--- a judgement: those outcomes, and the objects among which it was made, which are the repository's and behind them the pack's
+-- a judgement: those outcomes, the repository's objects, and the objects among which it was made: these, and behind them the pack's
 pub record Judgement : Type 0 where
   pub outcomes : List (Option Outcome)
+  pub before : List Content
   pub objects : List Content
 
 abbrev pub judgement : Pinned → List Content → List Command → Judgement
-judgement pinned pack commands = record { outcomes = outcomes_by_opening pinned pack commands; objects = pinned.repository.objects ++ pack }
+judgement pinned pack commands = record { outcomes = outcomes_by_opening pinned pack commands; before = pinned.repository.objects; objects = pinned.repository.objects ++ pack }
 
 -- II. By the refs just before, as the push's earlier commands leave them
 

@@ -296,8 +296,8 @@ impl Hub {
         // The admin is read for the invariant, that the log is legal, which the proof cites.
         let _legal = &self.admin;
         let now = self.hosted(alloc, pin.repo_name())?;
-        let unchanged = is_unchanged(pin.repo(), now.repo(), pack);
-        decide(alloc, &now, judged, pack, commands, atomic, unchanged)
+        let same = has_as_many(pin.repo(), now.repo());
+        decide(alloc, &now, judged, pack, commands, atomic, same)
     }
 
     // Puts a repository in the place of its equal, of which less is known. Contracts see no change.
@@ -355,13 +355,10 @@ impl Hub {
     }
 }
 
-// Whether a push without objects was judged by as many objects as there are now.
-fn is_unchanged(pinned: &Repo, now: &Repo, pack: &ObjectList) -> bool
-    ensures { result ≡ true → (length pack.now ≡ 0) × (length pinned.now.objects ≡ length now.now.objects) }
+// Whether there are as many objects as the opening had. Objects only come, so these are the same then.
+fn has_as_many(pinned: &Repo, now: &Repo) -> bool
+    ensures { result ≡ true → length pinned.now.objects ≡ length now.now.objects }
 {
-    if pack.len() > 0 {
-        return false;
-    }
     pinned.count() == now.count()
 }
 

@@ -5,14 +5,14 @@ ghost use Rattle.std.specs.Option.{option_map_or};
 ghost use Rattle.ancestry.specs.Wholeness.{missing, wrong};
 ghost use Rattle.hub_core.specs.Push.{by_walk, judged_by, judgement, kind_at};
 ghost use Rattle.ancestry.specs.Known.{AreKnown};
-ghost use Rattle.hub_core.specs.Running.{Counts};
+ghost use Rattle.hub_core.specs.Running.{Counts, IsPrepared};
 
 use crate::outcome::Outcome;
 use crate::pin::Pin;
 use ancestry::{Findings, Known, Walks, Wholeness};
 use base_types::{NameMap, NoMemory};
 use git_object::{Kind, ObjectId, ObjectList};
-use ref_store::{Command, CommandList, Lens, RefName};
+use ref_store::{Command, CommandList, Compared, FreshObjects, Lens, RefName, Repo};
 use std::alloc::Global;
 use std::marker::Model;
 
@@ -20,23 +20,28 @@ use std::marker::Model;
 #[derive(Drop)]
 pub struct Judged {
     outcomes: Vec<Option<Outcome>>,
+    repo: Repo,
     lens: Lens,
     findings: Findings,
+    // What the pack adds to the repository as it was, with the segments that it has then; nothing where no command may be done.
+    fresh: Option<FreshObjects>,
 }
 
 impl Model for Judged {
     ghost use Rattle.ancestry.specs.Known.{AreFound};
     ghost use Rattle.hub_core.specs.Push.{Judgement};
+    ghost use Rattle.hub_core.specs.Running.{IsPrepared};
 
     ghost Value = { Judgement };
 
-    ghost view = { λ j. record { outcomes = j.outcomes.items; objects = j.lens } };
+    ghost view = { λ j. record { outcomes = j.outcomes.items; before = j.repo.objects; objects = j.lens } };
 
-    ghost invariant = { λ j. AreFound j.lens j.findings };
+    ghost invariant = { λ j. AreFound j.lens j.findings × IsPrepared j.repo.objects j.lens j.fresh };
 }
 
 impl Judged {
     ghost use Rattle.ancestry.specs.Known.{AreFound};
+    ghost use Rattle.hub_core.specs.Running.{IsPrepared};
 
     pub(crate) fn outcomes(&self) -> &[Option<Outcome>]
         ensures { result.now ≡ self.now.outcomes }
@@ -44,13 +49,23 @@ impl Judged {
         &self.outcomes
     }
 
+    // What the pack adds to the repository as it was, where that is prepared. It is taken once.
+    pub(crate) fn take_fresh(&mut self) -> Option<FreshObjects>
+        ensures fresh { IsPrepared self.old.before self.old.objects result }
+        ensures same { self.new ≡ self.old }
+    {
+        self.fresh.take()
+    }
+
     pub(crate) fn into_findings(self) -> Findings
         ensures { AreFound self.objects result }
     {
         let Judged {
             outcomes: _,
+            repo: _,
             lens: _,
             findings,
+            fresh: _,
         } = self;
         findings
     }
@@ -75,11 +90,34 @@ pub fn judge(
         outcomes.push(judge_one(pin, twice, &mut walks, command)?)?;
     }
     let findings = walks.into_findings();
+    let fresh = fresh_in(pin.repo(), &lens, pack, &outcomes)?;
     Ok(Judged {
         outcomes,
+        repo: pin.repo().copy()?,
         lens,
         findings,
+        fresh,
     })
+}
+
+// What a pack adds to a repository, with the segments that it has then, where some command isn't refused.
+fn fresh_in(
+    repo: &Repo,
+    lens: &Lens,
+    pack: &ObjectList,
+    outcomes: &[Option<Outcome>],
+) -> Result<Option<FreshObjects>, NoMemory>
+    requires { lens.now ≡ repo.now.objects ++ pack.now }
+    ensures { IfOk result (IsPrepared repo.now.objects lens.now) }
+{
+    if outcomes.iter().all(|outcome| outcome.is_some()) {
+        return Ok(None);
+    }
+    match repo.compare_in(lens, pack) {
+        Compared::Fresh(fresh) => Ok(Some(repo.prepare(fresh)?)),
+        Compared::Collision { .. } | Compared::Full(_) => Ok(None),
+        Compared::NoMemory => Err(NoMemory),
+    }
 }
 
 // What is known of the opening's objects with those of a pack behind them.

@@ -1,12 +1,13 @@
 // What a push does to a repository.
-ghost use Rattle.std.specs.Prelude.{◌≡◌, ◌+◌, ◌++◌, ◌<◌, ◌≤◌, ◌^◌, IfOk, IfSome, length, map, None, not, OnOk, Some, true};
+ghost use Rattle.std.specs.Prelude.{◌≡◌, ◌+◌, ◌++◌, ◌<◌, ◌≤◌, ◌^◌, [], IfOk, IfSome, length, map, None, not, OnOk, Some, true};
 ghost use Rattle.std.specs.List.{list_any, position};
 ghost use Rattle.ref_store.specs.RefName.{is_ref_name};
 ghost use Rattle.ref_store.specs.Objects.{HasNamesOnce, with_pack};
 ghost use Rattle.ancestry.specs.Known.{Extends};
 ghost use Rattle.hub_core.specs.Collision.{collision};
 ghost use Rattle.hub_core.specs.Push.{beside, by_refs, in_order, is_done, landed, landed_with, outcomes_in, refs_after, refs_left, together};
-ghost use Rattle.hub_core.specs.Running.{FitCommands, FitsCommand};
+ghost use Rattle.hub_core.specs.Running.{FitCommands, FitsCommand, IsReadyFor};
+ghost use Rattle.ref_store.specs.Store.{TellsOfComparing};
 
 use crate::judging::Judged;
 use crate::outcome::{Outcome, OutcomeList};
@@ -25,37 +26,69 @@ pub struct Decided {
     pub same: Option<HostedRepo>,
 }
 
-/// Decides a push into a repository as it is just before. It costs the pack, the commands and, once a ref moves, the repository's refs.
+/// Decides a push into a repository as it is just before. It costs the commands and, once a ref moves, the repository's refs; and where objects came
+/// since the push was judged, it compares the pack again, and adds what it lacks where a command is done.
 ///
-/// Where no command is done no segment is built. What was found out on the way is kept where a command is done, and where the push is
-/// `unchanged`: judged by just the objects that are there now. That costs what was found out, and may join it with what was known.
+/// Where no command is done no segment is built. What was found out on the way is kept where a command is done, and where the push brings no objects
+/// and none came since it was judged. That costs what was found out, and may join it with what was known.
+///
+/// `same` tells that the objects are those of the opening.
 pub fn decide(
     alloc: Global,
     now: &HostedRepo,
-    judged: Judged,
+    mut judged: Judged,
     pack: &ObjectList,
     commands: &CommandList,
     atomic: bool,
-    unchanged: bool,
+    same: bool,
 ) -> Result<Decided, NoMemory>
     requires alike { length judged.outcomes ≡ length commands.now }
     requires few { length commands.now ≤ 10000 }
     requires fit { FitCommands commands.now judged.outcomes }
     requires among { collision now.now.objects pack.now ≡ None → Extends judged.objects (with_pack now.now.objects pack.now) }
-    requires unchanged { unchanged ≡ true → judged.objects ≡ now.now.objects }
+    requires behind { judged.objects ≡ judged.before ++ pack.now }
+    requires same { same ≡ true → judged.before ≡ now.now.objects }
     ensures outcomes { IfOk result (λ d. d.outcomes ≡ outcomes_in now.now pack.now commands.now atomic judged.outcomes) }
     ensures next { IfOk result (λ d. d.next ≡ landed now.now pack.now commands.now d.outcomes) }
     ensures same { IfOk result (λ d. IfSome d.same (λ same. same ≡ now.now)) }
 {
     // `count` is called for its clause that no two objects have one name, which the proof cites.
     let _count = now.repo().count();
-    match now.repo().compare(pack) {
+    let unchanged = is_unchanged(same, pack);
+    match compared(now, &mut judged, pack, same) {
         Compared::Fresh(fresh) => decide_with(
             alloc, now, judged, fresh, commands, atomic, unchanged,
         ),
         Compared::Collision { id, .. } => refuse_all(alloc, commands, &Outcome::Collided(id)),
         Compared::Full(count) => refuse_all(alloc, commands, &Outcome::Full(count)),
         Compared::NoMemory => Err(NoMemory),
+    }
+}
+
+// Whether a push brings no objects, and none came since its opening.
+fn is_unchanged(same: bool, pack: &ObjectList) -> bool
+    ensures { result ≡ true → (same ≡ true) × (pack.now ≡ []) }
+{
+    if !same {
+        return false;
+    }
+    pack.is_empty()
+}
+
+// The pack beside the repository: as it was compared when the push was judged, where the objects are still the same and that is at hand.
+fn compared(now: &HostedRepo, judged: &mut Judged, pack: &ObjectList, same: bool) -> Compared
+    requires behind { judged.old.objects ≡ judged.old.before ++ pack.now }
+    requires same { same ≡ true → judged.old.before ≡ now.now.objects }
+    ensures told { TellsOfComparing now.now.objects pack.now result }
+    ensures ready { IsReadyFor now.now.objects result }
+    ensures judged { judged.new ≡ judged.old }
+{
+    if !same {
+        return now.repo().compare(pack);
+    }
+    match judged.take_fresh() {
+        Some(fresh) => Compared::Fresh(fresh),
+        None => now.repo().compare(pack),
     }
 }
 
@@ -85,12 +118,13 @@ fn decide_with(
     requires alike { length judged.outcomes ≡ length commands.now }
     requires few { length commands.now ≤ 10000 }
     requires fit { FitCommands commands.now judged.outcomes }
-    requires names { HasNamesOnce (now.now.objects ++ fresh) }
-    requires room { length now.now.objects + length fresh ≤ 4294967295 }
-    requires among { Extends judged.objects (now.now.objects ++ fresh) }
+    requires names { HasNamesOnce (now.now.objects ++ fresh.objects) }
+    requires room { length now.now.objects + length fresh.objects ≤ 4294967295 }
+    requires ready { IfSome fresh.before (λ before. before ≡ now.now.objects) }
+    requires among { Extends judged.objects (now.now.objects ++ fresh.objects) }
     requires unchanged { unchanged ≡ true → judged.objects ≡ now.now.objects }
     ensures outcomes { IfOk result (λ d. d.outcomes ≡ together atomic (in_order now.now.refs commands.now judged.outcomes)) }
-    ensures next { IfOk result (λ d. d.next ≡ landed_with now.now (now.now.objects ++ fresh) commands.now d.outcomes) }
+    ensures next { IfOk result (λ d. d.next ≡ landed_with now.now (now.now.objects ++ fresh.objects) commands.now d.outcomes) }
     ensures same { IfOk result (λ d. IfSome d.same (λ same. same ≡ now.now)) }
 {
     let mut repo = now.repo().copy()?;
@@ -244,10 +278,11 @@ fn land(
     judged: Judged,
 ) -> Result<HostedRepo, NoMemory>
     requires objects { repo.objects ≡ now.now.objects }
-    requires names { HasNamesOnce (now.now.objects ++ fresh) }
-    requires room { length now.now.objects + length fresh ≤ 4294967295 }
-    requires among { Extends judged.objects (now.now.objects ++ fresh) }
-    ensures { IfOk result (λ next. next ≡ record { objects = now.now.objects ++ fresh; refs = repo.refs; creator = now.now.creator; roles = now.now.roles }) }
+    requires names { HasNamesOnce (now.now.objects ++ fresh.objects) }
+    requires room { length now.now.objects + length fresh.objects ≤ 4294967295 }
+    requires ready { IfSome fresh.before (λ before. before ≡ now.now.objects) }
+    requires among { Extends judged.objects (now.now.objects ++ fresh.objects) }
+    ensures { IfOk result (λ next. next ≡ record { objects = now.now.objects ++ fresh.objects; refs = repo.refs; creator = now.now.creator; roles = now.now.roles }) }
 {
     repo.add(fresh)?;
     let known = now.known().grown_with(alloc, judged.into_findings())?;

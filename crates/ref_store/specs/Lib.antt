@@ -5,6 +5,7 @@ pub mod Odds
 pub mod Objects
 pub mod Table
 pub mod Segments
+pub mod Fresh
 pub mod Lacking
 pub mod Store
 pub mod Codes

@@ -1,5 +1,5 @@
 -- What a repository stores, and what adding a pack's objects and moving a ref tell and leave.
-use Rattle.std.specs.Prelude.{◌≡◌, ◌+◌, ◌<◌, ◌≤◌, length, List, ◌++◌}
+use Rattle.std.specs.Prelude.{◌≡◌, ◌+◌, ◌<◌, ◌≤◌, length, List, ◌++◌, None}
 use Rattle.git_object.specs.Content.{Content}
 use Rattle.git_object.specs.declared.object_id.ObjectId.{ObjectId}
 use Rattle.ref_store.specs.declared.repo.Compared as compared
@@ -25,10 +25,17 @@ pub record IsSound (store : Store) : Type 0 where
 
 -- what is told of a pack beside the objects that are there: where two objects of one name differ that is told; else, where there would be more than 4,294,967,295, how many there would be; else which ones to add
 abbrev pub TellsOfComparing : List Content → List Content → compared.Compared → Type 0
-TellsOfComparing objects pack (beside.Fresh fresh) = HasNoCollision (objects ++ pack) × (with_pack objects pack ≡ objects ++ fresh) × HasNamesOnce (objects ++ fresh) × (length objects + length fresh ≤ 4294967295)
+TellsOfComparing objects pack (beside.Fresh fresh) = HasNoCollision (objects ++ pack) × (with_pack objects pack ≡ objects ++ fresh.objects) × HasNamesOnce (objects ++ fresh.objects) × (length objects + length fresh.objects ≤ 4294967295)
 TellsOfComparing objects pack (beside.Collision id kept given) = IsFirstCollision (objects ++ pack) id kept given
 TellsOfComparing objects pack (beside.Full count) = HasNoCollision (objects ++ pack) × (count ≡ length (with_pack objects pack)) × (4294967295 < count)
 TellsOfComparing objects pack beside.NoMemory = Unit {0}
+
+-- no segments are prepared
+abbrev pub IsUnprepared : compared.Compared → Type 0
+IsUnprepared (beside.Fresh fresh) = fresh.before ≡ None
+IsUnprepared (beside.Collision id kept given) = Unit {0}
+IsUnprepared (beside.Full count) = Unit {0}
+IsUnprepared beside.NoMemory = Unit {0}
 
 -- what is told of adding a pack's objects: where two objects of one name differ that is told; else, where there would be more than 4,294,967,295, how many there would be
 abbrev pub TellsOfAdding : List Content → List Content → added.Added → Type 0

@@ -21,17 +21,13 @@ pub enum Lacking {
     },
 }
 
-/// Goes through a pack beside the objects that are there.
-pub fn find_lacking(alloc: Global, kept: &Segments, pack: &[Object]) -> Result<Lacking, NoMemory>
-    requires { HasNamesOnce (all_of kept.now) }
-    ensures { IfOk result (λ l. TellsOfPack (all_of kept.now) pack.now l) }
-{
-    let lens = Lens::over(alloc, kept, pack)?;
-    walk(alloc, &lens, kept, pack)
-}
-
-// The objects of the pack in order, each beside the first of its name.
-fn walk(alloc: Global, lens: &Lens, kept: &Segments, pack: &[Object]) -> Result<Lacking, NoMemory>
+/// Goes through a pack beside the objects that are there, each of its objects beside the first of its name. The lens shows both.
+pub fn find_lacking(
+    alloc: Global,
+    lens: &Lens,
+    kept: &Segments,
+    pack: &[Object],
+) -> Result<Lacking, NoMemory>
     requires names { HasNamesOnce (all_of kept.now) }
     requires lens { lens.now ≡ all_of kept.now ++ pack.now }
     ensures { IfOk result (λ l. TellsOfPack (all_of kept.now) pack.now l) }

@@ -35,14 +35,8 @@ impl Lens {
     pub fn new(alloc: Global, repo: &Repo, pack: &ObjectList) -> Result<Lens, NoMemory>
         ensures { IfOk result (λ l. l ≡ repo.now.objects ++ pack.now) }
     {
-        Lens::over(alloc, repo.kept(), pack.as_slice())
-    }
-
-    pub(crate) fn over(alloc: Global, kept: &Segments, pack: &[Object]) -> Result<Lens, NoMemory>
-        ensures { IfOk result (λ l. l ≡ all_of kept.now ++ pack.now) }
-    {
-        let kept = kept.copy()?;
-        let pack = ObjectTable::of(alloc, pack)?;
+        let kept = repo.kept().copy()?;
+        let pack = ObjectTable::of(alloc, pack.as_slice())?;
         Ok(Lens { kept, pack })
     }
 

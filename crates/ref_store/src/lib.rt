@@ -9,11 +9,12 @@
 //! - `object_table`: objects in order, found by their names;
 //! - `segments`: the objects of a repository in shared segments;
 //! - `lens`: the objects of a repository with those of a pack;
-//! - `lacking`: what a pack holds that a repository lacks;
+//! - `lacking`, `fresh`: what a pack holds that a repository lacks;
 //! - `repo`: a repository.
 #![tactic(auto)]
 
 mod command;
+mod fresh;
 mod lacking;
 mod lens;
 mod object_table;
@@ -27,9 +28,10 @@ mod shared_refs;
 
 pub use base_types::{ItemList, NoMemory, Text};
 pub use command::{Command, CommandList};
+pub use fresh::FreshObjects;
 pub use lens::Lens;
 pub use ref_name::RefName;
-pub use repo::{Added, Applied, Compared, FreshObjects, Repo};
+pub use repo::{Added, Applied, Compared, Repo};
 pub use salt::Salt;
 
 #[cfg(test)]

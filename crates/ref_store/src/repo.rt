@@ -1,13 +1,15 @@
 // A repository.
-ghost use Rattle.std.specs.Prelude.{◌≡◌, ◌+◌, ◌++◌, ◌↔◌, ◌≤◌, ◌^◌, [], IfOk, IfSome, IsTrue, length, None, OnErr, OnOk, slice_get, take};
+ghost use Rattle.std.specs.Prelude.{◌≡◌, ◌+◌, ◌++◌, ◌↔◌, ◌≤◌, ◌^◌, [], IfOk, IfSome, IsTrue, length, None, OnErr, OnOk, slice_get, Some, take};
 ghost use Rattle.std.specs.FinMap as map;
 ghost use Rattle.std.specs.Option.{option_copied};
 ghost use Rattle.ref_store.specs.Objects.{first_named, HasNamesOnce, place_of, same_id};
 ghost use Rattle.ref_store.specs.Refs.{HasNoneAtOdds, moved, TellsOfOdds, value, zero_id};
 ghost use Rattle.ref_store.specs.Segments.{all_of};
-ghost use Rattle.ref_store.specs.Store.{left_by, moved_by, TellsOfAdding, TellsOfComparing, TellsOfMove};
+ghost use Rattle.ref_store.specs.Store.{IsUnprepared, left_by, moved_by, TellsOfAdding, TellsOfComparing, TellsOfMove};
 
+use crate::fresh::FreshObjects;
 use crate::lacking::{Lacking, find_lacking};
+use crate::lens::Lens;
 use crate::odds::at_odds;
 use crate::ref_name::RefName;
 use crate::salt::Salt;
@@ -28,12 +30,6 @@ pub struct Repo {
     alloc: Global,
     objects: Segments,
     refs: SharedRefs,
-}
-
-/// The objects of a pack that a repository lacks, in the order of the pack, each name once. Their bodies are shared with the pack.
-#[derive(Drop)]
-pub struct FreshObjects {
-    objects: Vec<Object>,
 }
 
 /// A pack beside a repository.
@@ -82,15 +78,6 @@ impl Model for Repo {
     ghost view = { λ r. record { objects = all_of r.objects; refs = r.refs } };
 
     ghost invariant = { λ r. IsSound (record { objects = all_of r.objects; refs = r.refs }) };
-}
-
-impl Model for FreshObjects {
-    ghost use Rattle.std.specs.Prelude.{List};
-    ghost use Rattle.git_object.specs.Content.{Content};
-
-    ghost Value = { List Content };
-
-    ghost view = { λ f. f.objects.items };
 }
 
 impl Repo {
@@ -249,11 +236,24 @@ impl Repo {
         Ok(())
     }
 
-    /// Compares a pack with the objects that are there, and changes nothing. It costs the pack, and a look-up in each segment for each of its objects.
+    /// Compares a pack with the objects that are there, and changes nothing. It costs a table of the pack, and what `compare_in` costs.
     pub fn compare(&self, pack: &ObjectList) -> Compared
-        ensures { TellsOfComparing self.now.objects pack.now result }
+        ensures told { TellsOfComparing self.now.objects pack.now result }
+        ensures unprepared { IsUnprepared result }
     {
-        let fresh = match find_lacking(self.alloc, &self.objects, pack.as_slice()) {
+        match Lens::new(self.alloc, self, pack) {
+            Ok(lens) => self.compare_in(&lens, pack),
+            Err(NoMemory) => Compared::NoMemory,
+        }
+    }
+
+    /// The same, in a lens that shows the objects that are there and the pack's. It costs a look-up in each segment for each object of the pack.
+    pub fn compare_in(&self, lens: &Lens, pack: &ObjectList) -> Compared
+        requires { lens.now ≡ self.now.objects ++ pack.now }
+        ensures told { TellsOfComparing self.now.objects pack.now result }
+        ensures unprepared { IsUnprepared result }
+    {
+        let fresh = match find_lacking(self.alloc, lens, &self.objects, pack.as_slice()) {
             Ok(Lacking::Fresh(fresh)) => fresh,
             Ok(Lacking::Differs { id, kept, given }) => {
                 return Compared::Collision {
@@ -268,17 +268,27 @@ impl Repo {
         if count > MAX_OBJECTS {
             return Compared::Full(count as u64);
         }
-        Compared::Fresh(FreshObjects { objects: fresh })
+        Compared::Fresh(FreshObjects::unprepared(fresh))
     }
 
-    /// Adds objects at the end. Whoever has a copy doesn't see them.
+    /// Makes the segments that this repository has once fresh objects are added, so that `add` has only to put them in place where the objects are
+    /// still the same. It costs what a join of segments costs, which may be all objects.
+    pub fn prepare(&self, fresh: FreshObjects) -> Result<FreshObjects, NoMemory>
+        requires room { length self.now.objects + length fresh.objects ≤ 4294967295 }
+        ensures { IfOk result (λ f. f ≡ record { objects = fresh.objects; before = Some self.now.objects }) }
+    {
+        fresh.prepared_for(self.alloc, &self.objects)
+    }
+
+    /// Adds objects at the end. Whoever has a copy doesn't see them. Where they were prepared it costs nothing, and else what `prepare` costs.
     pub fn add(&mut self, fresh: FreshObjects) -> Result<(), NoMemory>
-        requires names { HasNamesOnce (self.old.objects ++ fresh) }
-        requires few { length self.old.objects + length fresh ≤ 4294967295 }
-        ensures ok { OnOk result (self.new ≡ record self.old { objects = self.old.objects ++ fresh }) }
+        requires names { HasNamesOnce (self.old.objects ++ fresh.objects) }
+        requires few { length self.old.objects + length fresh.objects ≤ 4294967295 }
+        requires prepared { IfSome fresh.before (λ before. before ≡ self.old.objects) }
+        ensures ok { OnOk result (self.new ≡ record self.old { objects = self.old.objects ++ fresh.objects }) }
         ensures err { OnErr result (self.new ≡ self.old) }
     {
-        let objects = self.objects.with(self.alloc, &fresh.objects)?;
+        let objects = fresh.grown(self.alloc, &self.objects)?;
         self.objects = objects;
         Ok(())
     }

@@ -19,7 +19,7 @@ together-requires c =
 pub returns-clause-next : goal.returns-clause-next
 returns-clause-next c =
     let now = c.args.now.now in
-    let objects = now.objects ++ c.args.fresh in
+    let objects = now.objects ++ c.args.fresh.objects in
     let ran = c.in_ok-ran.ran in
     let refs : c.run.new.repo.refs ≡ refs_left now.refs c.args.commands.now ran =
     ap (λ (s : Store). s.refs) c.in_ok-ran.ensures.repo

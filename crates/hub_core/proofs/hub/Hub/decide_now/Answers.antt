@@ -17,17 +17,16 @@ pub decide-requires-clause-fit : goal.decide-requires-clause-fit
 decide-requires-clause-fit c =
     subst (FitCommands c.args.commands.now) (sym (ap (λ (j : Judgement). j.outcomes) c.requires.judged)) (judgement_fits c.args.pin.now.pinned c.args.pack.now c.args.commands.now)
 
-pub decide-requires-clause-unchanged : goal.decide-requires-clause-unchanged
-decide-requires-clause-unchanged c = λ is.
+pub decide-requires-clause-same : goal.decide-requires-clause-same
+decide-requires-clause-same c = λ is.
     let hub = c.args.self.now in
     let pinned = c.args.pin.now.pinned in
     let legal : IsLegal hub.admin hub.log = subst (λ (v : HubView). IsLegal v.admin v.log) c.self.view_is c.self.invariant.0 in
     let now_is : c.in_ok-now.now ≡ repository_at (replay hub.admin hub.log) pinned.repo = c.in_ok-now.ensures.hosted ∙ ap (λ (n : Name). repository_at (replay hub.admin hub.log) n) c.repo_name.ensures in
     let begins : Begins pinned.repository.objects c.in_ok-now.now.objects =
     subst (λ (r : Repository). Begins pinned.repository.objects r.objects) (sym now_is) (pinned_first hub.admin hub.log legal c.args.pin.now c.requires.stands) in
-    let counts = c.is_unchanged-unchanged.ensures is in
-    let long : length pinned.repository.objects ≡ length c.in_ok-now.now.objects = sym (ap (λ (s : Store). length s.objects) c.repo.ensures.repo) ∙ counts.1 ∙ ap (λ (s : Store). length s.objects) c.repo-2.ensures in
-    ap (λ (j : Judgement). j.objects) c.requires.judged ∙ pinned_same pinned.repository.objects c.in_ok-now.now.objects c.args.pack.now begins counts.0 long
+    let long : length pinned.repository.objects ≡ length c.in_ok-now.now.objects = sym (ap (λ (s : Store). length s.objects) c.repo.ensures.repo) ∙ c.has_as_many-same.ensures is ∙ ap (λ (s : Store). length s.objects) c.repo-2.ensures in
+    ap (λ (j : Judgement). j.before) c.requires.judged ∙ pinned_same pinned.repository.objects c.in_ok-now.now.objects begins long
 
 pub decide-requires-clause-among : goal.decide-requires-clause-among
 decide-requires-clause-among c = λ apart.

@@ -6,7 +6,7 @@ use Rattle.git_object.specs.declared.object_id.ObjectId.{ObjectId}
 use Rattle.ref_store.specs.Objects.{place_of, IsFirstCollision}
 use Rattle.ref_store.specs.Segments.{all_of}
 use Rattle.ref_store.proofs.PackLemmas.{SoFar, so_far_new, so_far_old, so_far_differs, so_far_all, place_so_far}
-use Rattle.ref_store.proofs.lacking.walk.Goals as goal
+use Rattle.ref_store.proofs.lacking.find_lacking.Goals as goal
 
 pub loop-i-preserved-in_default : goal.loop-i-preserved-in_default
 loop-i-preserved-in_default c =
