@@ -1,0 +1,12 @@
+pub mod MatchLemmas
+pub mod EndLemmas
+pub mod IndexLemmas
+pub mod StackLemmas
+pub mod RunLemmas
+pub mod DistinctLemmas
+pub mod GroupLemmas
+pub mod TableLemmas
+pub mod PlainLemmas
+pub mod OnceLemmas
+pub mod OrderLemmas
+pub mod MemberLemmas

@@ -1,0 +1,10 @@
+pub mod Files
+pub mod Lines
+pub mod Splicing
+pub mod Groups
+pub mod Faults
+pub mod Laws
+pub mod Tables
+pub mod Matching
+pub mod Indexes
+pub mod Stacks
