@@ -29,6 +29,10 @@ is_commit objects id = option_map_or (λ o. same_kind Commit o.kind) (first_name
 abbrev pub is_between_commits : List Content → ObjectId → ObjectId → Bool
 is_between_commits objects old new = not (is_zero old) && not (is_zero new) && is_commit objects old && is_commit objects new
 
+-- what is asked of a change: its two commits, and of any other change a pair that asks nothing
+abbrev pub pair_of : List Content → ObjectId → ObjectId → ObjectId × ObjectId
+pair_of objects old new = if is_between_commits objects old new then (old, new) else (zero_id, zero_id)
+
 -- the facts of a change of a ref of this name
 pub record AreFacts (objects : List Content) (name : List ℕ) (old new : ObjectId) (facts : Facts) : Type 0 where
   pub change : facts.change ≡ change_of old new

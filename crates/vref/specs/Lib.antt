@@ -1,1 +1,4 @@
+pub mod History
+pub mod Marks
+pub mod Advances
 pub mod Facts

@@ -1,6 +1,7 @@
 use super::*;
+use base_types::Text;
 use git_object::{Kind, Object, ObjectId, ObjectList};
-use ref_store::{Lens, Repo};
+use ref_store::{Command, Lens, Repo};
 use std::alloc::Global;
 use std::test::Fail;
 
@@ -52,6 +53,69 @@ fn facts_otherwise(
         let told = facts_of(alloc, lens, name.as_bytes(), old, new).map_err(|_| "memory")?;
         if told != facts {
             return Ok(Some(i));
+        }
+    }
+    Ok(None)
+}
+
+// The rows, so many times over, as changes of one push.
+fn changes_of(
+    alloc: Global,
+    rows: &[(&str, ObjectId, ObjectId, Facts)],
+    times: usize,
+) -> Result<Vec<Command>, Fail> {
+    let mut changes = Vec::new(alloc);
+    for _ in 0..times {
+        for (name, old, new, _) in rows {
+            let name = Text::of(alloc, name.as_bytes()).map_err(|_| "memory")?;
+            changes.push(Command {
+                old: *old,
+                new: *new,
+                name,
+            })?;
+        }
+    }
+    Ok(changes)
+}
+
+// The first change of all, so many times the rows, of which the facts are others.
+fn all_facts_otherwise(
+    alloc: Global,
+    lens: &Lens,
+    rows: &[(&str, ObjectId, ObjectId, Facts)],
+    times: usize,
+) -> Result<Option<usize>, Fail> {
+    let changes = changes_of(alloc, rows, times)?;
+    let told = facts_of_all(alloc, lens, &changes).map_err(|_| "memory")?;
+    if told.len() != changes.len() {
+        return Ok(Some(told.len()));
+    }
+    let long = rows.len();
+    if long == 0 {
+        return Ok(None);
+    }
+    for i in 0..told.len() {
+        let Some(row) = rows.get(i % long) else {
+            return Ok(Some(i));
+        };
+        if told[i] != row.3 {
+            return Ok(Some(i));
+        }
+    }
+    Ok(None)
+}
+
+// The same of a few changes, which each walk by themselves, of one portion that goes by one order, and of several.
+fn all_facts_otherwise_often(
+    alloc: Global,
+    lens: &Lens,
+    rows: &[(&str, ObjectId, ObjectId, Facts)],
+) -> Result<Option<usize>, Fail> {
+    let few = rows.split_at(rows.len().min(5)).0;
+    for (some, times) in [(few, 1), (rows, 1), (rows, 20)] {
+        let other = all_facts_otherwise(alloc, lens, some, times)?;
+        if other.is_some() {
+            return Ok(other);
         }
     }
     Ok(None)
@@ -111,5 +175,54 @@ fn facts_of_changes(rt: HostRuntime) -> Result<(), Fail> {
         ),
     ];
     assert_eq!(rt; facts_otherwise(alloc, &lens, &rows)?, None);
+    assert_eq!(rt; all_facts_otherwise_often(alloc, &lens, &rows)?, None);
+    Ok(())
+}
+
+// A chain of commits, of which each eighth is a merge with a commit at its side.
+fn put_chain(alloc: Global, objects: &mut ObjectList, long: usize) -> Result<Vec<ObjectId>, Fail> {
+    let tree = put(alloc, objects, Kind::Tree, b"")?;
+    let mut last = put_commit(alloc, objects, tree, &[])?;
+    let mut chain = vec![in alloc; last]?;
+    for k in 1..long {
+        let side = put_commit(alloc, objects, last, &[])?;
+        last = match k % 8 {
+            7 => put_commit(alloc, objects, tree, &[last, side])?,
+            _ => put_commit(alloc, objects, tree, &[last])?,
+        };
+        chain.push(last)?;
+    }
+    Ok(chain)
+}
+
+// Changes between commits of a chain here and there, with their facts: a merge is brought where one of the places 7, 15, .. lies behind the old place
+// and not behind the new one.
+fn changes_along(
+    alloc: Global,
+    chain: &[ObjectId],
+) -> Result<Vec<(&str, ObjectId, ObjectId, Facts)>, Fail> {
+    let mut rows = Vec::new(alloc);
+    if chain.len() > 1000 {
+        return Err(Fail::from("a short chain"));
+    }
+    for k in 0..chain.len() {
+        let to = k * 37 % chain.len();
+        let merge = (k + 1) / 8 < (to + 1) / 8;
+        let row = facts(Change::Update, false, true, k <= to, merge);
+        rows.push(("refs/heads/a", chain[k], chain[to], row))?;
+    }
+    Ok(rows)
+}
+
+#[test]
+fn facts_along_a_chain(rt: HostRuntime) -> Result<(), Fail> {
+    let alloc = rt.alloc();
+    let mut pack = ObjectList::new(alloc);
+    let chain = put_chain(alloc, &mut pack, 100)?;
+    let repo = Repo::empty(alloc)?;
+    let lens = Lens::new(alloc, &repo, &pack)?;
+    let rows = changes_along(alloc, &chain)?;
+    assert_eq!(rt; facts_otherwise(alloc, &lens, &rows)?, None);
+    assert_eq!(rt; all_facts_otherwise(alloc, &lens, &rows, 2)?, None);
     Ok(())
 }

@@ -1,0 +1,5 @@
+mod BitLemmas
+mod ListLemmas
+mod LinkLemmas
+mod MarkLemmas
+mod AdvanceLemmas
