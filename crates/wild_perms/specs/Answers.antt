@@ -1,5 +1,5 @@
 -- What changes and listings of roles are answered, and what they leave.
-use Rattle.std.specs.Prelude.{◌≡◌, ℕ, Bool, not, List, Option, Some, None, if◌then◌else◌}
+use Rattle.std.specs.Prelude.{◌≡◌, ℕ, not, List, Option, Some, None, if◌then◌else◌}
 use Rattle.std.specs.List.{Contains}
 use Rattle.std.specs.Str.{bytes_eq}
 use Rattle.wild_perms.specs.Roles.{WildView, is_role, with_entry, without_entry}

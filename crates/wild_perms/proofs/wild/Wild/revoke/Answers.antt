@@ -1,4 +1,4 @@
-use Rattle.std.proofs.Common.{◌≡◌, ℕ, suc, List, ◌++◌, take, drop, refl, sym, ◌∙◌, ap, ap₂, subst}
+use Rattle.std.proofs.Common.{◌≡◌, suc, List, ◌++◌, take, drop, refl, sym, ◌∙◌, ap, ap₂, subst}
 use Rattle.wild_perms.specs.Roles.{IsRoleSet, WildView, without_entry}
 use Rattle.wild_perms.specs.declared.role.RoleEntry.{RoleEntry}
 use Rattle.wild_perms.proofs.RoleLemmas.{gap_found, held_found, not_held, set_taken, taken_is}
