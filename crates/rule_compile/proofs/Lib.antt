@@ -1,0 +1,5 @@
+pub mod ListLemmas
+pub mod PatternLemmas
+pub mod PushLemmas
+pub mod StepLemmas
+pub mod WordLemmas

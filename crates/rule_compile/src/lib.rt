@@ -1,0 +1,40 @@
+//! The rules of a conf: a flat list in which the first rule that decides is found, or why the conf has none.
+//!
+//! - `limits`: how many rules and patterns a conf has at most;
+//! - `fault`: why a conf is refused;
+//! - `members`, `rule`, `warning`: what a conf is compiled to;
+//! - `words`: what the words of a line stand for;
+//! - `groups`: members of groups, and what a subconf may set access for;
+//! - `name_list`, `patterns`: names and patterns, each once;
+//! - `stop`, `draft`: what the lines come to, one after another;
+//! - `policy`: the rules in force.
+//!
+//! The rules are in plain words in `docs/CONF.md`.
+#![tactic(auto)]
+
+mod draft;
+mod fault;
+mod groups;
+mod limits;
+mod members;
+mod name_list;
+mod patterns;
+mod policy;
+mod rule;
+mod stop;
+mod warning;
+mod words;
+
+pub use base_types::{NoMemory, Text};
+pub use conf_groups::{ConfFault, ConfFile, FileList, FileName, Scope};
+pub use conf_lex::{Perm, RepoName, TextList, UserName};
+pub use fault::{PolicyFault, RuleFault, RuleKind};
+pub use limits::{MAX_PATTERNS, MAX_RULES};
+pub use members::Members;
+pub use policy::Policy;
+pub use refex::RefexFault;
+pub use rule::{OptionLine, RepoWord, Rule, UserWord};
+pub use warning::{Warning, WarningList};
+
+#[cfg(test)]
+mod tests;
