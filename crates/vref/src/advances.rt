@@ -19,7 +19,7 @@ use std::marker::Model;
 /// A commit, and one that is to follow it.
 pub type Pair = (ObjectId, ObjectId);
 
-// Up to so many pairs each walk by itself: such a walk goes no further back than it must, and so many whole walks cost about what the order does.
+// Up to so many pairs each walk by itself: such a walk goes no further back than it must, and so many whole walks cost about twice what the order does.
 const FEW: usize = 4;
 
 /// How the second commit of each pair follows the first.
