@@ -25,11 +25,11 @@ refused_by (Some creator) asker = if bytes_eq creator asker then None else Some 
 abbrev pub refusal : WildView → List ℕ → List ℕ → Option PermsAnswer
 refusal wild asker role = if not (is_role role) then Some NoSuchRole else refused_by wild.creator asker
 
--- Where nothing refuses it, a role that the user doesn't hold is given.
+-- Where nothing refuses it, a role that the user doesn't hold is given, unless memory runs out.
 abbrev pub Grants : WildView → WildView → List ℕ → RoleEntry → PermsAnswer → Type 0
 Grants old new asker entry Changed = (refusal old asker entry.role ≡ None) × ¬ Contains old.roles entry × (new ≡ record old { roles = with_entry old.roles entry })
 Grants old new asker entry AlreadySo = (refusal old asker entry.role ≡ None) × Contains old.roles entry × (new ≡ old)
-Grants old new asker entry NoMemory = new ≡ old
+Grants old new asker entry NoMemory = (refusal old asker entry.role ≡ None) × ¬ Contains old.roles entry × (new ≡ old)
 Grants old new asker entry answer = (refusal old asker entry.role ≡ Some answer) × (new ≡ old)
 
 -- Where nothing refuses it, a role that the user holds is taken. That takes no memory.

@@ -16,3 +16,11 @@ returns-in-Ok-put c =
       not_held c.args.self.now.roles entry c.in-Err.at (gap_found c.args.self.now.roles entry c.in-Err.at c.in-Err.ensures.set c.in-Err.ensures.bound c.in-Err.ensures.position),
       c.in-Ok-put.ensures.ok,
     )
+
+pub returns-in-Err-put : goal.returns-in-Err-put
+returns-in-Err-put c =
+    let entry : RoleEntry = record { role = c.args.role.now; user = c.args.user.now } in (
+      sym c.refusal.ensures ∙ c.in_default.is,
+      not_held c.args.self.now.roles entry c.in-Err.at (gap_found c.args.self.now.roles entry c.in-Err.at c.in-Err.ensures.set c.in-Err.ensures.bound c.in-Err.ensures.position),
+      c.in-Err-put.ensures.err,
+    )
