@@ -1,5 +1,12 @@
+pub mod Decided
+pub mod IndexLemmas
 pub mod ListLemmas
+pub mod MemberLemmas
+pub mod NumberLemmas
 pub mod PatternLemmas
+pub mod PolicyCrosses
 pub mod PushLemmas
+pub mod SoundLemmas
 pub mod StepLemmas
+pub mod TrueAnswers
 pub mod WordLemmas

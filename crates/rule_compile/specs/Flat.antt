@@ -1,5 +1,5 @@
 -- The flat list of rules of a conf, or its first fault.
-use Rattle.std.specs.Prelude.{ℕ, suc, zero, slice_get, List, [], ◌∷◌, ◌++◌, ◌+◌, if◌then◌else◌, nat_lt, length, map, Option, Some, None, Result, Ok, Err}
+use Rattle.std.specs.Prelude.{ℕ, suc, zero, slice_get, List, [], ◌∷◌, ◌++◌, ◌+◌, ◌<◌, ◌≤◌, if◌then◌else◌, nat_lt, length, map, Option, Some, None, Result, Ok, Err}
 use Rattle.std.specs.List.{flat_map}
 use Rattle.conf_lex.specs.declared.perm.Perm.{Perm}
 use Rattle.conf_lex.specs.declared.statement.Statement.{Statement}
@@ -263,6 +263,10 @@ after_splicing patterns (Err e) = Err (fault.Splicing e)
 -- What the files of a conf come to: the flat list, or the first fault.
 abbrev pub flat : Patterns → List ConfFile → Result Flat PolicyFault
 flat patterns files = after_splicing patterns (spliced files)
+
+-- a number that a rule bears
+abbrev pub IsNumber : List declared.Rule → ℕ → Type 0
+IsNumber rules n = (0 < n) × (n ≤ length rules)
 
 -- the rule of a number
 abbrev pub numbered : List declared.Rule → ℕ → Option declared.Rule

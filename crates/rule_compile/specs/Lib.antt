@@ -1,6 +1,13 @@
 pub mod Faults
 pub mod Patterns
+pub mod Covering
 pub mod Words
 pub mod Flat
 pub mod Answers
 pub mod Tables
+pub mod Numbers
+pub mod Index
+pub mod WordIndex
+pub mod Deny
+pub mod Sound
+pub mod Members

@@ -78,7 +78,7 @@ is_plain_pattern word = not (is_repo_name word) && not (occurs (codes "CREATOR")
 
 -- a member of the group of a subconf's name lets it set access for the word: it is the word, or a pattern that matches the whole of it
 abbrev pub lets : Patterns → List ℕ → List ℕ → Bool
-lets patterns word member = bytes_eq word member || (is_repo_name word && (is_plain_pattern member && patterns.takes member word))
+lets patterns word member = bytes_eq word member || (is_repo_name word && (is_plain_pattern member && patterns.takes member [] word))
 
 abbrev pub some_lets : Patterns → List ℕ → List (List ℕ) → Bool
 some_lets patterns word [] = false

@@ -5,36 +5,49 @@
 //! - `members`, `rule`, `warning`: what a conf is compiled to;
 //! - `words`: what the words of a line stand for;
 //! - `groups`: members of groups, and what a subconf may set access for;
-//! - `name_list`, `patterns`: names and patterns, each once;
+//! - `name_list`, `known`, `patterns`: names and patterns, each once;
 //! - `stop`, `draft`: what the lines come to, one after another;
-//! - `policy`: the rules in force.
+//! - `word_index`, `cursor`, `rules_for`: which rules may cover a repository;
+//! - `deny`: where the option `deny-rules` is in force;
+//! - `policy`: the rules in force;
+//! - `laws`: that there are answers to all questions on texts.
 //!
 //! The rules are in plain words in `docs/CONF.md`.
 #![tactic(auto)]
 
+mod cursor;
+mod deny;
 mod draft;
 mod fault;
 mod groups;
+mod known;
+mod laws;
 mod limits;
 mod members;
 mod name_list;
 mod patterns;
 mod policy;
 mod rule;
+mod rules_for;
 mod stop;
 mod warning;
+mod word_index;
 mod words;
 
 pub use base_types::{NoMemory, Text};
 pub use conf_groups::{ConfFault, ConfFile, FileList, FileName, Scope};
 pub use conf_lex::{Perm, RepoName, TextList, UserName};
 pub use fault::{PolicyFault, RuleFault, RuleKind};
+pub use laws::some_patterns_are_true;
 pub use limits::{MAX_PATTERNS, MAX_RULES};
 pub use members::Members;
 pub use policy::Policy;
 pub use refex::RefexFault;
 pub use rule::{OptionLine, RepoWord, Rule, UserWord};
+pub use rules_for::RulesFor;
 pub use warning::{Warning, WarningList};
 
+#[cfg(test)]
+mod index_tests;
 #[cfg(test)]
 mod tests;

@@ -1,18 +1,19 @@
 // The members of a group.
 ghost use Rattle.std.specs.Prelude.{◌≡◌, IfOk};
 ghost use Rattle.conf_groups.specs.Groups.{holds};
-ghost use Rattle.rule_compile.specs.Tables.{Tells};
+ghost use Rattle.rule_compile.specs.Members.{AreMembers};
 
-use base_types::{NameMap, NoMemory, Text};
+use base_types::{NoMemory, Text};
 use conf_lex::TextList;
 use std::alloc::{AllocError, Global};
+use std::collections::BTreeSet;
 use std::marker::Model;
 use std::sync::Arc;
 
 #[derive(Drop)]
 struct Table {
     list: TextList,
-    names: NameMap<bool>,
+    names: BTreeSet<Vec<u8>>,
 }
 
 /// The members of a group, in order of first mention. A clone shares them.
@@ -24,13 +25,13 @@ pub struct Members {
 impl Model for Members {
     ghost use Rattle.std.specs.Arc.{arc_value};
     ghost use Rattle.std.specs.Prelude.{List, ℕ};
-    ghost use Rattle.rule_compile.specs.Tables.{Tells};
+    ghost use Rattle.rule_compile.specs.Members.{AreMembers};
 
     ghost Value = { List (List ℕ) };
 
     ghost view = { λ m. (arc_value m.table).list };
 
-    ghost invariant = { λ m. Tells (arc_value m.table).names (arc_value m.table).list };
+    ghost invariant = { λ m. AreMembers (arc_value m.table).names (arc_value m.table).list };
 }
 
 impl Members {
@@ -50,21 +51,21 @@ impl Members {
         self.table.list.as_slice()
     }
 
-    /// Whether the word is a member. It doesn't go through the list.
-    pub fn contains(&self, word: &Text) -> bool
+    /// Whether the word is a member. It costs the logarithm of the number of the members.
+    pub fn contains(&self, word: &[u8]) -> bool
         ensures { result ≡ holds self.now word.now }
     {
-        self.table.names.get(word).is_some()
+        self.table.names.contains(word)
     }
 }
 
 /// The members, each once.
-fn names_of(alloc: Global, list: &[Text]) -> Result<NameMap<bool>, NoMemory>
-    ensures { IfOk result (λ names. Tells names list.now) }
+fn names_of(alloc: Global, list: &[Text]) -> Result<BTreeSet<Vec<u8>>, NoMemory>
+    ensures { IfOk result (λ names. AreMembers names list.now) }
 {
-    let mut names = NameMap::new(alloc);
+    let mut names = BTreeSet::new(alloc);
     for member in list {
-        names.insert(member.clone()?, true)?;
+        names.insert(member.bytes().to_vec(alloc)?)?;
     }
     Ok(names)
 }

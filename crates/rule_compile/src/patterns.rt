@@ -1,13 +1,15 @@
 // Patterns, each read once.
-ghost use Rattle.std.specs.Prelude.{◌≡◌, [], length, IfOk, None, Ok, true};
+ghost use Rattle.std.specs.Prelude.{◌≡◌, [], length, IfOk, Ok};
 ghost use Rattle.conf_groups.specs.Groups.{with_item};
 ghost use Rattle.refex.specs.Program.{pattern_of};
 ghost use Rattle.refex.specs.Refex.{IsRefex};
 ghost use Rattle.rule_compile.specs.Answers.{GivesPattern, GivesStep, IsOfText, StopsBy};
 ghost use Rattle.rule_compile.specs.Flat.{unless_bad};
 ghost use Rattle.rule_compile.specs.Patterns.{AreTrue, Patterns};
-ghost use Rattle.rule_compile.specs.Tables.{ArePatterns, Tells};
+ghost use Rattle.rule_compile.specs.Sound.{IsRefexText};
+ghost use Rattle.rule_compile.specs.Tables.{AreNamed, Tells};
 
+use crate::known::{KnownPattern, KnownRefex};
 use crate::stop::Stop;
 use crate::{MAX_PATTERNS, RuleKind};
 use base_types::{NameMap, NoMemory, Text};
@@ -21,20 +23,19 @@ use std::marker::Model;
 pub(crate) struct PatternTable {
     texts: TextList,
     names: NameMap<bool>,
-    refexes: NameMap<Refex>,
-    repos: NameMap<Refex>,
+    refexes: NameMap<KnownRefex>,
+    repos: NameMap<KnownPattern>,
 }
 
 impl Model for PatternTable {
     ghost use Rattle.std.specs.Prelude.{List, ℕ};
-    ghost use Rattle.refex.specs.declared.faults.Hole.TheVariants.{User, Creator};
-    ghost use Rattle.rule_compile.specs.Tables.{ArePatterns, Tells};
+    ghost use Rattle.rule_compile.specs.Tables.{AreNamed, Tells};
 
     ghost Value = { List (List ℕ) };
 
     ghost view = { λ t. t.texts };
 
-    ghost invariant = { λ t. Tells t.names t.texts × ArePatterns User t.refexes × ArePatterns Creator t.repos };
+    ghost invariant = { λ t. Tells t.names t.texts × AreNamed t.refexes × AreNamed t.repos };
 }
 
 /// The pattern that a text is.
@@ -88,8 +89,8 @@ impl PatternTable {
         self.texts.len()
     }
 
-    #[tactic(auto, using(crate::proofs::PatternLemmas::tells_with))]
     /// With one text more, unless it is there.
+    #[tactic(auto, using(crate::proofs::PatternLemmas::tells_with))]
     fn with_text(self, text: &Text) -> Result<PatternTable, NoMemory>
         ensures { IfOk result (λ t. t ≡ with_item self text.now) }
     {
@@ -117,8 +118,8 @@ impl PatternTable {
         })
     }
 
-    fn keep_refex(self, text: &Text, refex: Refex) -> Result<PatternTable, NoMemory>
-        requires { IsRefex Hole.User text.now (pattern_of refex) }
+    fn keep_refex(self, text: &Text, refex: KnownRefex) -> Result<PatternTable, NoMemory>
+        requires { refex ≡ text.now }
         ensures { IfOk result (λ t. t ≡ self) }
     {
         let PatternTable {
@@ -136,8 +137,8 @@ impl PatternTable {
         })
     }
 
-    fn keep_repo(self, text: &Text, refex: Refex) -> Result<PatternTable, NoMemory>
-        requires { IsRefex Hole.Creator text.now (pattern_of refex) }
+    fn keep_repo(self, text: &Text, pattern: KnownPattern) -> Result<PatternTable, NoMemory>
+        requires { pattern ≡ text.now }
         ensures { IfOk result (λ t. t ≡ self) }
     {
         let PatternTable {
@@ -146,7 +147,7 @@ impl PatternTable {
             refexes,
             mut repos,
         } = self;
-        repos.insert(text.clone()?, refex)?;
+        repos.insert(text.clone()?, pattern)?;
         Ok(PatternTable {
             texts,
             names,
@@ -155,34 +156,61 @@ impl PatternTable {
         })
     }
 
-    /// Whether a refex of this text is kept.
-    fn has_refex(&self, text: &Text) -> bool
-        ensures { (ps : Patterns) → AreTrue ps → result ≡ true → ps.fault Hole.User text.now ≡ None }
+    /// The refex of a text. It is read where it isn't kept.
+    pub(crate) fn refex(&self, alloc: Global, text: &Text) -> Result<KnownRefex, Stop>
+        ensures fault { (ps : Patterns) → AreTrue ps → GivesPattern result (ps.fault Hole.User text.now) text.now }
+        ensures refex { IfOk result (λ r. r ≡ text.now) }
     {
-        match self.refexes.get(text) {
-            Some(_) => true,
-            None => false,
+        if let Some(refex) = self.refexes.get(text) {
+            // `text` is called for its clause that the text is a refex.
+            let _text = refex.text();
+            return Ok(refex.clone()?);
         }
+        read_refex(alloc, text)
     }
 
-    /// Whether a pattern of this text for repositories is kept.
-    fn has_repo(&self, text: &Text) -> bool
-        ensures { (ps : Patterns) → AreTrue ps → result ≡ true → ps.fault Hole.Creator text.now ≡ None }
+    /// The pattern of a text for repositories. It is read where it isn't kept.
+    pub(crate) fn pattern(&self, alloc: Global, text: &Text) -> Result<KnownPattern, Stop>
+        ensures fault { (ps : Patterns) → AreTrue ps → GivesPattern result (ps.fault Hole.Creator text.now) text.now }
+        ensures pattern { IfOk result (λ p. p ≡ text.now) }
     {
-        match self.repos.get(text) {
-            Some(_) => true,
-            None => false,
+        if let Some(pattern) = self.repos.get(text) {
+            // `text` is called for its clause that the text is a pattern.
+            let _text = pattern.text();
+            return Ok(pattern.clone()?);
         }
+        read_repo_pattern(alloc, text)
     }
 
-    /// With a refex. It is read where no refex of this text is kept, and kept where there are few enough.
+    /// The refex of a text that is one.
+    pub(crate) fn known_refex(&self, alloc: Global, text: &Text) -> Result<KnownRefex, NoMemory>
+        requires { IsRefexText Hole.User text.now }
+        ensures { IfOk result (λ r. r ≡ text.now) }
+    {
+        if let Some(refex) = self.refexes.get(text) {
+            return Ok(refex.clone()?);
+        }
+        let refex = read_sound(alloc, Hole::User, text)?;
+        KnownRefex::of(alloc, text.clone()?, refex)
+    }
+
+    /// The pattern of a text that is one for repositories.
+    pub(crate) fn known_pattern(&self, alloc: Global, text: &Text) -> Result<KnownPattern, NoMemory>
+        requires { IsRefexText Hole.Creator text.now }
+        ensures { IfOk result (λ p. p ≡ text.now) }
+    {
+        if let Some(pattern) = self.repos.get(text) {
+            return Ok(pattern.clone()?);
+        }
+        let pattern = read_sound(alloc, Hole::Creator, text)?;
+        KnownPattern::of(alloc, text.clone()?, pattern)
+    }
+
+    /// With a refex. It is kept where there are few enough.
     pub(crate) fn with_refex(self, alloc: Global, text: &Text) -> Result<PatternTable, Stop>
         ensures { (ps : Patterns) → AreTrue ps → GivesStep result (unless_bad text.now (ps.fault Hole.User text.now) (Ok (with_item self text.now))) }
     {
-        if self.has_refex(text) {
-            return Ok(self.with_text(text)?);
-        }
-        let refex = match read_pattern(alloc, Hole::User, text) {
+        let refex = match self.refex(alloc, text) {
             Ok(refex) => refex,
             Err(stop) => return Err(stop),
         };
@@ -197,24 +225,53 @@ impl PatternTable {
     pub(crate) fn with_repo(self, alloc: Global, text: &Text) -> Result<PatternTable, Stop>
         ensures { (ps : Patterns) → AreTrue ps → GivesStep result (unless_bad text.now (ps.fault Hole.Creator text.now) (Ok (with_item self text.now))) }
     {
-        if self.has_repo(text) {
-            return Ok(self.with_text(text)?);
-        }
-        let refex = match read_pattern(alloc, Hole::Creator, text) {
-            Ok(refex) => refex,
+        let pattern = match self.pattern(alloc, text) {
+            Ok(pattern) => pattern,
             Err(stop) => return Err(stop),
         };
         if self.texts.len() >= MAX_PATTERNS {
             return Ok(self.with_text(text)?);
         }
-        let kept = self.keep_repo(text, refex)?;
+        let kept = self.keep_repo(text, pattern)?;
         Ok(kept.with_text(text)?)
+    }
+}
+
+/// The pattern that a text is which is one.
+fn read_sound(alloc: Global, hole: Hole, text: &Text) -> Result<Refex, NoMemory>
+    requires { IsRefexText hole text.now }
+    ensures { IfOk result (λ r. IsRefex hole text.now (pattern_of r)) }
+{
+    match Refex::parse(alloc, text.bytes(), hole) {
+        Ok(refex) => Ok(refex),
+        Err(RefexFault::NoMemory) => Err(NoMemory),
+        Err(_) => unreachable!(),
+    }
+}
+
+fn read_refex(alloc: Global, text: &Text) -> Result<KnownRefex, Stop>
+    ensures fault { (ps : Patterns) → AreTrue ps → GivesPattern result (ps.fault Hole.User text.now) text.now }
+    ensures refex { IfOk result (λ r. r ≡ text.now) }
+{
+    match read_pattern(alloc, Hole::User, text) {
+        Ok(refex) => Ok(KnownRefex::of(alloc, text.clone()?, refex)?),
+        Err(stop) => Err(stop),
+    }
+}
+
+fn read_repo_pattern(alloc: Global, text: &Text) -> Result<KnownPattern, Stop>
+    ensures fault { (ps : Patterns) → AreTrue ps → GivesPattern result (ps.fault Hole.Creator text.now) text.now }
+    ensures pattern { IfOk result (λ p. p ≡ text.now) }
+{
+    match read_pattern(alloc, Hole::Creator, text) {
+        Ok(refex) => Ok(KnownPattern::of(alloc, text.clone()?, refex)?),
+        Err(stop) => Err(stop),
     }
 }
 
 /// Whether the text is a pattern that, without a creator, matches the whole of the name.
 pub(crate) fn takes_name(alloc: Global, text: &[u8], name: &[u8]) -> Result<bool, NoMemory>
-    ensures { (ps : Patterns) → AreTrue ps → IfOk result (λ takes. takes ≡ ps.takes text.now name.now) }
+    ensures { (ps : Patterns) → AreTrue ps → IfOk result (λ takes. takes ≡ ps.takes text.now [] name.now) }
 {
     match Refex::parse(alloc, text, Hole::Creator) {
         Ok(refex) => Ok(refex.whole(name, b"")),

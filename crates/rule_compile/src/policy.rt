@@ -1,45 +1,66 @@
 // The rules in force.
-ghost use Rattle.std.specs.Prelude.{◌≡◌, [], IfOk, Option};
-ghost use Rattle.conf_groups.specs.Tables.{groups_of};
+ghost use Rattle.std.specs.Prelude.{◌≡◌, ◌≤◌, ◌<◌, [], length, IfOk, Option, Some};
+ghost use Rattle.std.specs.List.{AllByRecursion};
 ghost use Rattle.std.specs.Option.{option_copied};
+ghost use Rattle.conf_groups.specs.Tables.{groups_of};
+ghost use Rattle.refex.specs.declared.limits.TheConstants.{MAX_NAME};
 ghost use Rattle.rule_compile.specs.Answers.{Gives, GivesDraft, IsNoMemory, PlacedSteps, StopsAt, flat_of, state_of};
-ghost use Rattle.rule_compile.specs.Flat.{compiled_all, flat, numbered, placed_step};
+ghost use Rattle.rule_compile.specs.Covering.{covers_repo, deny_rules, is_all_word, is_pattern_word, is_plain_word, numbers_of, rules_for};
+ghost use Rattle.rule_compile.specs.Deny.{IsDeny};
+ghost use Rattle.rule_compile.specs.Flat.{IsNumber, compiled_all, flat, numbered, placed_step};
+ghost use Rattle.rule_compile.specs.Index.{AreNumbered, deny_words, refexes_of_rules, words_of_rules};
 ghost use Rattle.rule_compile.specs.Patterns.{AreTrue, Patterns};
+ghost use Rattle.rule_compile.specs.Sound.{IsSound, IsSoundOption, IsSoundRule};
+ghost use Rattle.rule_compile.specs.WordIndex.{Indexes};
+ghost use Rattle.rule_compile.specs.declared.rule.Rule as flat_rule;
 
+use crate::deny::DenyRules;
 use crate::draft::Draft;
 use crate::groups::Conf;
+use crate::known::KnownRefex;
+use crate::laws::some_patterns_are_true;
 use crate::name_list::NameList;
 use crate::patterns::PatternTable;
+use crate::rules_for::RulesFor;
 use crate::stop::Stop;
+use crate::word_index::WordIndex;
 use crate::{OptionLine, PolicyFault, Rule, RuleFault, WarningList};
-use base_types::{ItemList, Text};
+use base_types::{ItemList, NoMemory, Text};
 use conf_groups::{
     ConfFault, ConfKind, FileList, Placed, PlacedLine, PlacedList, expand, read_groups,
 };
-use conf_lex::RepoName;
+use conf_lex::{RepoName, UserName};
 use std::alloc::Global;
 use std::marker::Model;
 
-/// The rules that a conf comes to, with its warnings and options. It never changes.
+/// The rules that a conf comes to, with its warnings and options. It never changes, and threads may share it.
 #[derive(Drop)]
 pub struct Policy {
     rules: ItemList<Rule>,
     warnings: WarningList,
     options: ItemList<OptionLine>,
     plain: NameList,
-    patterns: PatternTable,
+    refexes: ItemList<KnownRefex>,
+    index: WordIndex,
+    deny: DenyRules,
 }
 
 impl Model for Policy {
+    ghost use Rattle.std.specs.Prelude.{◌≡◌, map};
+    ghost use Rattle.rule_compile.specs.Deny.{IsDeny};
     ghost use Rattle.rule_compile.specs.Flat.{Flat};
+    ghost use Rattle.rule_compile.specs.Index.{AreNumbered, deny_words, refexes_of_rules, words_of_rules};
+    ghost use Rattle.rule_compile.specs.WordIndex.{Indexes};
 
     ghost Value = { Flat };
 
     ghost view = { λ p. record { rules = p.rules; warnings = p.warnings; options = p.options; plain = p.plain } };
+
+    ghost invariant = { λ p. AreNumbered p.rules × (p.refexes ≡ refexes_of_rules p.rules) × Indexes p.index (words_of_rules p.rules) × IsDeny p.deny (deny_words p.options) };
 }
 
 impl Policy {
-    /// The rules of a conf, or its first fault.
+    /// The rules of a conf, or its first fault. Each distinct text of a pattern is read once. It costs the lines and the rules, each of which owns copies of its texts.
     pub fn compile(alloc: Global, files: &FileList) -> Result<Policy, PolicyFault>
         ensures { (ps : Patterns) → AreTrue ps → Gives result (flat ps files.now) }
     {
@@ -47,14 +68,20 @@ impl Policy {
             Ok(placed) => placed,
             Err(fault) => return Err(PolicyFault::Splicing(fault)),
         };
-        match compile_placed(alloc, &placed) {
-            Ok(draft) => Ok(Policy::of(draft)),
-            Err(fault) => Err(fault),
+        let draft = match compile_placed(alloc, &placed) {
+            Ok(draft) => draft,
+            Err(fault) => return Err(fault),
+        };
+        match Policy::of(alloc, draft) {
+            Ok(policy) => Ok(policy),
+            Err(_) => Err(no_memory(alloc)),
         }
     }
 
-    fn of(draft: Draft) -> Policy
-        ensures { result ≡ flat_of draft }
+    // A policy of what the lines come to.
+    fn of(alloc: Global, draft: Draft) -> Result<Policy, NoMemory>
+        requires { IsSound (flat_of draft) }
+        ensures { IfOk result (λ policy. policy ≡ flat_of draft) }
     {
         let Draft {
             rules,
@@ -64,18 +91,24 @@ impl Policy {
             patterns,
             ..
         } = draft;
-        Policy {
+        let refexes = refexes_of(alloc, &patterns, rules.as_slice())?;
+        let index = index_of(alloc, &patterns, rules.as_slice())?;
+        let deny = deny_of(alloc, &patterns, options.as_slice())?;
+        Ok(Policy {
             rules,
             warnings,
             options,
             plain,
-            patterns,
-        }
+            refexes,
+            index,
+            deny,
+        })
     }
 
     /// All rules, in the order of their numbers, which count from 1.
     pub fn rules(&self) -> &[Rule]
-        ensures { result.now ≡ self.now.rules }
+        ensures rules { result.now ≡ self.now.rules }
+        ensures numbered { AreNumbered self.now.rules }
     {
         self.rules.as_slice()
     }
@@ -103,12 +136,121 @@ impl Policy {
     {
         &self.warnings
     }
+
+    /// The rules whose word is the name of a repository, `@all` or a pattern, in the order of their numbers. No other rules
+    /// cost anything.
+    pub fn rules_for<'a>(&'a self, repo: &'a RepoName) -> RulesFor<'a>
+        ensures { result ≡ rules_for self.now.rules repo.now }
+    {
+        RulesFor::new(&self.rules, &self.index, repo)
+    }
+
+    /// The numbers of the rules whose word is the name of a repository. A look-up costs the logarithm of the names.
+    pub fn plain_numbers(&self, repo: &RepoName) -> &[u32]
+        ensures { result.now ≡ numbers_of (is_plain_word repo.now) self.now.rules }
+    {
+        self.index.numbers_of_name(repo)
+    }
+
+    /// The numbers of the rules whose word is `@all`.
+    pub fn all_numbers(&self) -> &[u32]
+        ensures { result.now ≡ numbers_of is_all_word self.now.rules }
+    {
+        self.index.all.as_slice()
+    }
+
+    /// The numbers of the rules whose word is a pattern.
+    pub fn pattern_numbers(&self) -> &[u32]
+        ensures { result.now ≡ numbers_of is_pattern_word self.now.rules }
+    {
+        self.index.pattern_numbers.as_slice()
+    }
+
+    /// Whether a rule's refex matches the name of a ref from its start, with the user's name in its hole.
+    pub fn matches(&self, seq: u32, name: &[u8], user: &[u8]) -> bool
+        requires number { IsNumber self.now.rules seq }
+        requires user { length user.now ≤ MAX_NAME }
+        ensures { (ps : Patterns) → AreTrue ps → (rule : flat_rule.Rule) → numbered self.now.rules seq ≡ Some rule → result ≡ ps.starts rule.refex user.now name.now }
+    {
+        match self.refexes.get(seq as usize - 1) {
+            Some(refex) => refex.starts(name, user),
+            None => unreachable!(),
+        }
+    }
+
+    /// Whether a rule is for a repository that this user created, or nobody. Before it is there, whoever asks counts as the
+    /// creator.
+    pub fn covers_repo(&self, seq: u32, repo: &RepoName, creator: Option<&UserName>) -> bool
+        requires { IsNumber self.now.rules seq }
+        ensures { (ps : Patterns) → AreTrue ps → (rule : flat_rule.Rule) → numbered self.now.rules seq ≡ Some rule → result ≡ covers_repo ps rule.repo repo.now (option_copied creator.entry) }
+    {
+        let place = seq as usize - 1;
+        match self.rules.get(place) {
+            Some(rule) => self.index.covers_by(place, &rule.repo, repo, creator),
+            None => unreachable!(),
+        }
+    }
+
+    /// Whether the option `deny-rules` is in force for a repository. It looks at the lines that set it for the repository's
+    /// name, for `@all` and for patterns.
+    pub fn deny_rules(&self, repo: &RepoName, creator: Option<&UserName>) -> bool
+        ensures { (ps : Patterns) → AreTrue ps → result ≡ deny_rules ps self.now.options repo.now (option_copied creator.entry) }
+    {
+        self.deny.is_in_force(repo, creator)
+    }
+}
+
+// The refexes of the rules, in order.
+fn refexes_of(
+    alloc: Global,
+    patterns: &PatternTable,
+    rules: &[Rule],
+) -> Result<ItemList<KnownRefex>, NoMemory>
+    requires { AllByRecursion IsSoundRule rules.now }
+    ensures { IfOk result (λ refexes. refexes ≡ refexes_of_rules rules.now) }
+{
+    let mut refexes = ItemList::new(alloc);
+    for rule in rules {
+        refexes.push(patterns.known_refex(alloc, &rule.refex)?)?;
+    }
+    Ok(refexes)
+}
+
+// The index of the words of the rules.
+fn index_of(alloc: Global, patterns: &PatternTable, rules: &[Rule]) -> Result<WordIndex, NoMemory>
+    requires { AllByRecursion IsSoundRule rules.now }
+    ensures { IfOk result (λ index. Indexes index (words_of_rules rules.now)) }
+{
+    let mut index = WordIndex::new(alloc);
+    for rule in rules {
+        index = index.with_next(alloc, patterns, &rule.repo)?;
+    }
+    Ok(index)
+}
+
+// What the option lines say of `deny-rules`.
+fn deny_of(
+    alloc: Global,
+    patterns: &PatternTable,
+    options: &[OptionLine],
+) -> Result<DenyRules, NoMemory>
+    requires { AllByRecursion IsSoundOption options.now }
+    ensures { IfOk result (λ deny. IsDeny deny (deny_words options.now)) }
+{
+    let mut deny = DenyRules::new(alloc);
+    for line in options {
+        deny = deny.with_line(alloc, patterns, line)?;
+    }
+    Ok(deny)
 }
 
 /// The rules of a conf that was spliced.
 fn compile_placed(alloc: Global, placed: &PlacedList) -> Result<Draft, PolicyFault>
-    ensures { (ps : Patterns) → AreTrue ps → GivesDraft result (compiled_all ps placed.now) }
+    ensures gives { (ps : Patterns) → AreTrue ps → GivesDraft result (compiled_all ps placed.now) }
+    ensures sound { IfOk result (λ draft. IsSound (flat_of draft)) }
 {
+    // This law is called for its clause that some patterns are true, so that `read_lines` says something.
+    some_patterns_are_true();
     let Ok(groups) = read_groups(alloc, placed) else {
         return Err(no_memory(alloc));
     };

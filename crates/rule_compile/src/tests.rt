@@ -206,7 +206,7 @@ fn spelled(alloc: Global, text: &str) -> Result<Text, NoMemory> {
     Ok(Text::from(out))
 }
 
-fn files(alloc: Global, row: &str) -> Result<FileList, Fail> {
+pub(crate) fn files(alloc: Global, row: &str) -> Result<FileList, Fail> {
     let mut list = FileList::new(alloc);
     for part in row.split("%") {
         let Some((name, text)) = part.split_once(":") else {
@@ -323,7 +323,7 @@ static NUMBERS: [(u32, u32, u32); 13] = [
     (27, 37, 36),
 ];
 
-fn realistic(alloc: Global) -> Result<Policy, Fail> {
+pub(crate) fn realistic(alloc: Global) -> Result<Policy, Fail> {
     let mut list = FileList::new(alloc);
     list.push(ConfFile {
         name: Text::of(alloc, b"gitolite.conf")?,

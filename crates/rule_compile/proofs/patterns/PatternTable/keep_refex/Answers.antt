@@ -1,9 +1,8 @@
-use Rattle.refex.specs.declared.faults.Hole.TheVariants.{User}
-use Rattle.rule_compile.specs.Tables.{ArePatterns}
-use Rattle.rule_compile.proofs.PatternLemmas.{kept_copy}
+use Rattle.rule_compile.specs.Tables.{AreNamed}
+use Rattle.rule_compile.proofs.PatternLemmas.{named_copy}
 use Rattle.rule_compile.proofs.patterns.PatternTable.keep_refex.Goals as goal
 
 pub invariant_of-result : goal.invariant_of-result
 invariant_of-result c =
-    let new : ArePatterns User c.insert.new.self = kept_copy User _ _ _ _ _ c.self.invariant.1 c.requires c.in_ok-clone.ensures.cases c.in_ok-insert.ensures.ok in
+    let new : AreNamed c.insert.new.self = named_copy _ _ _ _ _ c.self.invariant.1 c.requires c.in_ok-clone.ensures.cases c.in_ok-insert.ensures.ok in
     (c.self.invariant.0, new, c.self.invariant.2)

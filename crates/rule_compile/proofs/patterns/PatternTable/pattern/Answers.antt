@@ -1,0 +1,10 @@
+use Rattle.std.proofs.Common.{sym}
+use Rattle.refex.specs.declared.faults.Hole.TheVariants.{Creator}
+use Rattle.rule_compile.proofs.PatternLemmas.{no_fault}
+use Rattle.rule_compile.proofs.patterns.PatternTable.pattern.Goals as goal
+
+pub returns-in-Some-clause-fault : goal.returns-in-Some-clause-fault
+returns-in-Some-clause-fault c = λ ps ok.
+    let same = c.self.invariant.2 c.args.text.now c.in-Some.pattern.now (sym c.in-Some.ensures) in
+    let is = c.text-text.ensures.pattern in
+    rw same at (no_fault ps ok Creator c.in-Some.pattern.now is.0 is.1)
