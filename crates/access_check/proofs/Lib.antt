@@ -1,0 +1,3 @@
+pub mod UserLemmas
+pub mod RuleLemmas
+pub mod LawLemmas
