@@ -6,6 +6,7 @@ mod ScriptRows
 mod StepLemmas
 mod OpeningLemmas
 mod OrderLemmas
+mod CheckLemmas
 mod CommandLemmas
 mod ReportLemmas
 mod PackLemmas

@@ -1,49 +1,84 @@
--- How a script that was run ends the program.
-use Rattle.std.proofs.Common.{◌≡◌, List, ℕ, [], refl, subst, false, inl, inr, arith}
-use Rattle.std.specs.Prelude.{Result, Ok, Err, Some, OnOk, IfErr}
+-- How a command that was run ends the program.
+use Rattle.std.proofs.Common.{◌≡◌, List, ℕ, Option, Bool, [], refl, sym, subst, true, false, inl, inr, arith}
+use Rattle.std.specs.Prelude.{Result, Ok, Err, Some, None, OnOk, IfErr}
 use Rattle.std.proofs.KnownBytes.{Appends-nil, Consumes-nil}
+use Rattle.base_types.specs.Counts.{HasRisen}
 use Rattle.pktline_core.specs.LinkState.{LinkState}
 use Rattle.hub_core.specs.declared.entry.Entry.{Entry}
 use Rattle.hub_core.specs.Desk.{DeskView}
 use Rattle.hub_core.specs.Name.{Name}
-use Rattle.gitolite_shell.specs.Words.{script_admin}
+use Rattle.gitolite_shell.specs.Words.{is_check, script_admin}
 use Rattle.gitolite_shell.specs.Script.{sessions}
 use Rattle.gitolite_shell.specs.RunningScripts.{RunsScript, StopsScript}
-use Rattle.gitolite_shell.specs.Lone.{EndsWith, new_desk, status_of}
+use Rattle.gitolite_shell.specs.Lone.{EndsBy, EndsRun, EndsScript, EndsSurely, IsDue, new_desk}
+use Rattle.gitolite_shell.specs.Status.{status_number, status_of}
 use Rattle.gitolite_shell.specs.declared.script.ScriptFault.{ScriptFault}
 use Rattle.gitolite_shell.specs.declared.script.ScriptFault.TheVariants as fault
-use Rattle.gitolite_shell.specs.declared.lone.Status.TheVariants.{NoMemory}
+use Rattle.gitolite_shell.specs.declared.status.Status.{Status}
+use Rattle.gitolite_shell.specs.declared.status.Status.TheVariants.{Done, Usage, InputFault, OutputFault, NoMemory, ConfRefused, BadScript}
 use Rattle.gitolite_shell.proofs.FrameLemmas.{begins_none}
 
-module _ (words : List (List ℕ)) (source source' sink sink' : LinkState) (admin : Name) (asked : script_admin words ≡ Some admin) (log : List Entry) where
+module _ (source source' sink sink' : LinkState) (admin : Name) (log : List Entry) where
   ended : (result : Result (Unit {0}) ScriptFault)
-      → OnOk result (RunsScript source source' sink sink' admin [] log false) → IfErr result (StopsScript source source' sink sink' admin [] log) → EndsWith words source source' sink sink' log (status_of result)
-  ended (Ok unit) ok err = record { admin = admin; asked = asked; runs = ok }
-  ended (Err fault.BadScript) ok err = record { admin = admin; asked = asked; runs = err }
-  ended (Err fault.InputFault) ok err = record { admin = admin; asked = asked; stops = err }
-  ended (Err fault.OutputFault) ok err = inr (record { admin = admin; asked = asked; stops = err })
-  ended (Err fault.NoMemory) ok err = inr (record { admin = admin; asked = asked; stops = err })
+      → OnOk result (RunsScript source source' sink sink' admin [] log false) → IfErr result (StopsScript source source' sink sink' admin [] log) → EndsScript admin source source' sink sink' log (status_of result)
+  ended (Ok unit) ok err = ok
+  ended (Err fault.BadScript) ok err = err
+  ended (Err fault.InputFault) ok err = err
+  ended (Err fault.OutputFault) ok err = err
+  ended (Err fault.NoMemory) ok err = err
 
   -- a script at the desk of a new hub
   pub ended_new : (desk : DeskView) → desk ≡ new_desk admin → (result : Result (Unit {0}) ScriptFault)
       → OnOk result (RunsScript source source' sink sink' desk.admin desk.seen log false) → IfErr result (StopsScript source source' sink sink' desk.admin desk.seen log)
-      → EndsWith words source source' sink sink' log (status_of result)
+      → EndsScript admin source source' sink sink' log (status_of result)
   ended_new desk new result ok err = ended result
       (subst (λ (d : DeskView). OnOk result (RunsScript source source' sink sink' d.admin d.seen log false)) new ok)
       (subst (λ (d : DeskView). IfErr result (StopsScript source source' sink sink' d.admin d.seen log)) new err)
 
--- memory lacked before anything was done
-pub undone : (words : List (List ℕ)) (source sink : LinkState) (admin : Name) → script_admin words ≡ Some admin → EndsWith words source source sink sink [] NoMemory
+-- memory ran out before anything was done
+pub undone : (source sink : LinkState) (admin : Name) → EndsScript admin source source sink sink [] NoMemory
 unfolding sessions
-undone words source sink admin asked =
-    inr (record {
-      admin = admin;
-      asked = asked;
-      stops = record {
-        done = [];
-        more = [];
-        written = Appends-nil sink.written;
-        may_lack = inl refl;
-        stops = inl (record { part = []; small = tt; none = begins_none; inside = inl (tt, omega arith); takes = record { consumed = Consumes-nil source.left; counted = omega arith }; nothing = refl; log_is = refl });
-      };
-    })
+undone source sink admin = record {
+  done = [];
+  more = [];
+  written = Appends-nil sink.written;
+  may_lack = inl refl;
+  stops = inl (record { part = []; small = tt; none = begins_none; inside = inl (tt, omega arith); takes = record { consumed = Consumes-nil source.left; counted = omega arith }; nothing = refl; log_is = refl });
+}
+
+module _ (words : List (List ℕ)) (source source' sink sink' : LinkState) (log : List Entry) where
+  -- what the words ask for
+  pub by_words : (check : Bool) (admin : Option Name) (status : Status) → is_check words ≡ check → script_admin words ≡ admin
+      → EndsBy check admin source source' sink sink' log status → EndsBy (is_check words) (script_admin words) source source' sink sink' log status
+  by_words check admin status e f ends =
+      subst (λ (b : Bool). EndsBy b (script_admin words) source source' sink sink' log status) (sym e)
+      (subst (λ (o : Option Name). EndsBy check o source source' sink sink' log status) (sym f) ends)
+
+  -- where no fault is counted
+  due_by : (check : Bool) (admin : Option Name) (status : Status) → EndsBy check admin source source' sink sink' log status
+      → (HasRisen source.read_faults source'.read_faults → ⊥) → (HasRisen sink.write_faults sink'.write_faults → ⊥) → IsDue check admin (status_number status)
+  due_by true admin Done ends reads writes = inl refl
+  due_by true admin ConfRefused ends reads writes = inr (inl refl)
+  due_by true admin NoMemory ends reads writes = inr (inr refl)
+  due_by true admin InputFault ends reads writes = absurd (reads ends.0.0.fails.risen)
+  due_by true admin OutputFault ends reads writes = absurd (writes ends.0.1)
+  due_by true admin Usage ends reads writes = absurd ends.0
+  due_by true admin BadScript ends reads writes = absurd ends.0
+  due_by false (Some admin) Done ends reads writes = inl refl
+  due_by false (Some admin) BadScript ends reads writes = inr (inl refl)
+  due_by false (Some admin) NoMemory ends reads writes = inr (inr refl)
+  due_by false (Some admin) InputFault ends reads writes = absurd (reads ends.risen)
+  due_by false (Some admin) OutputFault ends reads writes = absurd (writes ends.risen)
+  due_by false (Some admin) Usage ends reads writes = absurd ends
+  due_by false (Some admin) ConfRefused ends reads writes = absurd ends
+  due_by false None Usage ends reads writes = inl refl
+  due_by false None NoMemory ends reads writes = inr refl
+  due_by false None OutputFault ends reads writes = absurd (writes ends.0.1)
+  due_by false None Done ends reads writes = absurd ends.0
+  due_by false None InputFault ends reads writes = absurd ends.0
+  due_by false None ConfRefused ends reads writes = absurd ends.0
+  due_by false None BadScript ends reads writes = absurd ends.0
+
+  pub surely : (number : ℕ) → EndsRun words source source' sink sink' number log → EndsSurely words source source' sink sink' number
+  surely number run = λ reads writes. subst (λ (n : ℕ). IsDue (is_check words) (script_admin words) n) (sym run.number_is)
+      (due_by (is_check words) (script_admin words) run.status run.ends reads writes)

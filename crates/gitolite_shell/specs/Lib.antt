@@ -8,6 +8,8 @@ pub mod Frames
 pub mod ReadingFrames
 pub mod Script
 pub mod RunningScripts
+pub mod Status
+pub mod Check
 pub mod Words
 pub mod Lone
 pub mod Door

@@ -1,5 +1,5 @@
 -- The words by which the program is called.
-use Rattle.std.specs.Prelude.{ℕ, Bool, ◌&&◌, nat_le, List, [], ◌∷◌, length, Option, Some, None, codes, if◌then◌else◌}
+use Rattle.std.specs.Prelude.{ℕ, Bool, false, ◌&&◌, nat_le, List, [], ◌∷◌, length, Option, Some, None, codes, if◌then◌else◌}
 use Rattle.std.specs.List.{list_all}
 use Rattle.std.specs.Str.{bytes_eq}
 use Rattle.hub_core.specs.Name.{Name}
@@ -9,7 +9,13 @@ use Rattle.gitolite_shell.specs.FirstPacket.{is_letter}
 abbrev pub is_user_name : List ℕ → Bool
 is_user_name name = nat_le 1 (length name) && (nat_le (length name) 64 && list_all is_letter name)
 
--- `script`, `--admin` and a user's name: the admin of a script; all else is refused
+-- `check` alone: a conf is checked
+abbrev pub is_check : List (List ℕ) → Bool
+is_check [] = false
+is_check (verb ∷ []) = bytes_eq verb (codes "check")
+is_check (verb ∷ flag ∷ words) = false
+
+-- `script`, `--admin` and a user's name: the admin of a script
 abbrev pub script_admin : List (List ℕ) → Option Name
 script_admin [] = None
 script_admin (verb ∷ []) = None
@@ -17,6 +23,6 @@ script_admin (verb ∷ flag ∷ []) = None
 script_admin (verb ∷ flag ∷ name ∷ []) = if bytes_eq verb (codes "script") && (bytes_eq flag (codes "--admin") && is_user_name name) then Some name else None
 script_admin (verb ∷ flag ∷ name ∷ more ∷ words) = None
 
--- what is printed where the words are refused
+-- what is printed where the words are refused: all others
 abbrev pub usage_line : List ℕ
 usage_line = codes "usage: gitolite_shell script --admin NAME | serve --admin NAME --workers K --sessions N | check | load N START\n"

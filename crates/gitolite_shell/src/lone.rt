@@ -1,57 +1,23 @@
 // The program, run by one caller.
-ghost use Rattle.std.specs.Prelude.{◌≡◌, IfOk, map, string_bytes};
+ghost use Rattle.std.specs.Prelude.{◌≡◌, ◌⊎◌, IfOk, map, string_bytes};
 ghost use Rattle.hub_core.specs.LoneDesk.{desk_of};
-ghost use Rattle.gitolite_shell.specs.Lone.{EndsRun, EndsSurely, TellsStatus, new_desk, status_number, status_of};
+ghost use Rattle.gitolite_shell.specs.Lone.{EndsRun, EndsSurely, EndsUsage, TellsStatus, new_desk};
+ghost use Rattle.gitolite_shell.specs.Status.{status_number};
 
-use crate::script::{ScriptFault, run_script, write_text};
-use crate::words::{USAGE, script_admin};
+use crate::check::run_check;
+use crate::script::{run_script, write_text};
+use crate::status::{Status, status_of};
+use crate::words::{USAGE, is_check, script_admin};
 use base_types::{NoMemory, Text};
 use hub_core::{EntryList, Hub, LoneDesk};
 use pktline_core::{Sink, Source};
 use std::alloc::Global;
-
-/// How a run of the program ends.
-#[derive(Clone, Copy, Debug, PartialEq, Eq)]
-pub enum Status {
-    Done = 0,
-    /// The words are refused.
-    Usage = 1,
-    /// A read of the input failed.
-    InputFault = 2,
-    /// A write of the output failed.
-    OutputFault = 3,
-    NoMemory = 4,
-    /// A frame of the script leaves its form, or the input ends inside it.
-    BadScript = 7,
-}
-
-impl Status {
-    /// The number with which the program ends.
-    pub fn number(self) -> u8
-        ensures { result ≡ status_number self }
-    {
-        self as u8
-    }
-}
 
 /// The status of a run, and the log that it led to.
 #[derive(Drop)]
 pub struct Ended {
     pub status: u8,
     pub log: EntryList,
-}
-
-// How a script's end is told.
-fn status_of(end: Result<(), ScriptFault>) -> Status
-    ensures { result ≡ status_of end }
-{
-    match end {
-        Ok(()) => Status::Done,
-        Err(ScriptFault::BadScript) => Status::BadScript,
-        Err(ScriptFault::InputFault) => Status::InputFault,
-        Err(ScriptFault::OutputFault) => Status::OutputFault,
-        Err(ScriptFault::NoMemory) => Status::NoMemory,
-    }
 }
 
 // The only desk of a new hub.
@@ -62,7 +28,18 @@ fn new_desk(alloc: Global, admin: &str) -> Result<LoneDesk, NoMemory>
     Ok(LoneDesk::new(Hub::start(alloc, &admin)?))
 }
 
-/// Runs the program as the words ask, with one caller: prints the usage, or runs a script at a new hub.
+// Prints the usage, since the words are refused.
+fn print_usage<O: Sink>(output: &mut O) -> Status
+    ensures ends { EndsUsage (O.state output.old) (O.state output.new) result }
+    ensures tells { (status_number result ≡ 3) ⊎ ((O.state output.new).write_faults ≡ (O.state output.old).write_faults) }
+{
+    match write_text(output, USAGE.as_bytes()) {
+        Ok(()) => Status::Usage,
+        Err(fault) => status_of(Err(fault)),
+    }
+}
+
+/// Runs the program as the words ask, with one caller: prints the usage, checks a conf, or runs a script at a new hub.
 pub fn lone_main<I: Source, O: Sink>(
     alloc: Global,
     words: &[String],
@@ -73,13 +50,15 @@ pub fn lone_main<I: Source, O: Sink>(
     ensures tells { TellsStatus (I.state input.old) (I.state input.new) (O.state output.old) (O.state output.new) result.status }
     ensures sure { EndsSurely (map string_bytes words.now) (I.state input.old) (I.state input.new) (O.state output.old) (O.state output.new) result.status }
 {
-    let Some(admin) = script_admin(words) else {
-        let status = match write_text(output, USAGE.as_bytes()) {
-            Ok(()) => Status::Usage,
-            Err(fault) => status_of(Err(fault)),
-        };
+    if is_check(words) {
         return Ended {
-            status: status.number(),
+            status: run_check(alloc, input, output).number(),
+            log: EntryList::new(alloc),
+        };
+    }
+    let Some(admin) = script_admin(words) else {
+        return Ended {
+            status: print_usage(output).number(),
             log: EntryList::new(alloc),
         };
     };

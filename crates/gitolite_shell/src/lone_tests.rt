@@ -49,6 +49,8 @@ fn words_that_ask_for_nothing_are_answered_by_the_usage(rt: HostRuntime) -> Resu
     assert!(rt; ends(alloc, &["script", "--admin", "Alice"], b"", 1, USAGE)?);
     assert!(rt; ends(alloc, &["script", "--admin", "alice", "bob"], b"", 1, USAGE)?);
     assert!(rt; ends(alloc, &["serve", "--admin", "alice"], b"", 1, USAGE)?);
+    assert!(rt; ends(alloc, &["check", "--admin"], b"", 1, USAGE)?);
+    assert!(rt; ends(alloc, &["Check"], b"", 1, USAGE)?);
     Ok(())
 }
 

@@ -10,12 +10,17 @@
 //! - `session`: a session;
 //! - `frames`: the frames of a script;
 //! - `script`: sessions one after the other, and what is printed of them;
+//! - `status`: how a run of the program ends;
+//! - `check`: a conf, and what is printed of it;
 //! - `words`: the words by which the program is called;
 //! - `lone`, `program`: the program run by one caller, and the program;
 //! - `door`, `memory_door`, `post`: where a worker's links come from, and where it stands;
 //! - `standard`: the standard input and output.
 #![tactic(auto)]
 
+mod check;
+#[cfg(test)]
+mod check_tests;
 mod commands;
 mod create;
 mod door;
@@ -41,6 +46,7 @@ mod session;
 #[cfg(test)]
 mod session_tests;
 mod standard;
+mod status;
 mod text;
 mod words;
 

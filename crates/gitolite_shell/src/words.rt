@@ -3,7 +3,7 @@ ghost use Rattle.std.specs.Prelude.{◌≡◌, map, string_bytes};
 ghost use Rattle.std.specs.Option.{option_copied};
 ghost use Rattle.std.specs.List.{list_all};
 ghost use Rattle.gitolite_shell.specs.FirstPacket.{is_letter};
-ghost use Rattle.gitolite_shell.specs.Words.{is_user_name, script_admin};
+ghost use Rattle.gitolite_shell.specs.Words.{is_check, is_user_name, script_admin};
 
 use crate::first_packet::is_letter;
 
@@ -28,6 +28,16 @@ fn is_user_name(name: &[u8]) -> bool
         return false;
     }
     all_letters(name)
+}
+
+/// Whether the words ask for a check.
+pub fn is_check(words: &[String]) -> bool
+    ensures { result ≡ is_check (map string_bytes words.now) }
+{
+    let [verb] = words else {
+        return false;
+    };
+    verb.as_str() == "check"
 }
 
 /// The admin of a script, where the words ask for one.

@@ -1,0 +1,24 @@
+-- The numbers with which the program ends.
+use Rattle.std.specs.Prelude.{ℕ, Result, Ok, Err}
+use Rattle.gitolite_shell.specs.declared.script.ScriptFault.{ScriptFault}
+use Rattle.gitolite_shell.specs.declared.script.ScriptFault.TheVariants as fault
+use Rattle.gitolite_shell.specs.declared.status.Status.{Status}
+use Rattle.gitolite_shell.specs.declared.status.Status.TheVariants.{Done, Usage, InputFault, OutputFault, NoMemory, ConfRefused, BadScript}
+
+-- the number with which the program ends
+abbrev pub status_number : Status → ℕ
+status_number Done = 0
+status_number Usage = 1
+status_number InputFault = 2
+status_number OutputFault = 3
+status_number NoMemory = 4
+status_number ConfRefused = 6
+status_number BadScript = 7
+
+-- how a script's end is told
+abbrev pub status_of : Result (Unit {0}) ScriptFault → Status
+status_of (Ok unit) = Done
+status_of (Err fault.BadScript) = BadScript
+status_of (Err fault.InputFault) = InputFault
+status_of (Err fault.OutputFault) = OutputFault
+status_of (Err fault.NoMemory) = NoMemory
