@@ -1,6 +1,6 @@
 -- The index, and what it is asked for.
 use Rattle.std.proofs.Common.{◌≡◌, ◌++◌, ◌+◌, ◌-◌, ◌<◌, ◌≤◌, ◌&&◌, ◌||◌, ℕ, zero, suc, inl, inr, List, [], ◌∷◌, Bool, true, false, cond, Option, Some, None, refl, sym, ap, ◌∙◌, subst, length, drop, take, get_or, append_assoc, map, arith}
-use Rattle.std.specs.Prelude.{codes, slice_get}
+use Rattle.std.specs.Prelude.{codes, filter, slice_get}
 use Rattle.std.specs.Option.{option_map, unwrap_or}
 use Rattle.std.specs.Str.{bytes_eq}
 use Rattle.std.specs.BTreeMap as tree
@@ -11,10 +11,10 @@ use Rattle.std.proofs.lemmas.List.{map-append}
 use Rattle.std.proofs.lemmas.Grind.{flat_map-append}
 use Rattle.std.proofs.lemmas.List.{append-nil, drop-drop, get_or-drop, length-drop, take_more}
 use Rattle.std.proofs.lemmas.Option.{get_or_from_slice_get, slice_get-map, slice_get_cases, slice_get_read, slice_get_within}
-use Rattle.std.specs.List.{AllByRecursion, drop-map}
+use Rattle.std.specs.List.{AllByRecursion, drop-map, last_or}
 use Rattle.rule_compile.specs.Flat.{numbered}
 use Rattle.rule_compile.specs.Patterns.{Patterns}
-use Rattle.rule_compile.specs.Covering.{covers_repo, pattern_covers, deny_rules, is_all_word, is_on_after, is_pattern_word, is_plain_word, may_cover, numbers_of, rules_for, sets, some_covers}
+use Rattle.rule_compile.specs.Covering.{covers_repo, pattern_covers, deny_rules, is_all_word, is_on, is_pattern_word, is_plain_word, may_cover, numbers_of, rules_for, sets, some_covers}
 use Rattle.rule_compile.specs.Index.{AreNumberedFrom, DenyWord, deny_word, set_by, on_of_deny, ons_of, word_of_deny, words_of_deny, deny_words, deny_words_of, last_on, numbers, numbers_at, numbers_from, or_nothing, pattern_text, with_number, word_of, words_of_rules}
 use Rattle.rule_compile.specs.WordIndex.{Indexes}
 use Rattle.rule_compile.specs.declared.rule.OptionLine.{OptionLine}
@@ -78,17 +78,28 @@ of_line : (ps : Patterns) (name : List ℕ) (creator : Option (List ℕ)) (so_fa
 of_line ps name creator so_far true on ws = of_words ps name creator on ws so_far
 of_line ps name creator so_far false on ws = refl
 
-of_lines : (ps : Patterns) (name : List ℕ) (creator : Option (List ℕ)) (lines : List OptionLine) (so_far : Bool)
-    → last_on ps name creator so_far (deny_words lines) ≡ is_on_after ps (codes "deny-rules") name creator so_far lines
-of_lines ps name creator [] so_far = refl
-of_lines ps name creator (l ∷ ls) so_far =
-    last_on-append ps name creator (deny_words_of l) (deny_words ls) so_far
-    ∙ ap (λ (b : Bool). last_on ps name creator b (deny_words ls)) (of_line ps name creator so_far (bytes_eq l.key (codes "deny-rules")) (bytes_eq l.value (codes "1")) l.repos)
-    ∙ of_lines ps name creator ls (cond (sets ps (codes "deny-rules") name creator l) (bytes_eq l.value (codes "1")) so_far)
+-- the last of some lines that set the option
+abbrev last_set : Patterns → List ℕ → Option (List ℕ) → Option OptionLine → List OptionLine → Option OptionLine
+last_set ps name creator before lines = last_or before (filter (sets ps (codes "deny-rules") name creator) lines)
+
+one_line : (ps : Patterns) (name : List ℕ) (creator : Option (List ℕ)) (l : OptionLine) (ls : List OptionLine) (before : Option OptionLine) (b : Bool)
+    → ((o : Option OptionLine) → last_on ps name creator (is_on o) (deny_words ls) ≡ is_on (last_set ps name creator o ls))
+    → last_on ps name creator (cond b (bytes_eq l.value (codes "1")) (is_on before)) (deny_words ls)
+    ≡ is_on (last_or before (cond b (l ∷ filter (sets ps (codes "deny-rules") name creator) ls) (filter (sets ps (codes "deny-rules") name creator) ls)))
+one_line ps name creator l ls before true rest = rest (Some l)
+one_line ps name creator l ls before false rest = rest before
+
+of_lines : (ps : Patterns) (name : List ℕ) (creator : Option (List ℕ)) (lines : List OptionLine) (before : Option OptionLine)
+    → last_on ps name creator (is_on before) (deny_words lines) ≡ is_on (last_set ps name creator before lines)
+of_lines ps name creator [] before = refl
+of_lines ps name creator (l ∷ ls) before =
+    last_on-append ps name creator (deny_words_of l) (deny_words ls) (is_on before)
+    ∙ ap (λ (b : Bool). last_on ps name creator b (deny_words ls)) (of_line ps name creator (is_on before) (bytes_eq l.key (codes "deny-rules")) (bytes_eq l.value (codes "1")) l.repos)
+    ∙ one_line ps name creator l ls before (sets ps (codes "deny-rules") name creator l) (of_lines ps name creator ls)
 
 -- what the words of all lines say is what the lines say
 pub deny_of_lines : (ps : Patterns) (lines : List OptionLine) (name : List ℕ) (creator : Option (List ℕ)) → last_on ps name creator false (deny_words lines) ≡ deny_rules ps lines name creator
-deny_of_lines ps lines name creator = of_lines ps name creator lines false
+deny_of_lines ps lines name creator = of_lines ps name creator lines None
 
 -- ---- one word more
 

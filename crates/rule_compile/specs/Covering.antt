@@ -1,5 +1,6 @@
 -- Which repositories a rule and an option are for.
 use Rattle.std.specs.Prelude.{ℕ, List, [], ◌∷◌, Bool, true, false, not, ◌&&◌, ◌||◌, if◌then◌else◌, filter, codes, Option, Some, None}
+use Rattle.std.specs.List.{last_or}
 use Rattle.std.specs.Str.{bytes_eq}
 use Rattle.rule_compile.specs.Patterns.{Patterns}
 use Rattle.rule_compile.specs.declared.rule.OptionLine.{OptionLine}
@@ -60,15 +61,14 @@ numbers_of test (r ∷ rs) = if test r.repo then r.seq ∷ numbers_of test rs el
 abbrev pub sets : Patterns → List ℕ → List ℕ → Option (List ℕ) → OptionLine → Bool
 sets patterns key name creator line = bytes_eq line.key key && some_covers patterns line.repos name creator
 
--- whether the last line that sets the option sets it to `1`; without one the answer is as given
-abbrev pub is_on_after : Patterns → List ℕ → List ℕ → Option (List ℕ) → Bool → List OptionLine → Bool
-is_on_after patterns key name creator so_far [] = so_far
-is_on_after patterns key name creator so_far (line ∷ lines) =
-    is_on_after patterns key name creator (if sets patterns key name creator line then bytes_eq line.value (codes "1") else so_far) lines
+-- a line that sets an option to `1`; where no line sets it, it isn't on
+abbrev pub is_on : Option OptionLine → Bool
+is_on None = false
+is_on (Some line) = bytes_eq line.value (codes "1")
 
 -- the option is in force: the last line that sets it for the repository sets it to `1`
 abbrev pub is_in_force : Patterns → List OptionLine → List ℕ → List ℕ → Option (List ℕ) → Bool
-is_in_force patterns lines key name creator = is_on_after patterns key name creator false lines
+is_in_force patterns lines key name creator = is_on (last_or None (filter (sets patterns key name creator) lines))
 
 abbrev pub deny_rules : Patterns → List OptionLine → List ℕ → Option (List ℕ) → Bool
 deny_rules patterns lines name creator = is_in_force patterns lines (codes "deny-rules") name creator

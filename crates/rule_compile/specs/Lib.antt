@@ -11,3 +11,4 @@ pub mod WordIndex
 pub mod Deny
 pub mod Sound
 pub mod Members
+pub mod Shared

@@ -313,7 +313,7 @@ impl Draft {
         if let Some(word) = conf.unknown_at(alloc, place, &line.scope, refexes)? {
             return Err(Stop::Refused(RuleKind::UnknownGroup(word)));
         }
-        if let Some(word) = conf.unknown_at(alloc, conf.placed.len(), &line.scope, users)? {
+        if let Some(word) = conf.unknown_user(alloc, &line.scope, users)? {
             return Err(Stop::Refused(RuleKind::UnknownGroup(word)));
         }
         let refexes = conf.refexes_in(alloc, place, &line.scope, refexes)?;

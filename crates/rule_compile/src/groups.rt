@@ -3,9 +3,11 @@ ghost use Rattle.std.specs.Prelude.{◌≡◌, ◌++◌, ◌∷◌, length, IfOk
 ghost use Rattle.std.specs.List.{flat_map};
 ghost use Rattle.conf_groups.specs.Tables.{groups_of};
 ghost use Rattle.rule_compile.specs.Patterns.{AreTrue, Patterns};
+ghost use Rattle.rule_compile.specs.Shared.{AreShared};
 ghost use Rattle.rule_compile.specs.Words.{expanded, is_in, lets, may_set, members_at, members_of, other_user, refexes_in, single_user, some_lets, unknown_at, unknown_repo, user_of, users_of};
 
 use crate::patterns::takes_name;
+use crate::shared::{SharedMembers, group_of};
 use crate::words::{is_all, is_group, is_plain_pattern, is_repo_group};
 use crate::{Members, UserWord};
 use base_types::{ItemList, NoMemory, Text};
@@ -18,7 +20,10 @@ use std::alloc::Global;
 pub(crate) struct Conf<'a> {
     pub placed: &'a PlacedList,
     pub groups: &'a Groups,
+    /// Members of some of the groups, by all lines.
+    pub shared: &'a SharedMembers,
     ghost read: { groups.now ≡ groups_of placed.now },
+    ghost kept: { AreShared shared.now placed.now },
 }
 
 impl Conf<'_> {
@@ -45,6 +50,33 @@ impl Conf<'_> {
         self.members_at(alloc, self.placed.len(), scope, group)
     }
 
+    /// The members by all lines, read anew.
+    pub(crate) fn read_members(
+        &self,
+        alloc: Global,
+        scope: &Scope,
+        group: &Text,
+    ) -> Result<Members, NoMemory>
+        ensures { IfOk result (λ members. members ≡ members_of self.now.placed.now scope.now group.now) }
+    {
+        Members::of(alloc, self.members_of(alloc, scope, group.bytes())?)
+    }
+
+    /// The members by all lines. Those that are kept are shared.
+    fn members_by_all(
+        &self,
+        alloc: Global,
+        scope: &Scope,
+        group: &Text,
+    ) -> Result<Members, NoMemory>
+        ensures { IfOk result (λ members. members ≡ members_of self.now.placed.now scope.now group.now) }
+    {
+        match self.shared.get(scope, group) {
+            Some(members) => Ok(members.clone()?),
+            None => self.read_members(alloc, scope, group),
+        }
+    }
+
     /// The first group among the words that has no members before the place.
     pub(crate) fn unknown_at(
         &self,
@@ -61,6 +93,30 @@ impl Conf<'_> {
             }
             if self
                 .members_at(alloc, place, scope, word.bytes())?
+                .is_empty()
+            {
+                return Ok(Some(word.clone()?));
+            }
+        }
+        Ok(None)
+    }
+
+    /// The first group among user words that has no members.
+    pub(crate) fn unknown_user(
+        &self,
+        alloc: Global,
+        scope: &Scope,
+        words: &[Text],
+    ) -> Result<Option<Text>, NoMemory>
+        ensures { IfOk result (λ word. word ≡ unknown_at self.now.placed.now (length self.now.placed.now) scope.now words.now) }
+    {
+        for word in words {
+            if !is_group(word.bytes()) {
+                continue;
+            }
+            if self
+                .members_by_all(alloc, scope, word)?
+                .as_slice()
                 .is_empty()
             {
                 return Ok(Some(word.clone()?));
@@ -139,8 +195,8 @@ impl Conf<'_> {
             return Ok(UserWord::All);
         }
         if let [b'@', ..] = word.bytes() {
-            let members = self.members_of(alloc, scope, word.bytes())?;
-            return Ok(UserWord::Group(word.clone()?, Members::of(alloc, members)?));
+            let members = self.members_by_all(alloc, scope, word)?;
+            return Ok(UserWord::Group(word.clone()?, members));
         }
         single_user(alloc, word)
     }
@@ -185,9 +241,8 @@ impl Conf<'_> {
         if wanted == repo_word(name.bytes()) {
             return Ok(true);
         }
-        let mut group = vec![in alloc; b'@']?;
-        group.extend_from_slice(name.bytes())?;
-        let members = self.members_of(alloc, &Scope::Main, &group)?;
+        let group = group_of(alloc, name)?;
+        let members = self.members_by_all(alloc, &Scope::Main, &group)?;
         some_lets(alloc, wanted, members.as_slice())
     }
 }

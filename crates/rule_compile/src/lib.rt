@@ -4,7 +4,7 @@
 //! - `fault`: why a conf is refused;
 //! - `members`, `rule`, `warning`: what a conf is compiled to;
 //! - `words`: what the words of a line stand for;
-//! - `groups`: members of groups, and what a subconf may set access for;
+//! - `groups`, `shared`: members of groups, each group's once, and what a subconf may set access for;
 //! - `name_list`, `known`, `patterns`: names and patterns, each once;
 //! - `stop`, `draft`: what the lines come to, one after another;
 //! - `word_index`, `cursor`, `rules_for`: which rules may cover a repository;
@@ -29,6 +29,7 @@ mod patterns;
 mod policy;
 mod rule;
 mod rules_for;
+mod shared;
 mod stop;
 mod warning;
 mod word_index;
@@ -49,5 +50,7 @@ pub use warning::{Warning, WarningList};
 
 #[cfg(test)]
 mod index_tests;
+#[cfg(test)]
+mod limit_tests;
 #[cfg(test)]
 mod tests;

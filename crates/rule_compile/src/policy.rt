@@ -10,6 +10,7 @@ ghost use Rattle.rule_compile.specs.Deny.{IsDeny};
 ghost use Rattle.rule_compile.specs.Flat.{IsNumber, compiled_all, flat, numbered, placed_step};
 ghost use Rattle.rule_compile.specs.Index.{AreNumbered, deny_words, refexes_of_rules, words_of_rules};
 ghost use Rattle.rule_compile.specs.Patterns.{AreTrue, Patterns};
+ghost use Rattle.rule_compile.specs.Shared.{AreShared};
 ghost use Rattle.rule_compile.specs.Sound.{IsSound, IsSoundOption, IsSoundRule};
 ghost use Rattle.rule_compile.specs.WordIndex.{Indexes};
 ghost use Rattle.rule_compile.specs.declared.rule.Rule as flat_rule;
@@ -22,6 +23,7 @@ use crate::laws::some_patterns_are_true;
 use crate::name_list::NameList;
 use crate::patterns::PatternTable;
 use crate::rules_for::RulesFor;
+use crate::shared::SharedMembers;
 use crate::stop::Stop;
 use crate::word_index::WordIndex;
 use crate::{OptionLine, PolicyFault, Rule, RuleFault, WarningList};
@@ -254,11 +256,31 @@ fn compile_placed(alloc: Global, placed: &PlacedList) -> Result<Draft, PolicyFau
     let Ok(groups) = read_groups(alloc, placed) else {
         return Err(no_memory(alloc));
     };
+    let unread = Conf {
+        placed,
+        groups: &groups,
+        shared: &SharedMembers::new(alloc),
+    };
+    let Ok(shared) = share_members(alloc, &unread) else {
+        return Err(no_memory(alloc));
+    };
     let conf = Conf {
         placed,
         groups: &groups,
+        shared: &shared,
     };
     read_lines(alloc, &conf)
+}
+
+/// The members of the groups that the lines ask for.
+fn share_members(alloc: Global, conf: &Conf<'_>) -> Result<SharedMembers, NoMemory>
+    ensures { IfOk result (λ shared. AreShared shared conf.now.placed.now) }
+{
+    let mut shared = SharedMembers::new(alloc);
+    for placed in conf.placed.as_slice() {
+        shared = shared.with_placed(alloc, conf, placed)?;
+    }
+    Ok(shared)
 }
 
 fn read_lines(alloc: Global, conf: &Conf<'_>) -> Result<Draft, PolicyFault>
