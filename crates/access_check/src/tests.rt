@@ -111,7 +111,30 @@ fn answer(
     Ok(ask(policy, wild, &name, &asker, asks))
 }
 
-static FIRST_RULE: [(&str, &str, Asks<'static>, Verdict); 10] = [
+// A repository, who asks, what, and the answer that is due.
+type Row = (&'static str, &'static str, Asks<'static>, Verdict);
+
+// Each row over repositories with these roles.
+fn check_answers(alloc: Global, policy: &Policy, wild: &Wild, rows: &[Row]) -> Result<(), Fail> {
+    for (name, asker, asks, due) in rows {
+        let told = answer(alloc, policy, wild, name, asker, *asks)?;
+        if told != *due {
+            return Err(Fail::from(*name));
+        }
+    }
+    Ok(())
+}
+
+fn check_conf(alloc: Global, conf: &str, wild: &Wild, rows: &[Row]) -> Result<(), Fail> {
+    let policy = policy_of(alloc, conf)?;
+    check_answers(alloc, &policy, wild, rows)
+}
+
+fn check_plain(alloc: Global, conf: &str, rows: &[Row]) -> Result<(), Fail> {
+    check_conf(alloc, conf, &Wild::plain(alloc), rows)
+}
+
+static FIRST_RULE: [Row; 10] = [
     (
         "t",
         "dev",
@@ -146,19 +169,14 @@ static FIRST_RULE: [(&str, &str, Asks<'static>, Verdict); 10] = [
 
 #[test]
 fn the_first_rule_decides(rt: HostRuntime) -> Result<(), Fail> {
-    let plain = Wild::plain(rt.alloc());
-    let policy = policy_of(
+    check_plain(
         rt.alloc(),
         "repo t;RW master$ = dev;- master = dev;RW+ = dev;repo u;RW dev = dev;RW+ d = dev;repo v;RW = bob;RW+ = @all",
-    )?;
-    for (name, asker, asks, due) in &FIRST_RULE {
-        let told = answer(rt.alloc(), &policy, &plain, name, asker, *asks)?;
-        assert_eq!(rt; told, *due);
-    }
-    Ok(())
+        &FIRST_RULE,
+    )
 }
 
-static LETTERS: [(&str, &str, Asks<'static>, Verdict); 11] = [
+static LETTERS: [Row; 11] = [
     ("t", "bob", Asks::Change("C", "refs/heads/x"), Fallthru),
     ("t", "ann", Asks::Change("C", "refs/heads/x"), Allowed(1)),
     ("t", "bob", Asks::Change("W", "refs/heads/x"), Allowed(2)),
@@ -184,19 +202,14 @@ static LETTERS: [(&str, &str, Asks<'static>, Verdict); 11] = [
 
 #[test]
 fn letters_are_granted(rt: HostRuntime) -> Result<(), Fail> {
-    let plain = Wild::plain(rt.alloc());
-    let policy = policy_of(
+    check_plain(
         rt.alloc(),
         "repo t;RWC = ann;RW = bob;C = cal;repo u;RW+ = ann;RWD = bob;repo v;RW+M master = ann;RW = bob",
-    )?;
-    for (name, asker, asks, due) in &LETTERS {
-        let told = answer(rt.alloc(), &policy, &plain, name, asker, *asks)?;
-        assert_eq!(rt; told, *due);
-    }
-    Ok(())
+        &LETTERS,
+    )
 }
 
-static OPENINGS: [(&str, &str, Asks<'static>, Verdict); 8] = [
+static OPENINGS: [Row; 8] = [
     ("s", "bob", WRITE, DeniedBy(1)),
     ("s", "ann", WRITE, Allowed(2)),
     ("t", "bob", WRITE, Allowed(6)),
@@ -209,19 +222,14 @@ static OPENINGS: [(&str, &str, Asks<'static>, Verdict); 8] = [
 
 #[test]
 fn openings_and_deny_rules(rt: HostRuntime) -> Result<(), Fail> {
-    let plain = Wild::plain(rt.alloc());
-    let policy = policy_of(
+    check_plain(
         rt.alloc(),
         "repo s;option deny-rules = 1;- = bob;RW+ = @all;repo t;- x = bob;R NAME/y = cal;RW+ = ann bob;repo u;option deny-rules = 0;- = bob;R = bob",
-    )?;
-    for (name, asker, asks, due) in &OPENINGS {
-        let told = answer(rt.alloc(), &policy, &plain, name, asker, *asks)?;
-        assert_eq!(rt; told, *due);
-    }
-    Ok(())
+        &OPENINGS,
+    )
 }
 
-static CREATED: [(&str, &str, Asks<'static>, Verdict); 22] = [
+static CREATED: [Row; 22] = [
     ("alice/x", "alice", Asks::Unborn(Want::Read), Allowed(2)),
     ("alice/x", "alice", Asks::Create, Allowed(1)),
     ("bob/x", "bob", Asks::Unborn(Want::Read), Allowed(2)),
@@ -251,7 +259,7 @@ static CREATED: [(&str, &str, Asks<'static>, Verdict); 22] = [
     ),
 ];
 
-static CREATED_PLAIN: [(&str, &str, Asks<'static>, Verdict); 3] = [
+static CREATED_PLAIN: [Row; 3] = [
     ("alice/x", "alice", READ, Fallthru),
     ("g/x", "alice", READ, Fallthru),
     ("g/x", "zoe", READ, Allowed(6)),
@@ -261,27 +269,17 @@ static ROLES: [(&str, &str); 2] = [("READERS", "bob"), ("WRITERS", "cal")];
 
 static NO_ROLES: [(&str, &str); 0] = [];
 
+static CREATING: &str =
+    "@own = CREATOR;@r = READERS zoe;repo CREATOR/[a-z]+;C = alice;RW+ = CREATOR;RW = WRITERS;R = READERS;repo g/..*;RW = @own;R = @r;C = @own;repo @all;C = ann;repo p;C = ann";
+
 #[test]
 fn repositories_that_users_create(rt: HostRuntime) -> Result<(), Fail> {
-    let alloc = rt.alloc();
-    let policy = policy_of(
-        rt.alloc(),
-        "@own = CREATOR;@r = READERS zoe;repo CREATOR/[a-z]+;C = alice;RW+ = CREATOR;RW = WRITERS;R = READERS;repo g/..*;RW = @own;R = @r;C = @own;repo @all;C = ann;repo p;C = ann",
-    )?;
-    let wild = wild_of(alloc, "alice", &ROLES)?;
-    let plain = Wild::plain(alloc);
-    for (name, asker, asks, due) in &CREATED {
-        let told = answer(alloc, &policy, &wild, name, asker, *asks)?;
-        assert_eq!(rt; told, *due);
-    }
-    for (name, asker, asks, due) in &CREATED_PLAIN {
-        let told = answer(alloc, &policy, &plain, name, asker, *asks)?;
-        assert_eq!(rt; told, *due);
-    }
-    Ok(())
+    let wild = wild_of(rt.alloc(), "alice", &ROLES)?;
+    check_conf(rt.alloc(), CREATING, &wild, &CREATED)?;
+    check_plain(rt.alloc(), CREATING, &CREATED_PLAIN)
 }
 
-static NAMES: [(&str, &str, Asks<'static>, Verdict); 12] = [
+static NAMES: [Row; 12] = [
     (
         "t",
         "a.b",
@@ -348,17 +346,11 @@ static NAMES: [(&str, &str, Asks<'static>, Verdict); 12] = [
 
 #[test]
 fn names_in_refexes_and_virtual_refs(rt: HostRuntime) -> Result<(), Fail> {
-    let alloc = rt.alloc();
-    let plain = Wild::plain(alloc);
-    let policy = policy_of(
+    check_plain(
         rt.alloc(),
         "repo t;RW p/USER/ = @all;repo u;- VREF/NAME/Makefile = jo;RW = jo;repo v;RW NAME/src/ = jo;- NAME/ = jo;RW = jo;repo w;- VREF/MERGE-CHECK/master = bob;RW = bob",
-    )?;
-    for (name, asker, asks, due) in &NAMES {
-        let told = answer(alloc, &policy, &plain, name, asker, *asks)?;
-        assert_eq!(rt; told, *due);
-    }
-    Ok(())
+        &NAMES,
+    )
 }
 
 static VIRTUAL: [(&str, &str, Vref, bool); 6] = [
@@ -370,19 +362,27 @@ static VIRTUAL: [(&str, &str, Vref, bool); 6] = [
     ("x", "jo", Vref::Name, false),
 ];
 
+fn asks_vref(
+    alloc: Global,
+    policy: &Policy,
+    name: &str,
+    asker: &str,
+    which: Vref,
+) -> Result<bool, Fail> {
+    let name = repo(alloc, name)?;
+    let asker = user(alloc, asker)?;
+    Ok(holds_vref(policy, &Wild::plain(alloc), &name, &asker, which))
+}
+
 #[test]
 fn virtual_refs_are_asked(rt: HostRuntime) -> Result<(), Fail> {
-    let alloc = rt.alloc();
-    let plain = Wild::plain(alloc);
     let policy = policy_of(
-        alloc,
+        rt.alloc(),
         "repo u;- VREF/NAME/x = jo;RW = bob;repo w;RW VREF/MERGE-CHECK = @all",
     )?;
     for (name, asker, which, due) in &VIRTUAL {
-        let name = repo(alloc, name)?;
-        let asker = user(alloc, asker)?;
-        let holds = holds_vref(&policy, &plain, &name, &asker, *which);
-        assert_eq!(rt; holds, *due);
+        let asked = asks_vref(rt.alloc(), &policy, name, asker, *which)?;
+        assert_eq!(rt; asked, *due);
     }
     Ok(())
 }
@@ -404,6 +404,11 @@ static IN_FORCE: [(&str, bool, bool, bool); 6] = [
     ("v", false, false, false),
 ];
 
+fn flags_of_name(alloc: Global, policy: &Policy, wild: &Wild, name: &str) -> Result<Flags, Fail> {
+    let name = repo(alloc, name)?;
+    Ok(flags_of(policy, wild, &name))
+}
+
 #[test]
 fn flags_in_force(rt: HostRuntime) -> Result<(), Fail> {
     let alloc = rt.alloc();
@@ -413,9 +418,8 @@ fn flags_in_force(rt: HostRuntime) -> Result<(), Fail> {
         "repo t;RWC x = ann;RWD = bob;repo u;RW+ = ann;C = ann;repo u/..*;RWM NAME/ = ann;repo CREATOR/x;RWCDM = ann",
     )?;
     for (name, create, delete, merge) in &IN_FORCE {
-        let due = flags(*create, *delete, *merge);
-        let name = repo(alloc, name)?;
-        assert_eq!(rt; flags_of(&policy, &wild, &name), due);
+        let told = flags_of_name(alloc, &policy, &wild, name)?;
+        assert_eq!(rt; told, flags(*create, *delete, *merge));
     }
     Ok(())
 }
@@ -484,16 +488,24 @@ static DENIALS: [(&str, &str, Verdict, &str); 4] = [
     ),
 ];
 
+fn text_of(
+    alloc: Global,
+    policy: &Policy,
+    request: &Request<'_>,
+    verdict: Verdict,
+) -> Result<Text, Fail> {
+    let site = repo(alloc, "site")?;
+    let cal = user(alloc, "cal")?;
+    Ok(denial_text(alloc, request, &site, &cal, verdict.rule(policy))?)
+}
+
 #[test]
 fn denials_are_told(rt: HostRuntime) -> Result<(), Fail> {
     let alloc = rt.alloc();
     let policy = policy_of(alloc, "repo site;RW = ann;- p/USER/ = @all")?;
-    let site = repo(alloc, "site")?;
-    let cal = user(alloc, "cal")?;
     for (asked, name, verdict, due) in &DENIALS {
         let request = request_of(asked, name);
-        let rule = verdict.rule(&policy);
-        let text = denial_text(alloc, &request, &site, &cal, rule)?;
+        let text = text_of(alloc, &policy, &request, *verdict)?;
         assert_eq!(rt; text.bytes(), due.as_bytes());
     }
     Ok(())
@@ -502,7 +514,7 @@ fn denials_are_told(rt: HostRuntime) -> Result<(), Fail> {
 static REALISTIC: &str =
     "@staff = ann bob;@interns = cal;@web = site blog shop;@infra = dns mail backup;;repo gitolite-admin;RW+ = ann;repo @web;- master$ refs/tags/ = @interns;RW+ personal/USER/ = @staff @interns;- personal/ = @all;RW = @staff @interns;desc = x;repo @infra;RW+ = ann;R = @staff;config hooks.mailinglist = infra;repo wiki notes;RW = @all;repo secrets;option deny-rules = 1;- = bob;RW+ = @staff;repo docs drafts;RWC = @staff;R = @interns";
 
-static VERDICTS: [(&str, &str, Asks<'static>, Verdict); 6] = [
+static VERDICTS: [Row; 6] = [
     (
         "site",
         "cal",
@@ -528,11 +540,5 @@ static VERDICTS: [(&str, &str, Asks<'static>, Verdict); 6] = [
 
 #[test]
 fn verdicts_of_a_realistic_conf(rt: HostRuntime) -> Result<(), Fail> {
-    let plain = Wild::plain(rt.alloc());
-    let policy = policy_of(rt.alloc(), REALISTIC)?;
-    for (name, asker, asks, due) in &VERDICTS {
-        let told = answer(rt.alloc(), &policy, &plain, name, asker, *asks)?;
-        assert_eq!(rt; told, *due);
-    }
-    Ok(())
+    check_plain(rt.alloc(), REALISTIC, &VERDICTS)
 }
