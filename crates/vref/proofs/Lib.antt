@@ -3,3 +3,10 @@ mod ListLemmas
 mod LinkLemmas
 mod MarkLemmas
 mod AdvanceLemmas
+mod RowLemmas
+mod PartLemmas
+mod DifferenceLemmas
+mod ComparisonLemmas
+mod WalkLemmas
+mod PathLemmas
+mod LawLemmas

@@ -2,3 +2,10 @@ pub mod History
 pub mod Marks
 pub mod Advances
 pub mod Facts
+pub mod Root
+pub mod Rows
+pub mod Paths
+pub mod Differences
+pub mod Comparisons
+pub mod Walk
+pub mod Laws

@@ -120,7 +120,7 @@ fn is_commit(lens: &Lens, id: ObjectId) -> bool
     }
 }
 
-fn is_zero(id: ObjectId) -> bool
+pub(crate) fn is_zero(id: ObjectId) -> bool
     ensures { result ≡ is_zero id }
 {
     id == ObjectId::zero()

@@ -1,23 +1,39 @@
-//! What a rule may ask of a change of a ref.
+//! What a rule may ask of a change of a ref: its facts, and the paths that it changes.
 //!
 //! - `facts`: the facts of a change, by the commits on both sides, and of many changes;
 //! - `advances`: how commits follow others, many pairs at once;
 //! - `order`: commits in an order in which parents come before their children;
 //! - `history`: the links between them, and the merges;
 //! - `marks`: which of them are ancestors of which;
-//! - `bits`: words of bits.
+//! - `bits`: words of bits;
+//! - `paths`: the paths that a change changes;
+//! - `root`: the tree that an id stands for;
+//! - `walk`: the walk over two trees at once;
+//! - `comparisons`: what was found out of pairs of trees;
+//! - `differences`: the entries in which two trees differ;
+//! - `laws`: laws of the definitions.
 #![tactic(auto)]
 
 mod advances;
 mod bits;
+mod comparisons;
+mod differences;
 mod facts;
 mod history;
+mod laws;
 mod marks;
 mod order;
+mod paths;
+mod root;
+mod walk;
 
 pub use ancestry::{Change, Facts};
 pub use base_types::NoMemory;
 pub use facts::{facts_of, facts_of_all};
+pub use laws::hold_laws;
+pub use paths::{Paths, TextList, changed_paths};
 
+#[cfg(test)]
+mod path_tests;
 #[cfg(test)]
 mod tests;

@@ -5,8 +5,13 @@ use ref_store::{Command, Lens, Repo};
 use std::alloc::Global;
 use std::test::Fail;
 
-fn put(alloc: Global, objects: &mut ObjectList, kind: Kind, body: &[u8]) -> Result<ObjectId, Fail> {
-    if body.len() > 1000 {
+pub(crate) fn put(
+    alloc: Global,
+    objects: &mut ObjectList,
+    kind: Kind,
+    body: &[u8],
+) -> Result<ObjectId, Fail> {
+    if body.len() > 100_000 {
         return Err(Fail::from("a short body"));
     }
     let object = Object::parse(alloc, kind, body).map_err(|_| "a body of its form")?;
@@ -15,7 +20,7 @@ fn put(alloc: Global, objects: &mut ObjectList, kind: Kind, body: &[u8]) -> Resu
     Ok(name)
 }
 
-fn put_commit(
+pub(crate) fn put_commit(
     alloc: Global,
     objects: &mut ObjectList,
     tree: ObjectId,
@@ -121,61 +126,89 @@ fn all_facts_otherwise_often(
     Ok(None)
 }
 
-#[test]
-fn facts_of_changes(rt: HostRuntime) -> Result<(), Fail> {
-    use Change::{Create, Delete, Update};
-    let alloc = rt.alloc();
-    let mut pack = ObjectList::new(alloc);
-    let blob = put(alloc, &mut pack, Kind::Blob, b"x")?;
-    let tree = put(alloc, &mut pack, Kind::Tree, b"")?;
-    let root = put_commit(alloc, &mut pack, tree, &[])?;
-    let side = put_commit(alloc, &mut pack, blob, &[])?;
-    let next = put_commit(alloc, &mut pack, tree, &[root])?;
-    let merge = put_commit(alloc, &mut pack, tree, &[next, side])?;
+// A ref, numbers of its old and its new object, and the facts.
+type NumberedRow = (&'static str, usize, usize, Change, bool, bool, bool, bool);
+
+const HEAD: &str = "refs/heads/a";
+
+// Objects are numbered: 0 is zero, 1 has no object, 2 is a blob, 3 a tree, 4 a root, 5 a root at the side, whose tree is the blob, 6 comes behind 4, and 7
+// merges 6 and 5. The facts are whether it is a tag, between commits, forward, and brings a merge.
+static FACTS: [NumberedRow; 15] = [
+    (HEAD, 0, 6, Change::Create, false, true, false, false),
+    (HEAD, 6, 0, Change::Delete, false, true, false, false),
+    (HEAD, 4, 6, Change::Update, false, true, true, false),
+    (HEAD, 6, 4, Change::Update, false, true, false, false),
+    (HEAD, 6, 7, Change::Update, false, true, true, true),
+    (HEAD, 5, 7, Change::Update, false, true, true, true),
+    (HEAD, 7, 6, Change::Update, false, true, false, false),
+    (HEAD, 7, 7, Change::Update, false, true, true, false),
+    (HEAD, 6, 2, Change::Update, false, false, false, false),
+    (HEAD, 0, 2, Change::Create, false, false, false, false),
+    (HEAD, 1, 6, Change::Update, false, false, false, false),
+    (HEAD, 0, 0, Change::Create, false, true, false, false),
+    ("refs/tags/v", 4, 6, Change::Update, true, true, true, false),
+    (
+        "refs/tags/v",
+        0,
+        7,
+        Change::Create,
+        true,
+        true,
+        false,
+        false,
+    ),
+    ("refs/tagsv", 4, 6, Change::Update, false, true, true, false),
+];
+
+// The ids of the objects, by their numbers.
+fn put_numbered(alloc: Global, pack: &mut ObjectList) -> Result<Vec<ObjectId>, Fail> {
+    let blob = put(alloc, pack, Kind::Blob, b"x")?;
+    let tree = put(alloc, pack, Kind::Tree, b"")?;
+    let root = put_commit(alloc, pack, tree, &[])?;
+    let side = put_commit(alloc, pack, blob, &[])?;
+    let next = put_commit(alloc, pack, tree, &[root])?;
+    let merge = put_commit(alloc, pack, tree, &[next, side])?;
     let zero = ObjectId::zero();
     let absent = ObjectId { bytes: [7; 20] };
+    Ok(vec![in alloc; zero, absent, blob, tree, root, side, next, merge]?)
+}
+
+fn rows_of(
+    alloc: Global,
+    ids: &[ObjectId],
+) -> Result<Vec<(&'static str, ObjectId, ObjectId, Facts)>, Fail> {
+    let mut rows = Vec::new(alloc);
+    for (name, old, new, change, tag, commits, forward, merge) in &FACTS {
+        let (Some(old), Some(new)) = (ids.get(*old), ids.get(*new)) else {
+            return Err(Fail::from("an object's number"));
+        };
+        let due = facts(*change, *tag, *commits, *forward, *merge);
+        rows.push((*name, *old, *new, due))?;
+    }
+    Ok(rows)
+}
+
+// The first row of which the facts are others, one by one or all at once.
+fn facts_of_pack_otherwise(
+    alloc: Global,
+    pack: &ObjectList,
+    rows: &[(&str, ObjectId, ObjectId, Facts)],
+) -> Result<Option<usize>, Fail> {
     let repo = Repo::empty(alloc)?;
-    let lens = Lens::new(alloc, &repo, &pack)?;
-    let head = "refs/heads/a";
-    let rows = [
-        (head, zero, next, facts(Create, false, true, false, false)),
-        (head, next, zero, facts(Delete, false, true, false, false)),
-        (head, root, next, facts(Update, false, true, true, false)),
-        (head, next, root, facts(Update, false, true, false, false)),
-        (head, next, merge, facts(Update, false, true, true, true)),
-        (head, side, merge, facts(Update, false, true, true, true)),
-        (head, merge, next, facts(Update, false, true, false, false)),
-        (head, merge, merge, facts(Update, false, true, true, false)),
-        (head, next, blob, facts(Update, false, false, false, false)),
-        (head, zero, blob, facts(Create, false, false, false, false)),
-        (
-            head,
-            absent,
-            next,
-            facts(Update, false, false, false, false),
-        ),
-        (head, zero, zero, facts(Create, false, true, false, false)),
-        (
-            "refs/tags/v",
-            root,
-            next,
-            facts(Update, true, true, true, false),
-        ),
-        (
-            "refs/tags/v",
-            zero,
-            merge,
-            facts(Create, true, true, false, false),
-        ),
-        (
-            "refs/tagsv",
-            root,
-            next,
-            facts(Update, false, true, true, false),
-        ),
-    ];
-    assert_eq!(rt; facts_otherwise(alloc, &lens, &rows)?, None);
-    assert_eq!(rt; all_facts_otherwise_often(alloc, &lens, &rows)?, None);
+    let lens = Lens::new(alloc, &repo, pack)?;
+    if let Some(row) = facts_otherwise(alloc, &lens, rows)? {
+        return Ok(Some(row));
+    }
+    all_facts_otherwise_often(alloc, &lens, rows)
+}
+
+#[test]
+fn facts_of_changes(rt: HostRuntime) -> Result<(), Fail> {
+    let mut pack = ObjectList::new(rt.alloc());
+    let ids = put_numbered(rt.alloc(), &mut pack)?;
+    let rows = rows_of(rt.alloc(), &ids)?;
+    let otherwise = facts_of_pack_otherwise(rt.alloc(), &pack, &rows)?;
+    assert_eq!(rt; otherwise, None);
     Ok(())
 }
 
@@ -216,13 +249,10 @@ fn changes_along(
 
 #[test]
 fn facts_along_a_chain(rt: HostRuntime) -> Result<(), Fail> {
-    let alloc = rt.alloc();
-    let mut pack = ObjectList::new(alloc);
-    let chain = put_chain(alloc, &mut pack, 100)?;
-    let repo = Repo::empty(alloc)?;
-    let lens = Lens::new(alloc, &repo, &pack)?;
-    let rows = changes_along(alloc, &chain)?;
-    assert_eq!(rt; facts_otherwise(alloc, &lens, &rows)?, None);
-    assert_eq!(rt; all_facts_otherwise(alloc, &lens, &rows, 2)?, None);
+    let mut pack = ObjectList::new(rt.alloc());
+    let chain = put_chain(rt.alloc(), &mut pack, 100)?;
+    let rows = changes_along(rt.alloc(), &chain)?;
+    let otherwise = facts_of_pack_otherwise(rt.alloc(), &pack, &rows)?;
+    assert_eq!(rt; otherwise, None);
     Ok(())
 }
