@@ -3,10 +3,9 @@ use Rattle.std.proofs.Common.{◌≡◌, ◌++◌, ◌+◌, ◌-◌, ◌<◌, �
 use Rattle.std.specs.Prelude.{codes, filter, slice_get}
 use Rattle.std.specs.Option.{option_map, unwrap_or}
 use Rattle.std.specs.Str.{bytes_eq}
-use Rattle.std.specs.BTreeMap as tree
-use Rattle.std.specs.BTreeMap.{BTreeMap}
-use Rattle.std.specs.Ordering.{nat_cmp, eq_by_cmp}
-use Rattle.std.specs.Cmp.Lexicographic.{bytes_decides, slice_cmp, texts_ties}
+use Rattle.std.specs.HashMap as hash
+use Rattle.std.specs.HashMap.{HashMap}
+use Rattle.std.specs.Cmp.Lexicographic.{bytes_decides}
 use Rattle.std.proofs.lemmas.List.{map-append}
 use Rattle.std.proofs.lemmas.Grind.{flat_map-append}
 use Rattle.std.proofs.lemmas.List.{append-nil, drop-drop, get_or-drop, length-drop, take_more}
@@ -21,6 +20,7 @@ use Rattle.rule_compile.specs.declared.rule.OptionLine.{OptionLine}
 use Rattle.rule_compile.specs.declared.rule.RepoWord.{RepoWord}
 use Rattle.rule_compile.specs.declared.rule.RepoWord.TheVariants as repo
 use Rattle.rule_compile.specs.declared.rule.Rule.{Rule}
+use Rattle.rule_compile.specs.declared.salt.Salt.{Salt}
 use Rattle.rule_compile.specs.declared.word_index.WordIndex.{WordIndex}
 use Rattle.rule_compile.proofs.NumberLemmas.{next_item, no_item, numbers_behind}
 
@@ -126,16 +126,15 @@ or_nothing_is None = refl
 or_nothing_is (Some ns) = refl
 
 -- a table after a name was taken out and put back with its numbers and one more
-pub table_with : (old less more : BTreeMap (List ℕ) (List ℕ)) (name copy : List ℕ) (numbers pushed : List ℕ) (n : ℕ)
-    → tree.Updates (slice_cmp nat_cmp) old less name None → tree.Updates (slice_cmp nat_cmp) less more copy (Some pushed) → copy ≡ name
+pub table_with : (old less more : HashMap (List ℕ) (List ℕ) Salt) (name copy : List ℕ) (numbers pushed : List ℕ) (n : ℕ)
+    → hash.Updates bytes_eq old less name None → hash.Updates bytes_eq less more copy (Some pushed) → copy ≡ name
     → numbers ≡ numbers_at old name → pushed ≡ numbers ++ n ∷ [] → (other : List ℕ) → numbers_at more other ≡ with_number (numbers_at old other) (bytes_eq name other) n
 table_with old less more name copy numbers pushed n out in_again same had push other =
-    ap or_nothing (in_again.0 other ∙ ap (λ (k : List ℕ). cond (eq_by_cmp (slice_cmp nat_cmp) k other) (Some pushed) (tree.get (slice_cmp nat_cmp) less other)) same)
-    ∙ ap (λ (o : Option (List ℕ)). or_nothing (cond (eq_by_cmp (slice_cmp nat_cmp) name other) (Some pushed) o)) (out.0 other)
-    ∙ ap (λ (b : Bool). or_nothing (cond b (Some pushed) (cond b None (tree.get (slice_cmp nat_cmp) old other)))) (sym (texts_ties name other))
+    ap or_nothing (in_again.0 other ∙ ap (λ (k : List ℕ). cond (bytes_eq k other) (Some pushed) (hash.get bytes_eq less other)) same)
+    ∙ ap (λ (o : Option (List ℕ)). or_nothing (cond (bytes_eq name other) (Some pushed) o)) (out.0 other)
     ∙ by_name (bytes_eq name other) refl
   where
-    by_name : (b : Bool) → bytes_eq name other ≡ b → or_nothing (cond b (Some pushed) (cond b None (tree.get (slice_cmp nat_cmp) old other))) ≡ with_number (numbers_at old other) b n
+    by_name : (b : Bool) → bytes_eq name other ≡ b → or_nothing (cond b (Some pushed) (cond b None (hash.get bytes_eq old other))) ≡ with_number (numbers_at old other) b n
     by_name true e = push ∙ ap (λ (ns : List ℕ). ns ++ n ∷ []) (had ∙ ap (numbers_at old) ((bytes_decides name other).0 e))
     by_name false e = refl
 

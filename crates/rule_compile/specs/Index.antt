@@ -2,16 +2,14 @@
 use Rattle.std.specs.Prelude.{ℕ, suc, ◌≡◌, List, [], ◌∷◌, ◌++◌, Bool, if◌then◌else◌, map, Option, Some, None, codes}
 use Rattle.std.specs.List.{flat_map}
 use Rattle.std.specs.Str.{bytes_eq}
-use Rattle.std.specs.BTreeMap as tree
-use Rattle.std.specs.BTreeMap.{BTreeMap}
-use Rattle.std.specs.Ordering.{nat_cmp}
-use Rattle.std.specs.Cmp.Lexicographic.{slice_cmp}
+use Rattle.std.specs.HashMap.{HashMap, get}
 use Rattle.rule_compile.specs.Patterns.{Patterns}
 use Rattle.rule_compile.specs.Covering.{covers_repo}
 use Rattle.rule_compile.specs.declared.rule.OptionLine.{OptionLine}
 use Rattle.rule_compile.specs.declared.rule.RepoWord.{RepoWord}
 use Rattle.rule_compile.specs.declared.rule.RepoWord.TheVariants as repo
 use Rattle.rule_compile.specs.declared.rule.Rule.{Rule}
+use Rattle.rule_compile.specs.declared.salt.Salt.{Salt}
 
 -- ---- words by their numbers, which count from 1
 
@@ -34,8 +32,8 @@ or_nothing None = []
 or_nothing (Some numbers) = numbers
 
 -- the numbers that a table has at a name
-abbrev pub numbers_at : BTreeMap (List ℕ) (List ℕ) → List ℕ → List ℕ
-numbers_at table name = or_nothing (tree.get (slice_cmp nat_cmp) table name)
+abbrev pub numbers_at : HashMap (List ℕ) (List ℕ) Salt → List ℕ → List ℕ
+numbers_at table name = or_nothing (get bytes_eq table name)
 
 -- one number more, where it is for this name
 abbrev pub with_number : List ℕ → Bool → ℕ → List ℕ

@@ -8,6 +8,7 @@ ghost use Rattle.rule_compile.specs.Patterns.{AreTrue, Patterns};
 ghost use Rattle.rule_compile.specs.Sound.{AreSoundWords, IsSoundOption, IsSoundWord};
 
 use crate::patterns::PatternTable;
+use crate::salt::Salt;
 use crate::word_index::WordIndex;
 use crate::{OptionLine, RepoWord};
 use base_types::{ItemList, NoMemory};
@@ -22,11 +23,11 @@ pub(crate) struct DenyRules {
 }
 
 impl DenyRules {
-    pub(crate) fn new(alloc: Global) -> DenyRules
+    pub(crate) fn new(alloc: Global, salt: Salt) -> DenyRules
         ensures { IsDeny result [] }
     {
         DenyRules {
-            index: WordIndex::new(alloc),
+            index: WordIndex::new(alloc, salt),
             on: ItemList::new(alloc),
         }
     }

@@ -7,7 +7,7 @@
 //! - `groups`, `shared`: members of groups, each group's once, and what a subconf may set access for;
 //! - `name_list`, `known`, `patterns`: names and patterns, each once;
 //! - `stop`, `draft`: what the lines come to, one after another;
-//! - `word_index`, `cursor`, `rules_for`: which rules may cover a repository;
+//! - `salt`, `word_index`, `cursor`, `rules_for`: which rules may cover a repository;
 //! - `deny`: where the option `deny-rules` is in force;
 //! - `policy`: the rules in force;
 //! - `laws`: that there are answers to all questions on texts.
@@ -29,6 +29,7 @@ mod patterns;
 mod policy;
 mod rule;
 mod rules_for;
+mod salt;
 mod shared;
 mod stop;
 mod warning;

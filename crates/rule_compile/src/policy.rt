@@ -23,6 +23,7 @@ use crate::laws::some_patterns_are_true;
 use crate::name_list::NameList;
 use crate::patterns::PatternTable;
 use crate::rules_for::RulesFor;
+use crate::salt::Salt;
 use crate::shared::SharedMembers;
 use crate::stop::Stop;
 use crate::word_index::WordIndex;
@@ -62,7 +63,8 @@ impl Model for Policy {
 }
 
 impl Policy {
-    /// The rules of a conf, or its first fault. Each distinct text of a pattern is read once. It costs the lines and the rules, each of which owns copies of its texts.
+    /// The rules of a conf, or its first fault. Each distinct text of a pattern is read once, and the members of a group of users once for each scope. It
+    /// costs the lines and the rules, each of which owns copies of its texts.
     pub fn compile(alloc: Global, files: &FileList) -> Result<Policy, PolicyFault>
         ensures { (ps : Patterns) → AreTrue ps → Gives result (flat ps files.now) }
     {
@@ -94,8 +96,9 @@ impl Policy {
             ..
         } = draft;
         let refexes = refexes_of(alloc, &patterns, rules.as_slice())?;
-        let index = index_of(alloc, &patterns, rules.as_slice())?;
-        let deny = deny_of(alloc, &patterns, options.as_slice())?;
+        let salt = Salt::of(plain.as_slice());
+        let index = index_of(alloc, salt, &patterns, rules.as_slice())?;
+        let deny = deny_of(alloc, salt, &patterns, options.as_slice())?;
         Ok(Policy {
             rules,
             warnings,
@@ -147,7 +150,7 @@ impl Policy {
         RulesFor::new(&self.rules, &self.index, repo)
     }
 
-    /// The numbers of the rules whose word is the name of a repository. A look-up costs the logarithm of the names.
+    /// The numbers of the rules whose word is the name of a repository. A look-up takes the same time however many names there are.
     pub fn plain_numbers(&self, repo: &RepoName) -> &[u32]
         ensures { result.now ≡ numbers_of (is_plain_word repo.now) self.now.rules }
     {
@@ -219,11 +222,16 @@ fn refexes_of(
 }
 
 // The index of the words of the rules.
-fn index_of(alloc: Global, patterns: &PatternTable, rules: &[Rule]) -> Result<WordIndex, NoMemory>
+fn index_of(
+    alloc: Global,
+    salt: Salt,
+    patterns: &PatternTable,
+    rules: &[Rule],
+) -> Result<WordIndex, NoMemory>
     requires { AllByRecursion IsSoundRule rules.now }
     ensures { IfOk result (λ index. Indexes index (words_of_rules rules.now)) }
 {
-    let mut index = WordIndex::new(alloc);
+    let mut index = WordIndex::new(alloc, salt);
     for rule in rules {
         index = index.with_next(alloc, patterns, &rule.repo)?;
     }
@@ -233,13 +241,14 @@ fn index_of(alloc: Global, patterns: &PatternTable, rules: &[Rule]) -> Result<Wo
 // What the option lines say of `deny-rules`.
 fn deny_of(
     alloc: Global,
+    salt: Salt,
     patterns: &PatternTable,
     options: &[OptionLine],
 ) -> Result<DenyRules, NoMemory>
     requires { AllByRecursion IsSoundOption options.now }
     ensures { IfOk result (λ deny. IsDeny deny (deny_words options.now)) }
 {
-    let mut deny = DenyRules::new(alloc);
+    let mut deny = DenyRules::new(alloc, salt);
     for line in options {
         deny = deny.with_line(alloc, patterns, line)?;
     }

@@ -14,27 +14,29 @@ use crate::RepoWord;
 use crate::cursor::Cursor;
 use crate::known::KnownPattern;
 use crate::patterns::PatternTable;
+use crate::salt::Salt;
 use base_types::{ItemList, NoMemory};
 use conf_lex::{RepoName, UserName};
 use std::alloc::Global;
-use std::collections::BTreeMap;
+use std::collections::HashMap;
 
 /// A list of repository words, which are numbered from 1: the numbers of those that are a plain name, by that name, of
 /// those that are `@all`, and of those that are patterns; and the pattern at each place where there is one.
 #[derive(Drop)]
 pub(crate) struct WordIndex {
-    pub plain: BTreeMap<RepoName, ItemList<u32>>,
+    pub plain: HashMap<RepoName, ItemList<u32>, Salt>,
     pub all: ItemList<u32>,
     pub pattern_numbers: ItemList<u32>,
     pub patterns: ItemList<Option<KnownPattern>>,
 }
 
 impl WordIndex {
-    pub(crate) fn new(alloc: Global) -> WordIndex
+    /// An empty index, whose names are hashed from this salt.
+    pub(crate) fn new(alloc: Global, salt: Salt) -> WordIndex
         ensures { Indexes result [] }
     {
         WordIndex {
-            plain: BTreeMap::new(alloc),
+            plain: HashMap::with_hasher(alloc, salt),
             all: ItemList::new(alloc),
             pattern_numbers: ItemList::new(alloc),
             patterns: ItemList::new(alloc),
@@ -101,7 +103,7 @@ impl WordIndex {
         Ok(index)
     }
 
-    /// The numbers of the words that are this plain name. A look-up costs the logarithm of the names.
+    /// The numbers of the words that are this plain name. A look-up takes the same time however many names there are.
     pub(crate) fn numbers_of_name(&self, name: &RepoName) -> &[u32]
         ensures { result.now ≡ numbers_at self.now.plain name.now }
     {
@@ -157,10 +159,10 @@ impl WordIndex {
 // A table with one number more at a name.
 fn with_number_at(
     alloc: Global,
-    table: BTreeMap<RepoName, ItemList<u32>>,
+    table: HashMap<RepoName, ItemList<u32>, Salt>,
     name: &RepoName,
     number: u32,
-) -> Result<BTreeMap<RepoName, ItemList<u32>>, NoMemory>
+) -> Result<HashMap<RepoName, ItemList<u32>, Salt>, NoMemory>
     ensures { IfOk result (λ more. (other : List ℕ) → numbers_at more other ≡ with_number (numbers_at table other) (bytes_eq name.now other) number) }
 {
     let mut more = table;
