@@ -1,15 +1,15 @@
 -- What a session that ran its interaction keeps.
-use Rattle.std.proofs.Common.{inl, inr, List, Err, refl}
+use Rattle.std.proofs.Common.{inl, inr, List, Err, refl, subst}
 use Rattle.pktline_core.specs.LinkState.{LinkState}
 use Rattle.pktline_core.specs.Links.{IsLater}
-use Rattle.hub_core.specs.Desk.{DeskView}
+use Rattle.hub_core.specs.Desk.{DeskView, IsSound}
 use Rattle.hub_core.specs.Name.{Name}
 use Rattle.interaction_tree.specs.Requests.{OwnEntry}
 use Rattle.interaction_tree.specs.Runs.{IsCaused, Runs}
 use Rattle.interaction_tree.specs.Endings.{TakesTurn}
-use Rattle.interaction_tree.specs.Growth.{GrowsBy}
+use Rattle.interaction_tree.specs.Growth.{GrowsBy, own_since}
 use Rattle.interaction_tree.proofs.EndingLemmas.{runs_turn}
-use Rattle.interaction_tree.proofs.DeskLemmas.{makes_grows}
+use Rattle.interaction_tree.proofs.DeskLemmas.{made_since, makes_grows}
 use Rattle.gitolite_shell.specs.declared.end.SessionEnd.{SessionEnd}
 use Rattle.gitolite_shell.specs.declared.end.SessionEnd.TheVariants.{Served, Denied, NoRepo, ReadFault, WriteFault, NoMemory, BadPack, NotBuilt}
 use Rattle.gitolite_shell.specs.End.{HasCause, IsSure, halt_of}
@@ -37,18 +37,21 @@ is_sure a b WriteFault caused reads writes = absurd (writes caused.0)
 is_sure a b NoMemory caused reads writes = inr refl
 
 pub record SessionKeeps (a b : LinkState) (d e : DeskView) (admin : Name) (end : SessionEnd) : Type 0 where
-  pub turn : TakesTurn a b d e (session admin) (halt_of end)
-  pub grows : (own : List OwnEntry) × GrowsBy d e own
+  pub turn : TakesTurn a b (own_since d e) (session admin) (halt_of end)
+  pub grows : GrowsBy d e (own_since d e)
+  pub sound : IsSound e
   pub causes : HasCause a b end
   pub sure : IsSure a b end
   pub later : IsLater a b
 
-pub session_keeps : (a b : LinkState) (d e : DeskView) (admin : Name) (end : SessionEnd) → Runs a b d e (session admin) (Err (halt_of end)) → SessionKeeps a b d e admin end
-session_keeps a b d e admin end ran =
+pub session_keeps : (a b : LinkState) (d e : DeskView) (admin : Name) (end : SessionEnd) → IsSound d → Runs a b d e (session admin) (Err (halt_of end)) → SessionKeeps a b d e admin end
+session_keeps a b d e admin end sound ran =
     let cause = has_cause a b end ran.caused in
+    let grown = makes_grows d e ran.own sound ran.made in
     record {
       turn = runs_turn a b d e (session admin) (halt_of end) (is_ordered admin) ran;
-      grows = (ran.own, makes_grows d e ran.own ran.made);
+      grows = subst (λ (own : List OwnEntry). GrowsBy d e own) (made_since d e ran.own ran.made) grown.1;
+      sound = grown.0;
       causes = cause;
       sure = is_sure a b end cause;
       later = ran.later;

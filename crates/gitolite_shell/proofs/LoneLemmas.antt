@@ -1,11 +1,12 @@
 -- How a command that was run ends the program.
-use Rattle.std.proofs.Common.{◌≡◌, List, ℕ, Option, Bool, [], refl, sym, subst, true, false, inl, inr, arith}
-use Rattle.std.specs.Prelude.{Result, Ok, Err, Some, None, OnOk, IfErr}
+use Rattle.std.proofs.Common.{◌≡◌, List, ℕ, Option, Bool, [], refl, sym, ◌∙◌, ap, subst, true, false, inl, inr, arith}
+use Rattle.std.specs.Prelude.{Result, Ok, Err, Some, None, OnOk, IfErr, IfSome}
 use Rattle.std.proofs.KnownBytes.{Appends-nil, Consumes-nil}
 use Rattle.base_types.specs.Counts.{HasRisen}
 use Rattle.pktline_core.specs.LinkState.{LinkState}
 use Rattle.hub_core.specs.declared.entry.Entry.{Entry}
-use Rattle.hub_core.specs.Desk.{DeskView}
+use Rattle.hub_core.specs.Desk.{DeskView, IsSound}
+use Rattle.hub_core.specs.History.{IsLegal}
 use Rattle.hub_core.specs.Name.{Name}
 use Rattle.gitolite_shell.specs.Words.{is_check, script_admin}
 use Rattle.gitolite_shell.specs.Script.{sessions}
@@ -82,3 +83,15 @@ module _ (words : List (List ℕ)) (source source' sink sink' : LinkState) (log 
   pub surely : (number : ℕ) → EndsRun words source source' sink sink' number log → EndsSurely words source source' sink sink' number
   surely number run = λ reads writes. subst (λ (n : ℕ). IsDue (is_check words) (script_admin words) n) (sym run.number_is)
       (due_by (is_check words) (script_admin words) run.status run.ends reads writes)
+
+-- an empty log is legal
+pub legal_none : (admin : Option Name) (log : List Entry) → log ≡ [] → IfSome admin (λ a. IsLegal a log)
+legal_none None log none = tt
+legal_none (Some admin) log none = subst (IsLegal admin) (sym none) tt
+
+-- what the desk of a new hub saw afterwards is legal
+pub legal_script : (asked : Option Name) (admin : Name) (desk desk' : DeskView) (log : List Entry) → asked ≡ Some admin → desk ≡ new_desk admin → desk'.admin ≡ desk.admin → IsSound desk' → log ≡ desk'.seen
+    → IfSome asked (λ a. IsLegal a log)
+legal_script asked admin desk desk' log is new same sound seen =
+    subst (λ (o : Option Name). IfSome o (λ a. IsLegal a log)) (sym is)
+    (subst (λ (a : Name). IsLegal a log) (same ∙ ap (λ (d : DeskView). d.admin) new) (subst (IsLegal desk'.admin) (sym seen) sound.legal))

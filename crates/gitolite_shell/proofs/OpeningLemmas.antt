@@ -6,7 +6,6 @@ use Rattle.hub_core.specs.declared.verdict.Want.TheVariants.{Write}
 use Rattle.hub_core.specs.declared.entry.Entry.{Entry}
 use Rattle.hub_core.specs.declared.entry.EnterKept.{EnterKept}
 use Rattle.hub_core.specs.declared.entry.EnterKept.TheVariants.{Granted, Created, Denied, NoRepo}
-use Rattle.hub_core.specs.declared.entry.Event.{Event}
 use Rattle.hub_core.specs.declared.entry.Event.TheVariants.{Entered}
 use Rattle.hub_core.specs.declared.hub.Entered as hub_entered
 use Rattle.hub_core.specs.Name.{Name}
@@ -62,13 +61,16 @@ module _ (admin : Name) (before : List Entry) (entry : Entry) (q : Asked) (answe
       ∙ ap (λ (s : State). Some (pinned_in s q.user q.repo Write)) state_with
 
 -- what stands behind an entry, at its place
-stood : (d e : DeskView) (before : List Entry) (event : Event) (m : MakesEntry d e before event) (pin : Opening) → pin.place ≡ length before → Stands pin (known e)
-    → opening_at (history d.admin (before ++ m.entry ∷ [])) (length before) ≡ Some pin.pinned
-stood d e before event m pin place stands =
-    ap (opening_at (history d.admin (before ++ m.entry ∷ []))) (sym place)
-    ∙ ap (λ (l : List Entry). opening_at (history d.admin l) pin.place) (sym m.seen)
-    ∙ ap (λ (n : Name). opening_at (history n e.seen) pin.place) (sym m.admin)
+stood : (d e : DeskView) (before : List Entry) (entry : Entry) → MakesEntry d e before entry → (pin : Opening) → pin.place ≡ length before → Stands pin (known e)
+    → opening_at (history d.admin (before ++ entry ∷ [])) (length before) ≡ Some pin.pinned
+stood d e before entry m pin place stands =
+    ap (opening_at (history d.admin (before ++ entry ∷ []))) (sym place)
+    ∙ ap (λ (v : DeskView). opening_at (history v.admin v.seen) pin.place) (sym m.new_is)
     ∙ stands
+
+-- the entry of an opening
+abbrev entry_at : DeskView → Asked → EnterKept → Entry
+entry_at d q answer = record { caller = d.caller; event = Entered q.user q.repo Write answer }
 
 same_opening : (pin other : Opening) → pin.place ≡ other.place → pin.pinned ≡ other.pinned → pin ≡ other
 same_opening pin other p q = λ i. record { place = p i; pinned = q i }
@@ -78,13 +80,13 @@ pub pin_granted : (d e : DeskView) (q : Asked) (pin : Opening) (enters : Enters 
 pin_granted d e q pin enters =
     let m = enters.1 in
     let is = enters.2.1 in
-    same_opening pin (opening_behind d.admin enters.0 q) is.place (some_same (sym (stood d e enters.0 _ m pin is.place is.stands) ∙ pins_here d.admin enters.0 m.entry q Granted m.event_is (sym enters.2.0)))
+    same_opening pin (opening_behind d.admin enters.0 q) is.place (some_same (sym (stood d e enters.0 (entry_at d q Granted) m pin is.place is.stands) ∙ pins_here d.admin enters.0 (entry_at d q Granted) q Granted refl (sym enters.2.0)))
 
 pub pin_created : (d e : DeskView) (q : Asked) (pin : Opening) (enters : Enters d e q.user q.repo Write (hub_entered.TheVariants.Created pin)) → pin ≡ opening_behind d.admin enters.0 q
 pin_created d e q pin enters =
     let m = enters.1 in
     let is = enters.2.1 in
-    same_opening pin (opening_behind d.admin enters.0 q) is.place (some_same (sym (stood d e enters.0 _ m pin is.place is.stands) ∙ pins_created d.admin enters.0 m.entry q Created m.event_is (sym enters.2.0)))
+    same_opening pin (opening_behind d.admin enters.0 q) is.place (some_same (sym (stood d e enters.0 (entry_at d q Created) m pin is.place is.stands) ∙ pins_created d.admin enters.0 (entry_at d q Created) q Created refl (sym enters.2.0)))
 
 -- ---- an opening by its answer
 

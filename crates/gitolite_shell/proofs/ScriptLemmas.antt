@@ -17,7 +17,9 @@ use Rattle.interaction_tree.specs.Traces.{Failure, Failed, Begins, FallsShort}
 use Rattle.interaction_tree.specs.Turns as stop
 use Rattle.interaction_tree.specs.Alone.{TurnAlone}
 use Rattle.interaction_tree.specs.Endings.{IsInput, EndsAsDue, LacksMemory, TakesTurn}
-use Rattle.interaction_tree.proofs.DeskLemmas.{makes_grows, makes_alone}
+use Rattle.interaction_tree.specs.Growth.{GrowsBy, own_since}
+use Rattle.interaction_tree.specs.Requests.{OwnEntry}
+use Rattle.interaction_tree.proofs.DeskLemmas.{makes_alone}
 use Rattle.interaction_tree.proofs.AloneLemmas.{alone_is, alone_begins}
 use Rattle.gitolite_shell.specs.declared.end.SessionEnd.{SessionEnd}
 use Rattle.gitolite_shell.specs.declared.end.SessionEnd.TheVariants as end
@@ -43,47 +45,51 @@ input_of (Some input) (Some rest) taken consumed = (rest, refl, consumed)
 
 -- over a link that tells its bytes, alone at its hub
 alone_turn : (a b : LinkState) (old new : DeskView) (body out : List ℕ) (end : SessionEnd) → a.left ≡ Some body → a.written ≡ Some [] → b.written ≡ Some out → IsTrue old.alone
-    → EndsAsDue a b old new (session old.admin) end → served_alone old.admin body old.seen ≡ record { bytes = out; stop = stop.Ended end; log = new.seen }
+    → GrowsBy old new (own_since old new) → EndsAsDue a b (own_since old new) (session old.admin) end → served_alone old.admin body old.seen ≡ record { bytes = out; stop = stop.Ended end; log = new.seen }
 unfolding served_alone
-alone_turn a b old new body out end left empty written alone ends =
+alone_turn a b old new body out end left empty written alone grows ends =
     let input : body ≡ ends.input = rw left at ends.told in
     let bytes = rw (empty, written) at ends.written in
-    rw (input, bytes) (alone_is old.admin end (session old.admin) ends.input ends.own old.seen new.seen (makes_alone old new ends.own alone ends.made) ends.entries ends.end_is)
+    rw (input, bytes) (alone_is old.admin end (session old.admin) ends.input (own_since old new) old.seen new.seen (makes_alone old new (own_since old new) alone grows.made) ends.entries ends.end_is)
 
 pub serves : (a b : LinkState) (old new : DeskView) (number : ℕ) (body out word text : List ℕ) (end : SessionEnd) → a.left ≡ Some body → a.written ≡ Some [] → b.written ≡ Some out → IsTrue old.alone
-    → EndsAsDue a b old new (session old.admin) end → word ≡ end_word end → text ≡ reply_text number word out → Serves old new number body text
-serves a b old new number body out word text end left empty written alone ends word_is text_is =
-    let turn = alone_turn a b old new body out end left empty written alone ends in
-    let grows = makes_grows old new ends.own ends.made in
+    → GrowsBy old new (own_since old new) → EndsAsDue a b (own_since old new) (session old.admin) end → word ≡ end_word end → text ≡ reply_text number word out → Serves old new number body text
+serves a b old new number body out word text end left empty written alone grows ends word_is text_is =
+    let turn = alone_turn a b old new body out end left empty written alone grows ends in
     record {
       printed = rw turn (text_is ∙ ap (λ (w : List ℕ). reply_text number w out) word_is);
       seen = rw turn refl;
-      admin = grows.admin;
-      alone = subst IsTrue (sym grows.alone) alone;
+      admin = ap (λ (d : DeskView). d.admin) grows.new_is;
+      alone = subst (λ (d : DeskView). IsTrue d.alone) (sym grows.new_is) alone;
     }
 
+-- what was seen goes on
+pub grows_on : (old new : DeskView) → GrowsBy old new (own_since old new) → Begins old.seen new.seen
+grows_on old new grows = (grows.more, ap (λ (d : DeskView). d.seen) grows.new_is)
+
 -- where memory lacked in it
-pub session_lacks : (a b : LinkState) (old new : DeskView) (body : List ℕ) → a.left ≡ Some body → IsTrue old.alone → LacksMemory a b old new (session old.admin) → LacksSession old new body
+pub session_lacks : (a b : LinkState) (old new : DeskView) (body : List ℕ) → a.left ≡ Some body → IsTrue old.alone → GrowsBy old new (own_since old new) → LacksMemory a b (own_since old new) (session old.admin)
+    → LacksSession old new body
 unfolding served_alone
-session_lacks a b old new body left alone lacks =
+session_lacks a b old new body left alone grows lacks =
     let whole = input_of a.left b.left lacks.part lacks.read in
     let input : body ≡ lacks.part ++ whole.0 = subst (λ (l : Option (List ℕ)). IsInput l (lacks.part ++ whole.0)) left whole.2 in
     record {
-      goes_on = (makes_grows old new lacks.own lacks.made).seen;
-      within = rw input (alone_begins old.admin (session old.admin) lacks.part whole.0 lacks.own old.seen new.seen (makes_alone old new lacks.own alone lacks.made) lacks.entries);
+      goes_on = grows_on old new grows;
+      within = rw input (alone_begins old.admin (session old.admin) lacks.part whole.0 (own_since old new) old.seen new.seen (makes_alone old new (own_since old new) alone grows.made) lacks.entries);
     }
 
 -- over a link that can't fail only memory may lack
-pub only_memory : (a b : LinkState) (old new : DeskView) (end : SessionEnd) (failure : Failure) → a.may_fail ≡ false → HasCause a b end → halt_of end ≡ Failed failure
-    → TakesTurn a b old new (session old.admin) (halt_of end) → LacksMemory a b old new (session old.admin)
-only_memory a b old new end.ReadFault failure cannot cause is turn = absurd (let may : false ≡ true = sym cannot ∙ cause.1 in cc)
-only_memory a b old new end.WriteFault failure cannot cause is turn = absurd (let may : false ≡ true = sym cannot ∙ cause.1 in cc)
-only_memory a b old new end.NoMemory failure cannot cause is turn = turn
-only_memory a b old new end.Served failure cannot cause is turn = absurd cc
-only_memory a b old new end.Denied failure cannot cause is turn = absurd cc
-only_memory a b old new end.NoRepo failure cannot cause is turn = absurd cc
-only_memory a b old new (end.BadPack fault) failure cannot cause is turn = absurd cc
-only_memory a b old new end.NotBuilt failure cannot cause is turn = absurd cc
+pub only_memory : (a b : LinkState) (own : List OwnEntry) (admin : Name) (end : SessionEnd) (failure : Failure) → a.may_fail ≡ false → HasCause a b end → halt_of end ≡ Failed failure
+    → TakesTurn a b own (session admin) (halt_of end) → LacksMemory a b own (session admin)
+only_memory a b own admin end.ReadFault failure cannot cause is turn = absurd (let may : false ≡ true = sym cannot ∙ cause.1 in cc)
+only_memory a b own admin end.WriteFault failure cannot cause is turn = absurd (let may : false ≡ true = sym cannot ∙ cause.1 in cc)
+only_memory a b own admin end.NoMemory failure cannot cause is turn = turn
+only_memory a b own admin end.Served failure cannot cause is turn = absurd cc
+only_memory a b own admin end.Denied failure cannot cause is turn = absurd cc
+only_memory a b own admin end.NoRepo failure cannot cause is turn = absurd cc
+only_memory a b own admin (end.BadPack fault) failure cannot cause is turn = absurd cc
+only_memory a b own admin end.NotBuilt failure cannot cause is turn = absurd cc
 
 -- a session that was served, whose reply had no room
 pub serves_unsaid : (old new : DeskView) (number : ℕ) (body text : List ℕ) → Begins old.seen new.seen → Serves old new number body text → LacksSession old new body

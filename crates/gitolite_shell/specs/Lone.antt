@@ -1,11 +1,12 @@
 -- How a run of the program ends.
-use Rattle.std.specs.Prelude.{◌≡◌, ◌⊎◌, ℕ, Bool, true, false, IsTrue, List, [], Option, Some, None}
+use Rattle.std.specs.Prelude.{◌≡◌, ◌⊎◌, ℕ, Bool, true, false, IsTrue, List, [], Option, Some, None, IfSome}
 use Rattle.std.specs.Io.KnownBytes.{Appends}
 use Rattle.base_types.specs.Counts.{HasRisen}
 use Rattle.pktline_core.specs.LinkState.{LinkState}
 use Rattle.hub_core.specs.declared.entry.Entry.{Entry}
 use Rattle.hub_core.specs.Name.{Name}
 use Rattle.hub_core.specs.Desk.{DeskView}
+use Rattle.hub_core.specs.History.{IsLegal}
 use Rattle.gitolite_shell.specs.Words.{is_check, script_admin, usage_line}
 use Rattle.gitolite_shell.specs.RunningScripts.{RunsScript, StopsAtRead, StopsAtWrite, StopsForMemory, WritesPart}
 use Rattle.gitolite_shell.specs.Check.{EndsCheck}
@@ -15,7 +16,7 @@ use Rattle.gitolite_shell.specs.declared.status.Status.TheVariants.{Done, Usage,
 
 -- the desk of a new hub's only caller
 abbrev pub new_desk : Name → DeskView
-new_desk admin = record { admin = admin; seen = []; mine = []; alone = true }
+new_desk admin = record { admin = admin; caller = 0; start = 0; seen = []; alone = true }
 
 -- What holds where refused words ended with this status; they end with no other. The usage is printed, or a beginning of it, not all of it.
 abbrev pub EndsUsage : LinkState → LinkState → Status → Type 0
@@ -59,3 +60,7 @@ EndsSurely words source source' sink sink' number =
 -- A run that doesn't end with 2 had no failed read of its input, and one that doesn't end with 3 no failed write of its output.
 abbrev pub TellsStatus : LinkState → LinkState → LinkState → LinkState → ℕ → Type 0
 TellsStatus source source' sink sink' number = ((number ≡ 2) ⊎ (source'.read_faults ≡ source.read_faults)) × ((number ≡ 3) ⊎ (sink'.write_faults ≡ sink.write_faults))
+
+-- The log of a script is legal from the setup for its admin: each recorded answer is the one that is due by what stands before it.
+abbrev pub IsLegalRun : List (List ℕ) → List Entry → Type 0
+IsLegalRun words log = IfSome (script_admin words) (λ admin. IsLegal admin log)

@@ -1,7 +1,7 @@
 // The program, run by one caller.
 ghost use Rattle.std.specs.Prelude.{◌≡◌, ◌⊎◌, IfOk, map, string_bytes};
 ghost use Rattle.hub_core.specs.LoneDesk.{desk_of};
-ghost use Rattle.gitolite_shell.specs.Lone.{EndsRun, EndsSurely, EndsUsage, TellsStatus, new_desk};
+ghost use Rattle.gitolite_shell.specs.Lone.{EndsRun, EndsSurely, EndsUsage, IsLegalRun, TellsStatus, new_desk};
 ghost use Rattle.gitolite_shell.specs.Status.{status_number};
 
 use crate::check::run_check;
@@ -9,7 +9,7 @@ use crate::script::{run_script, write_text};
 use crate::status::{Status, status_of};
 use crate::words::{USAGE, is_check, script_admin};
 use base_types::{NoMemory, Text};
-use hub_core::{EntryList, Hub, LoneDesk};
+use hub_core::{Desk, EntryList, Hub, LoneDesk};
 use pktline_core::{Sink, Source};
 use std::alloc::Global;
 
@@ -49,6 +49,7 @@ pub fn lone_main<I: Source, O: Sink>(
     ensures ends { EndsRun (map string_bytes words.now) (I.state input.old) (I.state input.new) (O.state output.old) (O.state output.new) result.status result.log }
     ensures tells { TellsStatus (I.state input.old) (I.state input.new) (O.state output.old) (O.state output.new) result.status }
     ensures sure { EndsSurely (map string_bytes words.now) (I.state input.old) (I.state input.new) (O.state output.old) (O.state output.new) result.status }
+    ensures legal { IsLegalRun (map string_bytes words.now) result.log }
 {
     if is_check(words) {
         return Ended {
@@ -69,6 +70,8 @@ pub fn lone_main<I: Source, O: Sink>(
         };
     };
     let status = status_of(run_script(alloc, input, output, &mut desk));
+    // called for its clause that the log is legal
+    desk.sound();
     Ended {
         status: status.number(),
         log: desk.into_hub().into_log(),

@@ -1,6 +1,6 @@
 // The program.
-ghost use Rattle.std.specs.Prelude.{map, string_bytes};
-ghost use Rattle.gitolite_shell.specs.Lone.{EndsRun, EndsSurely, TellsStatus};
+ghost use Rattle.std.specs.Prelude.{◌≡◌, map, string_bytes};
+ghost use Rattle.gitolite_shell.specs.Lone.{EndsRun, EndsSurely, IsLegalRun, TellsStatus};
 
 use crate::door::Door;
 use crate::gate::Gate;
@@ -20,6 +20,8 @@ pub fn shell_main<I: Source, O: Sink, L: Link + Send, D: Door<L> + Send, G: Gate
     ensures ends { EndsRun (map string_bytes words.now) (I.state input.old) (I.state input.new) (O.state output.old) (O.state output.new) result.status result.log }
     ensures tells { TellsStatus (I.state input.old) (I.state input.new) (O.state output.old) (O.state output.new) result.status }
     ensures sure { EndsSurely (map string_bytes words.now) (I.state input.old) (I.state input.new) (O.state output.old) (O.state output.new) result.status }
+    ensures legal { IsLegalRun (map string_bytes words.now) result.log }
+    ensures posts { _posts.new ≡ _posts.old }
 {
     lone_main(alloc, words, input, output)
 }

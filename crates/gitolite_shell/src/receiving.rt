@@ -61,6 +61,7 @@ fn push<L: Link, K: Desk>(
     requires within { AreWithinLimits commands }
     ensures runs { Runs (L.state link.old) (L.state link.new) (K.view desk.old) (K.view desk.new) (pushing ((K.view desk.old).admin) pin commands pack) (outcome_of result) }
     ensures tells { TellsLink (L.state link.old) (L.state link.new) result }
+    ensures goes { K.goes_on desk.old desk.new }
 {
     let Ok(told) = copy_of(alloc, &commands) else {
         return Err(SessionEnd::NoMemory);
@@ -104,6 +105,7 @@ fn create<L: Link, K: Desk>(
     requires short { HasShortName first }
     ensures runs { Runs (L.state link.old) (L.state link.new) (K.view desk.old) (K.view desk.new) (creating ((K.view desk.old).admin) pin first) (outcome_of result) }
     ensures tells { TellsLink (L.state link.old) (L.state link.new) result }
+    ensures goes { K.goes_on desk.old desk.new }
 {
     let commands = take_commands(alloc, link, reader, first)?;
     let pack = take_pack(alloc, link, &commands)?;
@@ -123,6 +125,7 @@ fn receive_command<L: Link, K: Desk>(
     requires write { pin.pinned.want ≡ Want.Write }
     ensures runs { Runs (L.state link.old) (L.state link.new) (K.view desk.old) (K.view desk.new) (commanding ((K.view desk.old).admin) pin) (outcome_of result) }
     ensures tells { TellsLink (L.state link.old) (L.state link.new) result }
+    ensures goes { K.goes_on desk.old desk.new }
 {
     match reader.next(link) {
         Ok(Pkt::Flush) => Ok(()),
@@ -150,6 +153,7 @@ pub fn receive<L: Link, K: Desk>(
     requires names { HasShortNames pin.pinned.repository.refs }
     ensures runs { Runs (L.state link.old) (L.state link.new) (K.view desk.old) (K.view desk.new) (receiving ((K.view desk.old).admin) pin) (outcome_of result) }
     ensures tells { TellsLink (L.state link.old) (L.state link.new) result }
+    ensures goes { K.goes_on desk.old desk.new }
 {
     advertise(alloc, link, pin.repo())?;
     receive_command(alloc, link, desk, reader, pin)

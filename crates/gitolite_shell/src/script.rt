@@ -112,6 +112,8 @@ fn serve<K: Desk>(
     requires { IsTrue (K.view desk.old).alone }
     ensures ok { IfOk result (λ text. Serves (K.view desk.old) (K.view desk.new) number body.items text.items) }
     ensures lacks { IfErr result (λ _. LacksSession (K.view desk.old) (K.view desk.new) body.items) }
+    ensures admin { (K.view desk.new).admin ≡ (K.view desk.old).admin }
+    ensures goes { K.goes_on desk.old desk.new }
 {
     let mut link = MemoryLink::new(body, MOST_MOVED, Vec::new(alloc), Vec::new(alloc));
     let end = session(alloc, &mut link, desk, &mut OpenGate);
@@ -139,6 +141,8 @@ fn advance<I: Source, O: Sink, K: Desk>(
     ensures tells_output { TellsOutput (O.state output.old) (O.state output.new) result }
     ensures input { IsLater (I.state input.old) (I.state input.new) }
     ensures output { IsLater (O.state output.old) (O.state output.new) }
+    ensures admin { (K.view desk.new).admin ≡ (K.view desk.old).admin }
+    ensures goes { K.goes_on desk.old desk.new }
 {
     match read_frame(alloc, input) {
         Ok(Some(frame)) => {
@@ -170,6 +174,8 @@ pub fn run_script<I: Source, O: Sink, K: Desk>(
     ensures err { IfErr result (StopsScript (I.state input.old) (I.state input.new) (O.state output.old) (O.state output.new) ((K.view desk.old).admin) ((K.view desk.old).seen) ((K.view desk.new).seen)) }
     ensures tells_input { TellsInput (I.state input.old) (I.state input.new) result }
     ensures tells_output { TellsOutput (O.state output.old) (O.state output.new) result }
+    ensures admin { (K.view desk.new).admin ≡ (K.view desk.old).admin }
+    ensures goes { K.goes_on desk.old desk.new }
 {
     let mut number = 1;
     let mut offset = 0;

@@ -1,13 +1,12 @@
 // One session.
-ghost use Rattle.std.specs.Prelude.{◌≡◌, ◌++◌, List, codes, OnOk, IfOk};
+ghost use Rattle.std.specs.Prelude.{◌≡◌, ◌++◌, codes, OnOk, IfOk};
 ghost use Rattle.pktline_core.specs.Links.{IsLater};
 ghost use Rattle.hub_core.specs.State.{HasShortNames};
 ghost use Rattle.hub_core.specs.Hub.{Stands};
-ghost use Rattle.hub_core.specs.Desk.{DeskView, known};
+ghost use Rattle.hub_core.specs.Desk.{DeskView, IsSound, known};
 ghost use Rattle.interaction_tree.specs.Runs.{Runs};
-ghost use Rattle.interaction_tree.specs.Requests.{OwnEntry};
 ghost use Rattle.interaction_tree.specs.Endings.{TakesTurn};
-ghost use Rattle.interaction_tree.specs.Growth.{GrowsBy};
+ghost use Rattle.interaction_tree.specs.Growth.{GrowsBy, own_since};
 ghost use Rattle.gitolite_shell.specs.End.{HasCause, TellsEnd, IsSure, TellsLink, halt_of, outcome_of};
 ghost use Rattle.gitolite_shell.specs.FirstPacket.{AreShort, asked};
 ghost use Rattle.gitolite_shell.specs.Texts.{denial};
@@ -86,6 +85,7 @@ fn enter<L: Link, K: Desk>(
     ensures stands { IfOk result (λ pin. Stands pin (known (K.view desk.new))) }
     ensures write { IfOk result (λ pin. pin.pinned.want ≡ Want.Write) }
     ensures names { IfOk result (λ pin. HasShortNames pin.pinned.repository.refs) }
+    ensures goes { K.goes_on desk.old desk.new }
 {
     match desk.enter(alloc, &asked.user, &asked.repo, Want::Write) {
         Entered::Granted(pin) => Ok(pin),
@@ -109,6 +109,7 @@ fn serve_asked<L: Link, K: Desk, G: Gate>(
     requires short { AreShort asked.now }
     ensures runs { Runs (L.state link.old) (L.state link.new) (K.view desk.old) (K.view desk.new) (serving ((K.view desk.old).admin) asked.now) (outcome_of result) }
     ensures tells { TellsLink (L.state link.old) (L.state link.new) result }
+    ensures goes { K.goes_on desk.old desk.new }
 {
     let pin = enter(alloc, link, desk, asked)?;
     gate.between(pin.place());
@@ -126,6 +127,7 @@ fn serve<L: Link, K: Desk, G: Gate>(
     requires ready { IsReady reader.old (L.state link.old) }
     ensures runs { Runs (L.state link.old) (L.state link.new) (K.view desk.old) (K.view desk.new) (served ((K.view desk.old).admin)) (outcome_of result) }
     ensures tells { TellsLink (L.state link.old) (L.state link.new) result }
+    ensures goes { K.goes_on desk.old desk.new }
 {
     let asked = ask(alloc, link, reader)?;
     serve_asked(alloc, link, desk, gate, reader, &asked)
@@ -138,13 +140,17 @@ pub fn session<L: Link, K: Desk, G: Gate>(
     desk: &mut K,
     gate: &mut G,
 ) -> SessionEnd
-    ensures turn { TakesTurn (L.state link.old) (L.state link.new) (K.view desk.old) (K.view desk.new) (session ((K.view desk.old).admin)) (halt_of result) }
+    ensures turn { TakesTurn (L.state link.old) (L.state link.new) (own_since (K.view desk.old) (K.view desk.new)) (session ((K.view desk.old).admin)) (halt_of result) }
     ensures tells { TellsEnd (L.state link.old) (L.state link.new) result }
-    ensures grows { (own : List OwnEntry) × GrowsBy (K.view desk.old) (K.view desk.new) own }
+    ensures grows { GrowsBy (K.view desk.old) (K.view desk.new) (own_since (K.view desk.old) (K.view desk.new)) }
+    ensures sound { IsSound (K.view desk.new) }
+    ensures goes { K.goes_on desk.old desk.new }
     ensures causes { HasCause (L.state link.old) (L.state link.new) result }
     ensures sure { IsSure (L.state link.old) (L.state link.new) result }
     ensures later { IsLater (L.state link.old) (L.state link.new) }
 {
+    // called for its clause that what was seen is legal
+    desk.sound();
     let Ok(mut reader) = PktReader::new(alloc) else {
         return SessionEnd::NoMemory;
     };

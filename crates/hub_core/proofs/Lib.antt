@@ -13,5 +13,6 @@ pub mod GrownObjects
 pub mod WholeRefs
 pub mod RunningLemmas
 pub mod RefsApart
+pub mod MovedRefs
 pub mod DeskLemmas
 pub mod RunLemmas

@@ -25,7 +25,7 @@ pub none_alike : (o : Outcome) → is_done o ≡ false → (cs : List Command) �
 none_alike o is [] = refl
 none_alike o is (c ∷ cs) = ap (λ b. b || list_any is_done (map (λ c. o) cs)) is ∙ none_alike o is cs
 
-none_beside : (first : ℕ) (os : List Outcome) → list_any is_done (map (beside first) os) ≡ false
+pub none_beside : (first : ℕ) (os : List Outcome) → list_any is_done (map (beside first) os) ≡ false
 none_beside first [] = refl
 none_beside first (Done ∷ os) = none_beside first os
 none_beside first (BadName ∷ os) = none_beside first os

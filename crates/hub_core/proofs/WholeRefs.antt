@@ -31,8 +31,8 @@ use Rattle.hub_core.specs.State.{Repository, State, rules_of, changed, repositor
 use Rattle.hub_core.specs.Pin.{Opening, Pinned, answer_to, answer_by, by_verdict, made_by, pins}
 use Rattle.hub_core.specs.Push.{is_named_twice, kind_at, by_walk, judged, outcomes_by_opening, by_refs, is_done, refs_after, in_order, outcomes_in, refs_left, HasWholeRefs}
 use Rattle.hub_core.specs.Hub.{Stands}
-use Rattle.hub_core.specs.History.{History, new_history, after, after_push, step, pinned_by, joined, opening_at, outcomes_at, push_change, IsDue, IsDuePush, IsLegal, replay}
-use Rattle.hub_core.proofs.HistoryLemmas.{history-keeps}
+use Rattle.hub_core.specs.History.{History, new_history, after, after_push, history, history_from, step, pinned_by, joined, opening_at, outcomes_at, push_change, IsDue, IsDuePush, IsLegal, replay}
+use Rattle.hub_core.proofs.HistoryLemmas.{history-keeps, history_from-append}
 use Rattle.hub_core.proofs.OpeningLemmas.{some_same, pins_granted}
 use Rattle.hub_core.proofs.PushLemmas.{done_in_order}
 use Rattle.hub_core.specs.Running.{IsWhole}
@@ -170,6 +170,23 @@ grows-push state pinned pack commands outcomes = by_done (list_any is_done outco
     }))
     by_done true = grows-put state pinned.repo _ (with_pack-more (repository_at state pinned.repo).objects pack)
     by_done false = λ q. begins_itself (repository_at state q).objects
+
+grows-step : (h : History) (event : Event) → Grows h.state (step h event)
+grows-step h (Entered user repo want answer) = grows-opening h.state user repo want (answer_to h.state user repo want) refl
+grows-step h (Pushed place pack commands atomic outcomes) = by_opening (opening_at h place)
+  where
+    by_opening : (o : Option Pinned) → Grows h.state (after_push h.state o pack commands atomic)
+    by_opening None = λ q. begins_itself (repository_at h.state q).objects
+    by_opening (Some pinned) = grows-push h.state pinned pack commands (outcomes_at h.state pinned pack commands atomic)
+
+grows-log : (h : History) (more : List Entry) → Grows h.state (history_from h more).state
+grows-log h [] = λ q. begins_itself (repository_at h.state q).objects
+grows-log h (e ∷ more) = λ q. begins_through _ _ _ (grows-step h e.event q) (grows-log (after h e.event) more q)
+
+-- what a repository has after a log it has after more
+pub objects_grow : (admin : Name) (log more : List Entry) (repo : Name) → Begins (repository_at (replay admin log) repo).objects (repository_at (replay admin (log ++ more)) repo).objects
+objects_grow admin log more repo =
+    subst (λ (h : History). Begins (repository_at (replay admin log) repo).objects (repository_at h.state repo).objects) (sym (history_from-append (new_history admin) log more)) (grows-log (history admin log) more repo)
 
 -- III. Along a log
 

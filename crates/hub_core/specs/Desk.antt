@@ -1,6 +1,6 @@
 -- What a caller knows of a hub, and what its calls do.
-use Rattle.std.specs.Prelude.{◌≡◌, ℕ, List, [], ◌∷◌, ◌++◌, Option, None, Some, Bool, true, IsTrue, nat_eq, drop}
-use Rattle.std.specs.List.{filter}
+use Rattle.std.specs.Prelude.{◌≡◌, ◌≤◌, ℕ, List, [], ◌∷◌, ◌++◌, Option, None, Some, Bool, true, IsTrue, nat_eq, drop, length}
+use Rattle.std.specs.List.{AllByRecursion, filter}
 use Rattle.git_object.specs.Content.{Content}
 use Rattle.ref_store.specs.declared.command.Command.{Command}
 use Rattle.hub_core.specs.declared.verdict.Want.{Want}
@@ -15,36 +15,47 @@ use Rattle.hub_core.specs.Hub.{HubView, Stands}
 use Rattle.hub_core.specs.Answer.{kept, opened, AnswersOpening, settled, AnswersPush}
 
 -- admin: the name from whose setup the log is legal
+-- caller: the number that the caller's entries bear
+-- start: the place in the log from which on they are the caller's own
 -- seen: the beginning of the log that the caller knows
--- mine: the caller's own entries in it
--- alone: whether the hub is known to have no other caller; the entries of its only caller bear the number 0
+-- alone: whether the hub is known to have no other caller; its only caller has the number 0
 pub record DeskView : Type 0 where
   pub admin : Name
+  pub caller : ℕ
+  pub start : ℕ
   pub seen : List Entry
-  pub mine : List Entry
   pub alone : Bool
 
 -- the hub, as far as the caller knows it
 abbrev pub known : DeskView → HubView
 known desk = record { admin = desk.admin; log = desk.seen }
 
--- A call that makes an entry: the log had gone on, by entries of others, to what it was just before the call's own entry,
--- and the caller has then seen it up to that entry. A call that makes none leaves all as it was
-pub record MakesEntry (old new : DeskView) (before : List Entry) (event : Event) : Type 0 where
-  pub others : List Entry
-  pub entry : Entry
-  pub before_is : before ≡ old.seen ++ others
-  pub event_is : entry.event ≡ event
-  pub admin : new.admin ≡ old.admin
-  pub seen : new.seen ≡ before ++ entry ∷ []
-  pub mine : new.mine ≡ old.mine ++ entry ∷ []
-  pub alone : new.alone ≡ old.alone
-  pub no_others : IsTrue old.alone → (others ≡ []) × (entry.caller ≡ 0)
-  pub legal : IsLegal new.admin new.seen
+-- the entries of a log from a place on that bear a number
+abbrev pub entries_of : ℕ → ℕ → List Entry → List Entry
+entries_of caller start log = filter (λ (e : Entry). nat_eq e.caller caller) (drop start log)
 
+-- the caller's own entries
+abbrev pub mine : DeskView → List Entry
+mine desk = entries_of desk.caller desk.start desk.seen
+
+-- an entry of another caller
+abbrev pub IsOfAnother : ℕ → Entry → Type 0
+IsOfAnother caller e = ¬ (e.caller ≡ caller)
+
+-- An entry is made, and no other: the log had gone on, by entries of others, to what it was just before it, and the caller has then seen it up to it
+pub record MakesEntry (old new : DeskView) (before : List Entry) (entry : Entry) : Type 0 where
+  pub others : List Entry
+  pub before_is : before ≡ old.seen ++ others
+  pub of_others : AllByRecursion (IsOfAnother old.caller) others
+  pub own : entry.caller ≡ old.caller
+  pub new_is : new ≡ record old { seen = before ++ entry ∷ [] }
+  pub no_others : IsTrue old.alone → (others ≡ []) × (old.caller ≡ 0)
+  pub legal : IsLegal old.admin (before ++ entry ∷ [])
+
+-- A call that makes an entry for an event; one that makes none leaves all as it was
 abbrev pub Calls : DeskView → DeskView → List Entry → Option Event → Type 0
-Calls old new before None = (new ≡ old) × (before ≡ old.seen)
-Calls old new before (Some event) = MakesEntry old new before event
+Calls old new before None = new ≡ old
+Calls old new before (Some event) = MakesEntry old new before (record { caller = old.caller; event = event })
 
 -- an opening, answered by the log just before its own entry
 abbrev pub Enters : DeskView → DeskView → Name → Name → Want → Entered → Type 0
@@ -60,10 +71,11 @@ Pushes old new pin pack commands atomic result =
 abbrev pub KeepsPins : DeskView → DeskView → Type 0
 KeepsPins old new = (pin : Opening) → Stands pin (known old) → Stands pin (known new)
 
--- the entries of a log from a place on that bear a number
-abbrev pub entries_of : ℕ → ℕ → List Entry → List Entry
-entries_of caller start log = filter (λ (e : Entry). nat_eq e.caller caller) (drop start log)
-
 -- what the only caller of a hub knows, whose own entries begin at a place
 abbrev pub known_alone : ℕ → HubView → DeskView
-known_alone start hub = record { admin = hub.admin; seen = hub.log; mine = entries_of 0 start hub.log; alone = true }
+known_alone start hub = record { admin = hub.admin; caller = 0; start = start; seen = hub.log; alone = true }
+
+-- what every caller knows is legal, and its own entries begin within it
+pub record IsSound (desk : DeskView) : Type 0 where
+  pub legal : IsLegal desk.admin desk.seen
+  pub within : desk.start ≤ length desk.seen

@@ -1,10 +1,12 @@
 -- Laws of the definitions.
-use Rattle.std.specs.Prelude.{◌≡◌, ◌↔◌, ◌⊎◌, ℕ, ◌+◌, ◌≤◌, Bool, List, [], ◌∷◌, ◌++◌, length, take, Some}
+use Rattle.std.specs.Prelude.{◌≡◌, ◌↔◌, ◌⊎◌, ℕ, ◌+◌, ◌≤◌, Bool, true, List, [], ◌∷◌, ◌++◌, length, take, Some}
 use Rattle.std.specs.List.{slice_get}
 use Rattle.std.specs.FinMap.{get}
 use Rattle.git_object.specs.Content.{Content}
 use Rattle.ref_store.specs.declared.command.Command.{Command}
+use Rattle.git_object.specs.declared.object_id.ObjectId.{ObjectId}
 use Rattle.hub_core.specs.declared.outcome.Outcome.{Outcome}
+use Rattle.hub_core.specs.declared.outcome.Outcome.TheVariants.{Done, Stale}
 use Rattle.hub_core.specs.declared.verdict.Want.TheVariants.{Write}
 use Rattle.hub_core.specs.declared.entry.Entry.{Entry}
 use Rattle.hub_core.specs.declared.entry.EnterKept.{EnterKept}
@@ -12,8 +14,8 @@ use Rattle.hub_core.specs.declared.entry.EnterKept.TheVariants.{Granted, Created
 use Rattle.hub_core.specs.declared.entry.Event.TheVariants.{Entered, Pushed}
 use Rattle.hub_core.specs.Name.{Name}
 use Rattle.ref_store.specs.Objects.{HasNamesOnce}
-use Rattle.ref_store.specs.Refs.{HasRefsApart}
-use Rattle.hub_core.specs.State.{Repository, HasShortNames}
+use Rattle.ref_store.specs.Refs.{HasRefsApart, value}
+use Rattle.hub_core.specs.State.{Repository, State, HasShortNames, repository_at}
 use Rattle.hub_core.specs.Pin.{Opening, Pinned, pinned_in}
 use Rattle.hub_core.specs.Push.{AreWithinLimits, HasWholeRefs, outcomes_by_opening, outcomes_in}
 use Rattle.hub_core.specs.History.{history, replay, opening_at, pinned_by, outcomes_at, IsDue, IsLegal}
@@ -102,3 +104,51 @@ abbrev pub EachCommandIsTold : Type 0
 EachCommandIsTold =
     (now : Repository) (pinned : Pinned) (pack : List Content) (commands : List Command) (atomic : Bool)
     → length (outcomes_in now pack commands atomic (outcomes_by_opening pinned pack commands)) ≡ length commands
+
+-- a ref's value in a repository, zero where there is none
+abbrev pub ref_in : State → Name → Name → ObjectId
+ref_in state repo name = value (repository_at state repo).refs name
+
+-- an entry behind a log is a push into a repository, and one of its commands has this outcome
+pub record TellsCommand (admin : Name) (before : List Entry) (entry : Entry) (repo : Name) (command : Command) (outcome : Outcome) : Type 0 where
+  pub place : ℕ
+  pub pack : List Content
+  pub commands : List Command
+  pub atomic : Bool
+  pub outcomes : List Outcome
+  pub is_push : entry.event ≡ Pushed place pack commands atomic outcomes
+  pub pinned : Pinned
+  pub opening : opening_at (history admin before) place ≡ Some pinned
+  pub of_repo : pinned.repo ≡ repo
+  pub index : ℕ
+  pub command_is : slice_get commands index ≡ Some command
+  pub outcome_is : slice_get outcomes index ≡ Some outcome
+
+-- a command that is done moves its ref from the old value, which that had just before the push, to the new one
+abbrev pub DoneMoves : Type 0
+DoneMoves =
+    (admin : Name) (before : List Entry) (entry : Entry) (repo : Name) (command : Command) → IsLegal admin (before ++ entry ∷ []) → TellsCommand admin before entry repo command Done
+    → (ref_in (replay admin before) repo command.name ≡ command.old) × (ref_in (replay admin (before ++ entry ∷ [])) repo command.name ≡ command.new)
+
+-- and a ref's value changes nowhere else
+abbrev pub ChangesAreDone : Type 0
+ChangesAreDone =
+    (admin : Name) (before : List Entry) (entry : Entry) (repo name : Name) → IsLegal admin (before ++ entry ∷ [])
+    → ¬ (ref_in (replay admin (before ++ entry ∷ [])) repo name ≡ ref_in (replay admin before) repo name) → (command : Command) × TellsCommand admin before entry repo command Done × (command.name ≡ name)
+
+-- a command that is stale is told the value that its ref had just before the push, which isn't the old one
+abbrev pub StaleIsStale : Type 0
+StaleIsStale =
+    (admin : Name) (before : List Entry) (entry : Entry) (repo : Name) (command : Command) (is : ObjectId) → IsLegal admin (before ++ entry ∷ []) → TellsCommand admin before entry repo command (Stale is)
+    → (is ≡ ref_in (replay admin before) repo command.name) × ¬ (is ≡ command.old)
+
+-- an atomic push of which a command isn't done changes nothing
+abbrev pub RefusedAtomicChangesNothing : Type 0
+RefusedAtomicChangesNothing =
+    (admin : Name) (before : List Entry) (caller place : ℕ) (pack : List Content) (commands : List Command) (outcomes : List Outcome) (index : ℕ) (outcome : Outcome)
+    → IsLegal admin (before ++ record { caller = caller; event = Pushed place pack commands true outcomes } ∷ []) → slice_get outcomes index ≡ Some outcome → ¬ (outcome ≡ Done)
+    → replay admin (before ++ record { caller = caller; event = Pushed place pack commands true outcomes } ∷ []) ≡ replay admin before
+
+-- a repository's objects only grow: those that it has after a log begin those that it has after more
+abbrev pub ObjectsOnlyGrow : Type 0
+ObjectsOnlyGrow = (admin : Name) (log more : List Entry) (repo : Name) → (added : List Content) × ((repository_at (replay admin (log ++ more)) repo).objects ≡ (repository_at (replay admin log) repo).objects ++ added)

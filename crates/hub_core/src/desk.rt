@@ -2,7 +2,7 @@
 ghost use Rattle.std.specs.Prelude.{◌≡◌, ◌≤◌, length};
 ghost use Rattle.hub_core.specs.Hub.{Stands};
 ghost use Rattle.hub_core.specs.Push.{AreWithinLimits, judgement};
-ghost use Rattle.hub_core.specs.Desk.{DeskView, Enters, KeepsPins, known, Pushes};
+ghost use Rattle.hub_core.specs.Desk.{DeskView, Enters, IsSound, KeepsPins, known, Pushes};
 
 use crate::hub::{Entered, Hub, Pushed};
 use crate::judging::Judged;
@@ -15,13 +15,18 @@ use std::alloc::Global;
 
 /// One caller of a hub, of which there may be others.
 pub trait Desk {
-    /// The admin from whose setup the log is legal, the log as far as the caller has seen it, its own entries in it, and whether it is the only one.
+    /// The admin from whose setup the log is legal, the caller's number, the log as far as the caller has seen it, from where on entries with the
+    /// number are its own, and whether it is the only caller.
     ghost view: { Self → DeskView };
+
+    /// A desk as its calls leave it is one of the same hub.
+    ghost goes_on: { Self → Self → Type 0 };
 
     /// Opens a repository for a user.
     fn enter(&mut self, alloc: Global, user: &UserName, repo: &RepoName, want: Want) -> Entered
         ensures answers { Enters (view self.old) (view self.new) user.now repo.now want result }
-        ensures keeps { KeepsPins (view self.old) (view self.new) };
+        ensures keeps { KeepsPins (view self.old) (view self.new) }
+        ensures goes { goes_on self.old self.new };
 
     /// Settles a push that has been judged.
     fn push(
@@ -38,7 +43,16 @@ pub trait Desk {
         requires within { AreWithinLimits commands }
         requires judged { judged ≡ judgement pin.pinned pack commands }
         ensures answers { Pushes (view self.old) (view self.new) pin pack commands atomic result }
-        ensures keeps { KeepsPins (view self.old) (view self.new) };
+        ensures keeps { KeepsPins (view self.old) (view self.new) }
+        ensures goes { goes_on self.old self.new };
+
+    /// Tells that what the caller has seen is legal. It does nothing, and is called for its clause.
+    fn sound(&self)
+        ensures { IsSound (view self.now) };
+
+    ghost stays: { (desk : Self) → goes_on desk desk };
+
+    ghost composes: { (a b c : Self) → goes_on a b → goes_on b c → goes_on a c };
 }
 
 /// The only caller of a hub, whose number is 0.
@@ -50,13 +64,14 @@ pub struct LoneDesk {
 }
 
 impl LoneDesk {
-    ghost use Rattle.std.specs.Prelude.{◌≡◌, [], true};
-    ghost use Rattle.hub_core.specs.Desk.{known};
+    ghost use Rattle.std.specs.Prelude.{◌≡◌, [], length};
+    ghost use Rattle.hub_core.specs.Desk.{known, known_alone, mine};
     ghost use Rattle.hub_core.specs.LoneDesk.{desk_of};
 
     /// The desk's own entries are those that it will make.
     pub fn new(hub: Hub) -> LoneDesk
-        ensures { desk_of result ≡ record { admin = hub.admin; seen = hub.log; mine = []; alone = true } }
+        ensures desk { desk_of result ≡ known_alone (length hub.log) hub }
+        ensures none { mine (desk_of result) ≡ [] }
     {
         let start = hub.log().len();
         LoneDesk { hub, start }
@@ -71,9 +86,13 @@ impl LoneDesk {
 }
 
 impl Desk for LoneDesk {
-    ghost use Rattle.hub_core.specs.LoneDesk.{desk_of};
+    ghost use Rattle.std.specs.Prelude.{refl};
+    ghost use Rattle.std.proofs.Common.{◌∙◌};
+    ghost use Rattle.hub_core.specs.LoneDesk.{GoesOn, desk_of};
 
     ghost view = { desk_of };
+
+    ghost goes_on = { GoesOn };
 
     fn enter(&mut self, alloc: Global, user: &UserName, repo: &RepoName, want: Want) -> Entered {
         self.hub.enter(alloc, 0, user, repo, want)
@@ -91,4 +110,13 @@ impl Desk for LoneDesk {
         self.hub
             .settle(alloc, 0, pin, pack, commands, atomic, judged)
     }
+
+    fn sound(&self) {
+        // called for its clause that the log is legal
+        let _log = self.hub.log();
+    }
+
+    ghost stays = { λ desk. (refl, refl) };
+
+    ghost composes = { λ a b c one more. (more.0 ∙ one.0, more.1 ∙ one.1) };
 }

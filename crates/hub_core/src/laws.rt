@@ -1,5 +1,5 @@
 // Laws of the definitions.
-ghost use Rattle.hub_core.specs.Laws.{BeginningIsLegal, EachCommandIsTold, LegalByPlaces, NamesStayOnce, NamesStayShort, OpeningStays, PinsOfItsPlace, PushesNameOpenings, RefsStayApart, RefsStayWhole, RunsAreLegal, StateStays};
+ghost use Rattle.hub_core.specs.Laws.{BeginningIsLegal, ChangesAreDone, DoneMoves, EachCommandIsTold, LegalByPlaces, NamesStayOnce, NamesStayShort, ObjectsOnlyGrow, OpeningStays, PinsOfItsPlace, PushesNameOpenings, RefsStayApart, RefsStayWhole, RefusedAtomicChangesNothing, RunsAreLegal, StaleIsStale, StateStays};
 
 /// The laws hold, of every log.
 pub fn hold_laws()
@@ -15,4 +15,9 @@ pub fn hold_laws()
     ensures apart { RefsStayApart }
     ensures told { EachCommandIsTold }
     ensures runs { RunsAreLegal }
+    ensures moves { DoneMoves }
+    ensures changes { ChangesAreDone }
+    ensures stale { StaleIsStale }
+    ensures atomic { RefusedAtomicChangesNothing }
+    ensures grow { ObjectsOnlyGrow }
 {}

@@ -1,21 +1,24 @@
 -- What own entries leave of a desk.
-use Rattle.std.proofs.Common.{◌≡◌, Bool, List, [], ◌∷◌, ◌++◌, map, Option, None, Some, refl, sym, ◌∙◌, ap, subst, append_assoc}
-use Rattle.std.specs.Prelude.{IsTrue}
-use Rattle.std.proofs.lemmas.List.{append-nil}
+use Rattle.std.proofs.Common.{◌≡◌, ◌≤◌, ℕ, nat_eq, Bool, true, false, cond, List, [], ◌∷◌, ◌++◌, map, take, drop, length, Option, None, Some, refl, sym, ◌∙◌, ap, subst, append_assoc, arith, length-append}
+use Rattle.std.specs.Prelude.{IsTrue, if◌then◌else◌}
+use Rattle.std.specs.List.{AllByRecursion, filter}
+use Rattle.std.proofs.Math.Seq.{drop-length, take-length}
+use Rattle.std.proofs.lemmas.List.{append-nil, drop-append-le, take-append-le}
+use Rattle.std.proofs.lemmas.Bool.Decides.{nat_tests}
+use Rattle.std.proofs.lemmas.List.Elements.{filter-append}
 use Rattle.git_object.specs.Content.{Content}
 use Rattle.ref_store.specs.declared.command.Command.{Command}
 use Rattle.hub_core.specs.declared.outcome.Outcome.{Outcome}
 use Rattle.hub_core.specs.declared.entry.Entry.{Entry}
 use Rattle.hub_core.specs.declared.entry.Event.{Event}
 use Rattle.hub_core.specs.declared.entry.Event.TheVariants.{Entered, Pushed}
-use Rattle.hub_core.specs.Name.{Name}
 use Rattle.hub_core.specs.State.{State}
 use Rattle.hub_core.specs.Pin.{Pinned}
 use Rattle.hub_core.specs.History.{History, history_from, new_history, opening_at, IsDue, IsDuePush, IsLegal, IsLegalFrom, after}
-use Rattle.hub_core.specs.Desk.{DeskView}
-use Rattle.interaction_tree.specs.Requests.{request_of, due_outcomes, answered, OwnEntry, entry_of, asked}
-use Rattle.interaction_tree.specs.Runs.{MakesOwn, MakesAll}
-use Rattle.interaction_tree.specs.Growth.{GrowsBy}
+use Rattle.hub_core.specs.Desk.{DeskView, IsOfAnother, IsSound, MakesEntry, mine}
+use Rattle.interaction_tree.specs.Requests.{request_of, due_outcomes, answered, OwnEntry, AreAnswered, entry_of, asked, own_behind, own_in}
+use Rattle.interaction_tree.specs.Runs.{MakesAll}
+use Rattle.interaction_tree.specs.Growth.{GrowsBy, own_since}
 use Rattle.interaction_tree.specs.Alone.{IsAlone}
 
 -- the last entry of a legal log is due
@@ -32,33 +35,136 @@ pub due_answered : (h : History) (event : Event) → IsDue h event → event ≡
 due_answered h (Entered user repo want answer) due = λ i. Entered user repo want (due i)
 due_answered h (Pushed place pack commands atomic outcomes) due = λ i. Pushed place pack commands atomic (push_answered h.state (opening_at h place) pack commands atomic outcomes due i)
 
-module _ (a b : DeskView) (one : OwnEntry) (makes : MakesOwn a b one) where
-  seen_one : b.seen ≡ one.before ++ one.entry ∷ []
-  seen_one = makes.made.seen ∙ ap (λ (e : Entry). one.before ++ e ∷ []) makes.entry
+one_answered : (a b : DeskView) (one : OwnEntry) → MakesEntry a b one.before one.entry → one.entry.event ≡ answered (history_from (new_history a.admin) one.before) (asked one)
+one_answered a b one makes = due_answered (history_from (new_history a.admin) one.before) one.entry.event (last_due (new_history a.admin) one.before one.entry makes.legal)
 
-  one_answered : one.entry.event ≡ answered (history_from (new_history a.admin) one.before) (asked one)
-  one_answered =
-      let legal : IsLegal a.admin (one.before ++ one.entry ∷ []) = subst (λ (p : Name × List Entry). IsLegal p.0 p.1) (λ i. (makes.made.admin i, seen_one i)) makes.made.legal in
-      due_answered (history_from (new_history a.admin) one.before) one.entry.event (last_due (new_history a.admin) one.before one.entry legal)
+-- ---- entries that bear a number
 
-pub makes_grows : (a b : DeskView) (own : List OwnEntry) → MakesAll a b own → GrowsBy a b own
-makes_grows a b [] same = rw same (record { admin = refl; seen = ([], sym (append-nil a.seen)); mine = sym (append-nil a.mine); legal = λ legal. legal; answered = tt; alone = refl })
-makes_grows a b (one ∷ own) p =
+by_number : {X : Type 0} (n caller : ℕ) (own other : X) → n ≡ caller → (if nat_eq n caller then own else other) ≡ own
+by_number n caller own other is = go (nat_eq n caller) refl where
+  go : (b : Bool) → nat_eq n caller ≡ b → (if b then own else other) ≡ own
+  go true e = refl
+  go false e = absurd (grind (arith, nat_tests))
+
+by_another : {X : Type 0} (n caller : ℕ) (own other : X) → ¬ (n ≡ caller) → (if nat_eq n caller then own else other) ≡ other
+by_another n caller own other apart = go (nat_eq n caller) refl where
+  go : (b : Bool) → nat_eq n caller ≡ b → (if b then own else other) ≡ other
+  go true e = absurd (apart (grind (arith, nat_tests)))
+  go false e = refl
+
+-- entries of others are passed over
+behind_others : (caller : ℕ) (before others rest : List Entry) → AllByRecursion (IsOfAnother caller) others → own_behind caller before (others ++ rest) ≡ own_behind caller (before ++ others) rest
+behind_others caller before [] rest of_others = ap (λ (l : List Entry). own_behind caller l rest) (sym (append-nil before))
+behind_others caller before (e ∷ others) rest of_others =
+    by_another e.caller caller _ _ of_others.0
+    ∙ behind_others caller (before ++ e ∷ []) others rest of_others.1
+    ∙ ap (λ (l : List Entry). own_behind caller l rest) (append_assoc before (e ∷ []) others)
+
+-- the next own one
+behind_own : (caller : ℕ) (before rest : List Entry) (e : Entry) → e.caller ≡ caller
+    → own_behind caller before (e ∷ rest) ≡ record { before = before; entry = e } ∷ own_behind caller (before ++ e ∷ []) rest
+behind_own caller before rest e is = by_number e.caller caller _ _ is
+
+-- what stands behind a place of a log
+own_in_is : (caller : ℕ) (log more : List Entry) → own_in caller (length log) (log ++ more) ≡ own_behind caller log more
+own_in_is caller log more = (λ i. own_behind caller (front i) (back i)) where
+  within : length log ≤ length log
+  within = omega arith
+
+  front : take (length log) (log ++ more) ≡ log
+  front = take-append-le (length log) log more within ∙ take-length log
+
+  back : drop (length log) (log ++ more) ≡ more
+  back = drop-append-le (length log) log more within ∙ ap (λ (l : List Entry). l ++ more) (drop-length log)
+
+-- none of others', appended, is one
+behind_appended : (caller : ℕ) (before log others : List Entry) → AllByRecursion (IsOfAnother caller) others → own_behind caller before (log ++ others) ≡ own_behind caller before log
+behind_appended caller before [] others of_others =
+    ap (λ (l : List Entry). own_behind caller before l) (sym (append-nil others)) ∙ behind_others caller before others [] of_others
+behind_appended caller before (e ∷ log) others of_others =
+    ap (λ (l : List OwnEntry). if nat_eq e.caller caller then record { before = before; entry = e } ∷ l else l) (behind_appended caller (before ++ e ∷ []) log others of_others)
+
+pub others_not_own : (caller place : ℕ) (log others : List Entry) → place ≤ length log → AllByRecursion (IsOfAnother caller) others → own_in caller place (log ++ others) ≡ own_in caller place log
+others_not_own caller place log others within of_others =
+    (λ i. own_behind caller (take-append-le place log others within i) (drop-append-le place log others within i))
+    ∙ behind_appended caller (take place log) (drop place log) others of_others
+
+-- they are the entries of the number
+entries_behind : (caller : ℕ) (before log : List Entry) → map entry_of (own_behind caller before log) ≡ filter (λ (e : Entry). nat_eq e.caller caller) log
+entries_behind caller before [] = refl
+entries_behind caller before (e ∷ log) = go (nat_eq e.caller caller) (entries_behind caller (before ++ e ∷ []) log) where
+  go : (b : Bool) → map entry_of (own_behind caller (before ++ e ∷ []) log) ≡ filter (λ (e : Entry). nat_eq e.caller caller) log
+      → map entry_of (if b then record { before = before; entry = e } ∷ own_behind caller (before ++ e ∷ []) log else own_behind caller (before ++ e ∷ []) log)
+      ≡ cond b (e ∷ filter (λ (e : Entry). nat_eq e.caller caller) log) (filter (λ (e : Entry). nat_eq e.caller caller) log)
+  go true same = ap (λ (l : List Entry). e ∷ l) same
+  go false same = same
+
+-- ---- what was made, one entry after the other
+
+-- the view goes on, and what was made are the entries of the number in what it goes on by
+record Goes (a b : DeskView) (own : List OwnEntry) : Type 0 where
+  more : List Entry
+  new_is : b ≡ record a { seen = a.seen ++ more }
+  own_is : own ≡ own_behind a.caller a.seen more
+  legal : IsLegal a.admin a.seen → IsLegal a.admin (a.seen ++ more)
+  answered : AreAnswered a.admin own
+
+makes_goes : (a b : DeskView) (own : List OwnEntry) → MakesAll a b own → Goes a b own
+makes_goes a b [] same = record {
+  more = [];
+  new_is = same ∙ ap (λ (l : List Entry). record a { seen = l }) (sym (append-nil a.seen));
+  own_is = refl;
+  legal = λ legal. subst (IsLegal a.admin) (sym (append-nil a.seen)) legal;
+  answered = tt;
+}
+makes_goes a b (one ∷ own) p =
     let mid = p.0 in
     let makes = p.1 in
-    let ih = makes_grows mid b own p.2 in
+    let later = makes_goes mid b own p.2 in
+    let more : List Entry = makes.others ++ (one.entry ∷ later.more) in
+    let seen : (one.before ++ one.entry ∷ []) ++ later.more ≡ a.seen ++ more =
+    append_assoc one.before (one.entry ∷ []) later.more ∙ ap (λ (l : List Entry). l ++ one.entry ∷ later.more) makes.before_is ∙ append_assoc a.seen makes.others (one.entry ∷ later.more) in
+    let mid_is : mid ≡ record a { seen = one.before ++ one.entry ∷ [] } = makes.new_is in
     record {
-      admin = ih.admin ∙ makes.made.admin;
-      seen = (
-        makes.made.others ++ (one.entry ∷ ih.seen.0),
-        ih.seen.1 ∙ ap (λ (l : List Entry). l ++ ih.seen.0) (seen_one a mid one makes ∙ ap (λ (l : List Entry). l ++ one.entry ∷ []) makes.made.before_is)
-            ∙ append_assoc (a.seen ++ makes.made.others) (one.entry ∷ []) ih.seen.0 ∙ append_assoc a.seen makes.made.others (one.entry ∷ ih.seen.0),
-      );
-      mine = ih.mine ∙ ap (λ (l : List Entry). l ++ map entry_of own) (makes.made.mine ∙ ap (λ (e : Entry). a.mine ++ e ∷ []) makes.entry) ∙ append_assoc a.mine (one.entry ∷ []) (map entry_of own);
-      legal = λ legal. ih.legal makes.made.legal;
-      answered = (one_answered a mid one makes, rw makes.made.admin at ih.answered);
-      alone = ih.alone ∙ makes.made.alone;
+      more = more;
+      new_is = later.new_is ∙ ap (λ (d : DeskView). record d { seen = d.seen ++ later.more }) mid_is ∙ ap (λ (l : List Entry). record a { seen = l }) seen;
+      own_is =
+          ap (λ (l : List OwnEntry). one ∷ l) (later.own_is ∙ ap (λ (d : DeskView). own_behind d.caller d.seen later.more) mid_is)
+          ∙ sym (behind_own a.caller one.before later.more one.entry makes.own)
+          ∙ ap (λ (l : List Entry). own_behind a.caller l (one.entry ∷ later.more)) makes.before_is
+          ∙ sym (behind_others a.caller a.seen makes.others (one.entry ∷ later.more) makes.of_others);
+      legal = λ legal.
+          let mid_legal : IsLegal mid.admin mid.seen = subst (λ (d : DeskView). IsLegal d.admin d.seen) (sym mid_is) makes.legal in
+          subst (IsLegal a.admin) seen (subst (λ (d : DeskView). IsLegal d.admin (d.seen ++ later.more)) mid_is (later.legal mid_legal));
+      answered = (one_answered a mid one makes, subst (λ (d : DeskView). AreAnswered d.admin own) mid_is later.answered);
     }
+
+-- what was made are the entries that the view has since
+pub made_since : (a b : DeskView) (own : List OwnEntry) → MakesAll a b own → own ≡ own_since a b
+made_since a b own made =
+    let goes = makes_goes a b own made in
+    goes.own_is ∙ sym (own_in_is a.caller a.seen goes.more) ∙ ap (λ (d : DeskView). own_in a.caller (length a.seen) d.seen) (sym goes.new_is)
+
+pub makes_grows : (a b : DeskView) (own : List OwnEntry) → IsSound a → MakesAll a b own → IsSound b × GrowsBy a b own
+makes_grows a b own sound made =
+    let goes = makes_goes a b own made in (
+      subst IsSound (sym goes.new_is) (record { legal = goes.legal sound.legal; within = further a.seen goes.more sound.within }),
+      record {
+        made = made;
+        more = goes.more;
+        new_is = goes.new_is;
+        own_is = made_since a b own made;
+        mine_is =
+            ap mine goes.new_is
+            ∙ ap (filter (λ (e : Entry). nat_eq e.caller a.caller)) (drop-append-le a.start a.seen goes.more sound.within)
+            ∙ filter-append (λ (e : Entry). nat_eq e.caller a.caller) (drop a.start a.seen) goes.more
+            ∙ ap (λ (l : List Entry). mine a ++ l) (sym (entries_behind a.caller a.seen goes.more) ∙ ap (map entry_of) (sym goes.own_is));
+        answered = goes.answered;
+      },
+    )
+  where
+    further : (seen more : List Entry) → a.start ≤ length seen → a.start ≤ length (seen ++ more)
+    further seen more within = omega (arith, within, length-append seen more)
 
 -- at the desk of a hub's only caller each entry stands right behind the one before
 pub makes_alone : (a b : DeskView) (own : List OwnEntry) → IsTrue a.alone → MakesAll a b own → IsAlone a.admin a.seen own b.seen
@@ -66,14 +172,14 @@ makes_alone a b [] alone same = ap (λ (d : DeskView). d.seen) same
 makes_alone a b (one ∷ own) alone p =
     let mid = p.0 in
     let makes = p.1 in
-    let no_others = makes.made.no_others alone in
-    let before : one.before ≡ a.seen = makes.made.before_is ∙ ap (λ (l : List Entry). a.seen ++ l) no_others.0 ∙ append-nil a.seen in
-    let caller : one.entry.caller ≡ 0 = ap (λ (e : Entry). e.caller) (sym makes.entry) ∙ no_others.1 in
+    let no_others = makes.no_others alone in
+    let before : one.before ≡ a.seen = makes.before_is ∙ ap (λ (l : List Entry). a.seen ++ l) no_others.0 ∙ append-nil a.seen in
+    let caller : one.entry.caller ≡ 0 = makes.own ∙ no_others.1 in
     let event : one.entry.event ≡ answered (history_from (new_history a.admin) a.seen) (asked one) =
     one_answered a mid one makes ∙ ap (λ (l : List Entry). answered (history_from (new_history a.admin) l) (asked one)) before in
-    let ih = makes_alone mid b own (subst (λ (x : Bool). IsTrue x) (sym makes.made.alone) alone) p.2 in
-    let seen : mid.seen ≡ a.seen ++ one.entry ∷ [] = seen_one a mid one makes ∙ ap (λ (l : List Entry). l ++ one.entry ∷ []) before in (
+    let mid_is : mid ≡ record a { seen = a.seen ++ one.entry ∷ [] } = makes.new_is ∙ ap (λ (l : List Entry). record a { seen = l ++ one.entry ∷ [] }) before in
+    let ih = makes_alone mid b own (subst (λ (d : DeskView). IsTrue d.alone) (sym mid_is) alone) p.2 in (
       before,
       (λ i. record { caller = caller i; event = event i }),
-      subst (λ (p : Name × List Entry). IsAlone p.0 p.1 own b.seen) (λ i. (makes.made.admin i, seen i)) ih,
+      subst (λ (d : DeskView). IsAlone d.admin d.seen own b.seen) mid_is ih,
     )

@@ -1,5 +1,5 @@
 -- What code keeps that ran an interaction, by its end.
-use Rattle.std.proofs.Common.{◌≡◌, ◌⊎◌, inl, inr, ℕ, false, List, [], ◌++◌, Option, None, Some, Err, refl}
+use Rattle.std.proofs.Common.{◌≡◌, ◌⊎◌, inl, inr, ℕ, false, List, [], ◌++◌, Option, None, Some, Err, refl, subst}
 use Rattle.std.specs.Bool.{⊤}
 use Rattle.std.specs.Io.KnownBytes.{IsAtEnd, Consumes}
 use Rattle.base_types.specs.Counts.{HasRisen}
@@ -10,6 +10,9 @@ use Rattle.interaction_tree.specs.Traces.{Halt, Reading, Writing, Memory, Ended,
 use Rattle.interaction_tree.specs.Runs.{Runs}
 use Rattle.interaction_tree.specs.Order.{IsOrdered}
 use Rattle.interaction_tree.specs.Endings.{IsInput, TakesTurn}
+use Rattle.interaction_tree.specs.Growth.{own_since}
+use Rattle.interaction_tree.specs.Requests.{OwnEntry}
+use Rattle.interaction_tree.proofs.DeskLemmas.{made_since}
 use Rattle.interaction_tree.proofs.TurnLemmas.{trace_ended, trace_reading, writing_used, memory_used, trace_short, trace_lacked}
 use Rattle.interaction_tree.proofs.WrittenLemmas.{writing_before, memory_before}
 use Rattle.interaction_tree.proofs.OrderLemmas.{trace_writing}
@@ -29,32 +32,28 @@ is_input None b read consumed = tt
 is_input (Some xs) None read consumed = absurd consumed
 is_input (Some xs) (Some ys) read consumed = consumed
 
-pub runs_turn : {E A : Type 0} (a b : LinkState) (d e : DeskView) (t : Interaction E A) (halt : Halt E) → IsOrdered t → Runs a b d e t (Err halt) → TakesTurn a b d e t halt
-runs_turn a b d e t (Ended end) ordered p =
+runs_meets : {E A : Type 0} (a b : LinkState) (d e : DeskView) (t : Interaction E A) (halt : Halt E) → IsOrdered t → (p : Runs a b d e t (Err halt)) → TakesTurn a b p.own t halt
+runs_meets a b d e t (Ended end) ordered p =
     let is = trace_ended b.left end t p.read p.written p.own (left_of b.left) (none_left b.left) p.trace in
     record {
       input = p.read ++ left_of b.left;
-      own = p.own;
       told = is_input a.left b.left p.read p.consumed;
-      made = p.made;
       read = rw is p.consumed;
       counted = rw is p.counted;
       entries = rw is refl;
       written = rw is p.appended;
       end_is = rw is refl;
     }
-runs_turn a b d e t (Failed Reading) ordered p =
+runs_meets a b d e t (Failed Reading) ordered p =
     let is = trace_reading b.left t p.read p.written p.own p.trace in
-    record { part = p.read; own = p.own; made = p.made; read = p.consumed; counted = p.counted; used = rw is refl; waits = rw is refl; entries = rw is refl; written = rw is p.appended; risen = p.caused.0; may_fail = p.caused.1 }
-runs_turn a b d e t (Failed Writing) ordered p =
+    record { part = p.read; read = p.consumed; counted = p.counted; used = rw is refl; waits = rw is refl; entries = rw is refl; written = rw is p.appended; risen = p.caused.0; may_fail = p.caused.1 }
+runs_meets a b d e t (Failed Writing) ordered p =
     let short = trace_short b.left t p.read p.written p.own p.trace in
     record {
       part = p.read;
       bytes = p.written;
-      own = p.own;
       extent = short.0;
       is_extent = short.1;
-      made = p.made;
       read = p.consumed;
       counted = p.counted;
       used = writing_used short.0 b.left t p.read p.written p.own p.trace;
@@ -65,15 +64,13 @@ runs_turn a b d e t (Failed Writing) ordered p =
       risen = p.caused.0;
       may_fail = p.caused.1;
     }
-runs_turn a b d e t (Failed Memory) ordered p =
+runs_meets a b d e t (Failed Memory) ordered p =
     let begins = trace_lacked b.left t p.read p.written p.own p.trace in
     record {
       part = p.read;
       bytes = p.written;
-      own = p.own;
       extent = begins.0;
       is_extent = begins.1;
-      made = p.made;
       read = p.consumed;
       counted = p.counted;
       used = memory_used begins.0 b.left t p.read p.written p.own p.trace;
@@ -83,9 +80,12 @@ runs_turn a b d e t (Failed Memory) ordered p =
       before = memory_before b.left t p.read p.written p.own p.trace;
     }
 
-pub ends_or_lacks : {E A : Type 0} (a b : LinkState) (d e : DeskView) (t : Interaction E A) (halt : Halt E) → (HasRisen a.read_faults b.read_faults → ⊥) → (HasRisen a.write_faults b.write_faults → ⊥) → TakesTurn a b d e t halt
+pub runs_turn : {E A : Type 0} (a b : LinkState) (d e : DeskView) (t : Interaction E A) (halt : Halt E) → IsOrdered t → Runs a b d e t (Err halt) → TakesTurn a b (own_since d e) t halt
+runs_turn a b d e t halt ordered p = subst (λ (own : List OwnEntry). TakesTurn a b own t halt) (made_since d e p.own p.made) (runs_meets a b d e t halt ordered p)
+
+pub ends_or_lacks : {E A : Type 0} (a b : LinkState) (own : List OwnEntry) (t : Interaction E A) (halt : Halt E) → (HasRisen a.read_faults b.read_faults → ⊥) → (HasRisen a.write_faults b.write_faults → ⊥) → TakesTurn a b own t halt
     → ((end : E) × (halt ≡ Ended end)) ⊎ (halt ≡ Failed Memory)
-ends_or_lacks a b d e t (Ended end) reads writes turn = inl (end, refl)
-ends_or_lacks a b d e t (Failed Reading) reads writes turn = absurd (reads turn.risen)
-ends_or_lacks a b d e t (Failed Writing) reads writes turn = absurd (writes turn.risen)
-ends_or_lacks a b d e t (Failed Memory) reads writes turn = inr refl
+ends_or_lacks a b own t (Ended end) reads writes turn = inl (end, refl)
+ends_or_lacks a b own t (Failed Reading) reads writes turn = absurd (reads turn.risen)
+ends_or_lacks a b own t (Failed Writing) reads writes turn = absurd (writes turn.risen)
+ends_or_lacks a b own t (Failed Memory) reads writes turn = inr refl

@@ -7,9 +7,8 @@ use Rattle.pktline_core.specs.Packets as packets
 use Rattle.pktline_core.specs.Packets.{packet_front}
 use Rattle.pktline_core.specs.declared.packets.PktFault.{PktFault}
 use Rattle.hub_core.specs.declared.verdict.Want.TheVariants.{Read}
-use Rattle.hub_core.specs.Desk.{DeskView}
 use Rattle.interaction_tree.specs.Wanted.{Packet, front_of}
-use Rattle.interaction_tree.specs.Requests.{Request, Enter}
+use Rattle.interaction_tree.specs.Requests.{OwnEntry, Request, Enter}
 use Rattle.interaction_tree.specs.Interaction.{Interaction, gives, ends, writes, ◌>>=◌, write, read, ask}
 use Rattle.interaction_tree.specs.Turns.{Stop, Gave, Ended, Unanswered, Waiting, turn_over, turn, due}
 use Rattle.interaction_tree.specs.Order.{EntriesFirst, IsOrdered}
@@ -61,14 +60,14 @@ ended_waits : (stop : Stop ℕ (Unit {0})) → stop ≡ Ended 1 → stop ≡ Wai
 ended_waits stop ended waits = absurd cc
 
 -- a session that has ended fails no read
-ended_reads_no_more : (link link' : LinkState) (desk desk' : DeskView) → FailsReading {E = ℕ} {A = Unit {0}} link link' desk desk' (ends 1) → ⊥
+ended_reads_no_more : (link link' : LinkState) (own : List OwnEntry) → FailsReading {E = ℕ} {A = Unit {0}} link link' own (ends 1) → ⊥
 unfolding turn_over
-ended_reads_no_more link link' desk desk' fails = ended_waits (Ended 1) refl fails.waits
+ended_reads_no_more link link' own fails = ended_waits (Ended 1) refl fails.waits
 
 -- nothing is read before a write that fails, where nothing is wanted
-writes_unread : (link link' : LinkState) (desk desk' : DeskView) → (fails : FailsWriting {E = ℕ} {A = Unit {0}} link link' desk desk' (writes (codes "hello") (ends 1))) → fails.part ≡ []
+writes_unread : (link link' : LinkState) (own : List OwnEntry) → (fails : FailsWriting {E = ℕ} {A = Unit {0}} link link' own (writes (codes "hello") (ends 1))) → fails.part ≡ []
 unfolding turn_over
-writes_unread link link' desk desk' fails = sym fails.used
+writes_unread link link' own fails = sym fails.used
 
 -- an entry, and then bytes
 then_greets : List ℕ → Interaction ℕ (Unit {0})

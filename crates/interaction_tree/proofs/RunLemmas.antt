@@ -10,12 +10,12 @@ use Rattle.pktline_core.specs.declared.links.WriteFault.{WriteFault}
 use Rattle.pktline_core.specs.declared.links.WriteFault.TheVariants as write
 use Rattle.pktline_core.proofs.LinkLemmas.{appends_more, consumes_more, later_same, later_more, risen_later}
 use Rattle.raw_pack.specs.Reading.{IsNoMore}
-use Rattle.hub_core.specs.Desk.{DeskView}
+use Rattle.hub_core.specs.Desk.{DeskView, MakesEntry}
 use Rattle.interaction_tree.specs.Wanted.{Wanted, Value, Fault, front_of, Reply, shown}
 use Rattle.interaction_tree.specs.Requests.{OwnEntry, asked}
 use Rattle.interaction_tree.specs.Interaction.{CutOff, Interaction, gives, ends, writes, reads, ◌>>=◌, write, read, ask}
 use Rattle.interaction_tree.specs.Traces.{Reading, Writing, Memory, Halt, Ended, Failed, IsTrace}
-use Rattle.interaction_tree.specs.Runs.{MakesOwn, MakesAll, IsCaused, Runs, TakesOnly, WritesOnly}
+use Rattle.interaction_tree.specs.Runs.{MakesAll, IsCaused, Runs, TakesOnly, WritesOnly}
 use Rattle.interaction_tree.specs.Steps.{written_as}
 use Rattle.interaction_tree.proofs.TraceLemmas.{trace_memory, trace_bind, trace_halts}
 
@@ -201,7 +201,7 @@ module _ {E : Type 0} (a b : LinkState) (d : DeskView) (taken : List ℕ) (takes
 
 -- ---- an entry
 
-pub runs_ask : {E : Type 0} (a : LinkState) (d e : DeskView) (one : OwnEntry) → MakesOwn d e one → Runs {E = E} a a d e (ask (asked one)) (Ok one.before)
+pub runs_ask : {E : Type 0} (a : LinkState) (d e : DeskView) (one : OwnEntry) → MakesEntry d e one.before one.entry → Runs {E = E} a a d e (ask (asked one)) (Ok one.before)
 unfolding ask
 runs_ask a d e one makes = record {
   read = [];

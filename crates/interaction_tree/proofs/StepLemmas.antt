@@ -1,5 +1,5 @@
 -- Calls of the crates below, as steps of an interaction.
-use Rattle.std.proofs.Common.{◌≡◌, inl, inr, ℕ, ◌+◌, Bool, List, [], length, Some, Result, Ok, Err, refl, sym, ◌∙◌, ap, subst, arith}
+use Rattle.std.proofs.Common.{◌≡◌, inl, inr, ℕ, ◌+◌, Bool, List, [], length, Some, Result, Ok, Err, refl, sym, ◌∙◌, subst, arith}
 use Rattle.std.proofs.lemmas.List.{append-nil}
 use Rattle.std.specs.Io.KnownBytes.{IsAtEnd}
 use Rattle.git_object.specs.Content.{Content}
@@ -18,7 +18,6 @@ use Rattle.hub_core.specs.declared.outcome.Outcome.{Outcome}
 use Rattle.hub_core.specs.declared.verdict.Want.{Want}
 use Rattle.hub_core.specs.declared.entry.Entry.{Entry}
 use Rattle.hub_core.specs.declared.entry.EnterKept.{EnterKept}
-use Rattle.hub_core.specs.declared.entry.Event.{Event}
 use Rattle.hub_core.specs.declared.entry.Event.TheVariants.{Entered, Pushed}
 use Rattle.hub_core.specs.declared.hub.Entered as hub_entered
 use Rattle.hub_core.specs.declared.hub.Pushed.TheVariants.{Settled}
@@ -27,10 +26,10 @@ use Rattle.hub_core.specs.Pin.{Opening}
 use Rattle.hub_core.specs.Answer.{kept}
 use Rattle.hub_core.specs.Desk.{DeskView, MakesEntry, Enters, Pushes}
 use Rattle.interaction_tree.specs.Wanted.{Packet, Pack, front_of, Reply}
-use Rattle.interaction_tree.specs.Requests.{Request, Enter, Push, request_of}
+use Rattle.interaction_tree.specs.Requests.{Enter, Push, request_of}
 use Rattle.interaction_tree.specs.Interaction.{CutOff, Interaction, gives, ends, writes, ◌>>=◌, read, ask}
 use Rattle.interaction_tree.specs.Traces.{Reading, Memory, Halt, Ended, Failed}
-use Rattle.interaction_tree.specs.Runs.{MakesOwn, Runs, TakesOnly}
+use Rattle.interaction_tree.specs.Runs.{Runs, TakesOnly}
 use Rattle.interaction_tree.specs.Steps.{packet_as, IsOfPack}
 use Rattle.interaction_tree.proofs.RunLemmas.{runs_still, runs_ask, runs_bind, runs_read, runs_failed, runs_lacked, runs_cut}
 
@@ -98,22 +97,16 @@ module _ {E : Type 0} (a b : LinkState) (d : DeskView) (keeps : KeepsWriting a b
 
 -- ---- the desk
 
-makes_own : (a b : DeskView) (before : List Entry) (event : Event) → (m : MakesEntry a b before event) → MakesOwn a b (record { before = before; entry = m.entry })
-makes_own a b before event m = record {
-  made = record { others = m.others; entry = m.entry; before_is = m.before_is; event_is = refl; admin = m.admin; seen = m.seen; mine = m.mine; alone = m.alone; no_others = m.no_others; legal = m.legal };
-  entry = refl;
-}
-
 -- an entry was made
-pub runs_made : {E : Type 0} (a : LinkState) (d e : DeskView) (before : List Entry) (event : Event) → MakesEntry d e before event → Runs {E = E} a a d e (ask (request_of event)) (Ok before)
-runs_made {E} a d e before event m = subst (λ (request : Request). Runs {E = E} a a d e (ask request) (Ok before)) (ap request_of m.event_is) (runs_ask a d e (record { before = before; entry = m.entry }) (makes_own d e before event m))
+pub runs_made : {E : Type 0} (a : LinkState) (d e : DeskView) (before : List Entry) (entry : Entry) → MakesEntry d e before entry → Runs {E = E} a a d e (ask (request_of entry.event)) (Ok before)
+runs_made a d e before entry makes = runs_ask a d e (record { before = before; entry = entry }) makes
 
 -- a repository was opened, or not
 pub runs_entered : {E : Type 0} (a : LinkState) (d e : DeskView) (user repo : Name) (want : Want) (result : hub_entered.Entered) (answer : EnterKept) → kept result ≡ Some answer → (enters : Enters d e user repo want result)
     → Runs {E = E} a a d e (ask (Enter user repo want)) (Ok enters.0)
-runs_entered a d e user repo want result answer is enters = runs_made a d e enters.0 (Entered user repo want answer) (rw is at enters.1)
+runs_entered a d e user repo want result answer is enters = runs_made a d e enters.0 (record { caller = d.caller; event = Entered user repo want answer }) (rw is at enters.1)
 
 -- a push was settled
 pub runs_pushed : {E : Type 0} (a : LinkState) (d e : DeskView) (pin : Opening) (contents : List Content) (commands : List Command) (atomic : Bool) (outcomes : List Outcome) → (pushes : Pushes d e pin contents commands atomic (Settled outcomes))
     → Runs {E = E} a a d e (ask (Push pin.place contents commands atomic)) (Ok pushes.0)
-runs_pushed a d e pin contents commands atomic outcomes pushes = runs_made a d e pushes.0 (Pushed pin.place contents commands atomic outcomes) pushes.1
+runs_pushed a d e pin contents commands atomic outcomes pushes = runs_made a d e pushes.0 (record { caller = d.caller; event = Pushed pin.place contents commands atomic outcomes }) pushes.1

@@ -3,13 +3,11 @@ use Rattle.std.specs.Prelude.{◌≡◌, ⊤, ℕ, ◌+◌, List, length, IsTrue
 use Rattle.std.specs.Io.KnownBytes.{Consumes, Appends, IsAtEnd}
 use Rattle.base_types.specs.Counts.{HasRisen}
 use Rattle.pktline_core.specs.LinkState.{LinkState}
-use Rattle.hub_core.specs.Desk.{DeskView}
 use Rattle.interaction_tree.specs.Requests.{OwnEntry, asked, log_before}
 use Rattle.interaction_tree.specs.Interaction.{Interaction}
 use Rattle.interaction_tree.specs.Turns.{Extent, Closed, Open, turn_over, turn, due}
 use Rattle.interaction_tree.specs.Turns as stop
 use Rattle.interaction_tree.specs.Traces.{Reading, Writing, Memory, Halt, Ended, Failed, Begins, FallsShort}
-use Rattle.interaction_tree.specs.Runs.{MakesAll}
 
 -- the link's input, where it tells it
 abbrev pub IsInput : Option (List ℕ) → List ℕ → Type 0
@@ -22,11 +20,9 @@ IsExtent left Closed = IsAtEnd left
 IsExtent left Open = ⊤
 
 -- What was read is the used beginning of the input, the own entries are the ones due, what was written are the bytes due, and the end is the turn's.
-pub record EndsAsDue {E A : Type 0} (link link' : LinkState) (desk desk' : DeskView) (t : Interaction E A) (end : E) : Type 0 where
+pub record EndsAsDue {E A : Type 0} (link link' : LinkState) (own : List OwnEntry) (t : Interaction E A) (end : E) : Type 0 where
   pub input : List ℕ
-  pub own : List OwnEntry
   pub told : IsInput link.left input
-  pub made : MakesAll desk desk' own
   pub read : Consumes link.left link'.left (turn t input (map log_before own)).used
   pub counted : link'.given ≡ link.given + length (turn t input (map log_before own)).used
   pub entries : map asked own ≡ (turn t input (map log_before own)).requests
@@ -35,10 +31,8 @@ pub record EndsAsDue {E A : Type 0} (link link' : LinkState) (desk desk' : DeskV
 
 -- After a part of the input a read failed where more is wanted, and all of that part is used. What was written is due of it, and the own entries
 -- are the ones due by it.
-pub record FailsReading {E A : Type 0} (link link' : LinkState) (desk desk' : DeskView) (t : Interaction E A) : Type 0 where
+pub record FailsReading {E A : Type 0} (link link' : LinkState) (own : List OwnEntry) (t : Interaction E A) : Type 0 where
   pub part : List ℕ
-  pub own : List OwnEntry
-  pub made : MakesAll desk desk' own
   pub read : Consumes link.left link'.left part
   pub counted : link'.given ≡ link.given + length part
   pub used : (due t part (map log_before own)).used ≡ part
@@ -50,13 +44,11 @@ pub record FailsReading {E A : Type 0} (link link' : LinkState) (desk desk' : De
 
 -- After a part of the input a write failed, and all of that part is used. The own entries are the ones due by it, and what was written falls short
 -- of what is due of it or, where all of the input was read, of the whole; what is due of each shorter part was written before more was read.
-pub record FailsWriting {E A : Type 0} (link link' : LinkState) (desk desk' : DeskView) (t : Interaction E A) : Type 0 where
+pub record FailsWriting {E A : Type 0} (link link' : LinkState) (own : List OwnEntry) (t : Interaction E A) : Type 0 where
   pub part : List ℕ
   pub bytes : List ℕ
-  pub own : List OwnEntry
   pub extent : Extent
   pub is_extent : IsExtent link'.left extent
-  pub made : MakesAll desk desk' own
   pub read : Consumes link.left link'.left part
   pub counted : link'.given ≡ link.given + length part
   pub used : (turn_over extent t part (map log_before own)).used ≡ part
@@ -69,13 +61,11 @@ pub record FailsWriting {E A : Type 0} (link link' : LinkState) (desk desk' : De
 
 -- After a part of the input memory lacked, and all of that part is used. The own entries begin the ones due by it, and what was written begins what
 -- is due of it or, where all of the input was read, of the whole; what is due of each shorter part was written before more was read.
-pub record LacksMemory {E A : Type 0} (link link' : LinkState) (desk desk' : DeskView) (t : Interaction E A) : Type 0 where
+pub record LacksMemory {E A : Type 0} (link link' : LinkState) (own : List OwnEntry) (t : Interaction E A) : Type 0 where
   pub part : List ℕ
   pub bytes : List ℕ
-  pub own : List OwnEntry
   pub extent : Extent
   pub is_extent : IsExtent link'.left extent
-  pub made : MakesAll desk desk' own
   pub read : Consumes link.left link'.left part
   pub counted : link'.given ≡ link.given + length part
   pub used : (turn_over extent t part (map log_before own)).used ≡ part
@@ -84,9 +74,9 @@ pub record LacksMemory {E A : Type 0} (link link' : LinkState) (desk desk' : Des
   pub begins : Begins bytes (turn_over extent t part (map log_before own)).bytes
   pub before : (front : List ℕ) → FallsShort front part → Begins (due t front (map log_before own)).bytes bytes
 
--- a session took its turn: what holds, by its end
-abbrev pub TakesTurn : {E A : Type 0} → LinkState → LinkState → DeskView → DeskView → Interaction E A → Halt E → Type 0
-TakesTurn link link' desk desk' t (Ended end) = EndsAsDue link link' desk desk' t end
-TakesTurn link link' desk desk' t (Failed Reading) = FailsReading link link' desk desk' t
-TakesTurn link link' desk desk' t (Failed Writing) = FailsWriting link link' desk desk' t
-TakesTurn link link' desk desk' t (Failed Memory) = LacksMemory link link' desk desk' t
+-- a session took its turn, with these entries of its own: what holds, by its end
+abbrev pub TakesTurn : {E A : Type 0} → LinkState → LinkState → List OwnEntry → Interaction E A → Halt E → Type 0
+TakesTurn link link' own t (Ended end) = EndsAsDue link link' own t end
+TakesTurn link link' own t (Failed Reading) = FailsReading link link' own t
+TakesTurn link link' own t (Failed Writing) = FailsWriting link link' own t
+TakesTurn link link' own t (Failed Memory) = LacksMemory link link' own t

@@ -42,3 +42,15 @@ read wanted cut = reads wanted cut (λ reply. gives reply)
 -- this entry alone
 unfoldable pub ask : {E : Type 0} → Request → Interaction E (List Entry)
 ask request = asks request (λ before. gives before)
+
+-- how an input that ends is taken, with another end
+abbrev pub cut_as : {E F : Type 0} → (E → F) → CutOff E → CutOff F
+cut_as end_as cut = record { bytes = cut.bytes; end = end_as cut.end }
+
+-- the same interaction with other ends
+unfoldable pub ending_as : {E F A : Type 0} → (E → F) → Interaction E A → Interaction F A
+ending_as end_as (gives a) = gives a
+ending_as end_as (ends e) = ends (end_as e)
+ending_as end_as (writes bytes t) = writes bytes (ending_as end_as t)
+ending_as end_as (reads wanted cut f) = reads wanted (λ fault. cut_as end_as (cut fault)) (λ reply. ending_as end_as (f reply))
+ending_as end_as (asks request f) = asks request (λ before. ending_as end_as (f before))

@@ -1,5 +1,6 @@
 -- Laws of interactions, which hold of every protocol.
-use Rattle.std.specs.Prelude.{◌≡◌, ◌⊎◌, ⊤, ℕ, ◌+◌, Bool, IsTrue, List, [], length, drop, map, Result, Ok, Err}
+use Rattle.std.specs.Prelude.{◌≡◌, ◌⊎◌, ◌≤◌, ⊤, ℕ, ◌+◌, Bool, IsTrue, List, [], ◌++◌, length, drop, map, Result, Ok, Err}
+use Rattle.std.specs.List.{AllByRecursion}
 use Rattle.std.specs.Io.KnownBytes.{IsAtEnd}
 use Rattle.base_types.specs.Counts.{HasRisen}
 use Rattle.base_types.specs.Fronts.{Partial}
@@ -18,35 +19,39 @@ use Rattle.hub_core.specs.declared.entry.Entry.{Entry}
 use Rattle.hub_core.specs.declared.entry.Event.{Event}
 use Rattle.hub_core.specs.Name.{Name}
 use Rattle.hub_core.specs.History.{History, IsDue}
-use Rattle.hub_core.specs.Desk.{DeskView, MakesEntry}
+use Rattle.hub_core.specs.Desk.{DeskView, IsOfAnother, IsSound, MakesEntry}
 use Rattle.interaction_tree.specs.Wanted.{Wanted, Packet, Pack, Value, Fault, front_of, Reply, shown}
-use Rattle.interaction_tree.specs.Requests.{request_of, answered, OwnEntry, asked, log_before}
-use Rattle.interaction_tree.specs.Interaction.{CutOff, Interaction, gives, ends, writes, reads, ◌>>=◌, write, read, ask}
-use Rattle.interaction_tree.specs.Turns.{Extent, Ended, turn_over, turn, and_then}
+use Rattle.interaction_tree.specs.Requests.{request_of, answered, OwnEntry, asked, log_before, own_in}
+use Rattle.interaction_tree.specs.Interaction.{CutOff, Interaction, gives, ends, writes, reads, ◌>>=◌, write, read, ask, ending_as}
+use Rattle.interaction_tree.specs.Turns.{Extent, Ended, turn_over, turn, and_then, turn_as}
 use Rattle.interaction_tree.specs.Alone.{turn_alone, IsAlone}
-use Rattle.interaction_tree.specs.Traces.{Memory, Halt, Failed}
+use Rattle.interaction_tree.specs.Traces.{Memory, Halt, Failed, outcome_as}
 use Rattle.interaction_tree.specs.Runs.{MakesAll, Runs, TakesOnly, WritesOnly}
 use Rattle.interaction_tree.specs.Steps.{written_as, packet_as, IsOfPack}
 use Rattle.interaction_tree.specs.Order.{EntriesFirst, IsOrdered}
 use Rattle.interaction_tree.specs.Endings.{TakesTurn}
-use Rattle.interaction_tree.specs.Growth.{GrowsBy}
+use Rattle.interaction_tree.specs.Growth.{GrowsBy, own_since}
 
 -- I. What follows of code that ran an interaction
 
 -- Code that ran an interaction without a value took its turn, whichever of the four ends it came to.
 abbrev pub RunsTakeTurns : Type 0 → Type 0 → Type 0
-RunsTakeTurns E A = (link link' : LinkState) (desk desk' : DeskView) (t : Interaction E A) (halt : Halt E) → IsOrdered t → Runs link link' desk desk' t (Err halt) → TakesTurn link link' desk desk' t halt
+RunsTakeTurns E A = (link link' : LinkState) (desk desk' : DeskView) (t : Interaction E A) (halt : Halt E) → IsOrdered t → Runs link link' desk desk' t (Err halt) → TakesTurn link link' (own_since desk desk') t halt
 
 -- Over a link whose counts don't rise it ends as the interaction does, or memory lacks.
 abbrev pub EndsOrLacks : Type 0 → Type 0 → Type 0
 EndsOrLacks E A =
-    (link link' : LinkState) (desk desk' : DeskView) (t : Interaction E A) (halt : Halt E)
+    (link link' : LinkState) (own : List OwnEntry) (t : Interaction E A) (halt : Halt E)
     → (HasRisen link.read_faults link'.read_faults → ⊥) → (HasRisen link.write_faults link'.write_faults → ⊥)
-    → TakesTurn link link' desk desk' t halt → ((end : E) × (halt ≡ Halt.Ended end)) ⊎ (halt ≡ Failed Memory)
+    → TakesTurn link link' own t halt → ((end : E) × (halt ≡ Halt.Ended end)) ⊎ (halt ≡ Failed Memory)
 
--- what own entries leave of a desk
+-- what own entries leave of a desk: they are the ones that its view has since, and it stays sound
 abbrev pub EntriesGrow : Type 0
-EntriesGrow = (old new : DeskView) (own : List OwnEntry) → MakesAll old new own → GrowsBy old new own
+EntriesGrow = (old new : DeskView) (own : List OwnEntry) → IsSound old → MakesAll old new own → IsSound new × GrowsBy old new own
+
+-- entries of other numbers that are appended are no entries of a caller
+abbrev pub OthersAreNotOwn : Type 0
+OthersAreNotOwn = (caller place : ℕ) (log others : List Entry) → place ≤ length log → AllByRecursion (IsOfAnother caller) others → own_in caller place (log ++ others) ≡ own_in caller place log
 
 -- an event that is due is the one that its request brings about
 abbrev pub DueIsAnswered : Type 0
@@ -102,7 +107,7 @@ CutOffsRun E A =
 -- an entry that is made
 abbrev pub EntriesRun : Type 0 → Type 0
 EntriesRun E =
-    (link : LinkState) (old new : DeskView) (before : List Entry) (event : Event) → MakesEntry old new before event → Runs {E = E} link link old new (ask (request_of event)) (Ok before)
+    (link : LinkState) (old new : DeskView) (before : List Entry) (entry : Entry) → MakesEntry old new before entry → Runs {E = E} link link old new (ask (request_of entry.event)) (Ok before)
 
 -- the reader of packets, where nothing is due when the input ends
 abbrev pub PacketsRun : Type 0 → Type 0
@@ -139,3 +144,23 @@ abbrev pub TurnsCompose : Type 0 → Type 0 → Type 0 → Type 0
 TurnsCompose E A B =
     (extent : Extent) (t : Interaction E A) (k : A → Interaction E B) (input : List ℕ) (logs : List (List Entry))
     → turn_over extent (t >>= k) input logs ≡ and_then (turn_over extent t input logs) (λ value used requests. turn_over extent (k value) (drop (length used) input) (drop (length requests) logs))
+
+-- V. Other ends
+
+-- With other ends its turns are the same but for the end.
+abbrev pub TurnsEndAs : Type 0 → Type 0 → Type 0 → Type 0
+TurnsEndAs E F A =
+    (end_as : E → F) (extent : Extent) (t : Interaction E A) (input : List ℕ) (logs : List (List Entry)) → turn_over extent (ending_as end_as t) input logs ≡ turn_as end_as (turn_over extent t input logs)
+
+-- Code that runs it runs it with other ends.
+abbrev pub RunsEndAs : Type 0 → Type 0 → Type 0 → Type 0
+RunsEndAs E F A =
+    (end_as : E → F) (link link' : LinkState) (desk desk' : DeskView) (t : Interaction E A) (out : Result A (Halt E)) → Runs link link' desk desk' t out → Runs link link' desk desk' (ending_as end_as t) (outcome_as end_as out)
+
+-- It keeps the order.
+abbrev pub OrdersEndAs : Type 0 → Type 0 → Type 0 → Type 0
+OrdersEndAs E F A = (end_as : E → F) (t : Interaction E A) → IsOrdered t → IsOrdered (ending_as end_as t)
+
+-- One and then another have other ends where each has.
+abbrev pub BothEndAs : Type 0 → Type 0 → Type 0 → Type 0 → Type 0
+BothEndAs E F A B = (end_as : E → F) (t : Interaction E A) (k : A → Interaction E B) → ending_as end_as (t >>= k) ≡ ending_as end_as t >>= λ a. ending_as end_as (k a)

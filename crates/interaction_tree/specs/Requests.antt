@@ -1,5 +1,5 @@
 -- Entries of the log, as a session asks for them.
-use Rattle.std.specs.Prelude.{◌≡◌, ⊤, ℕ, Bool, List, [], ◌∷◌, Option, None, Some}
+use Rattle.std.specs.Prelude.{◌≡◌, ⊤, ℕ, nat_eq, Bool, List, [], ◌∷◌, ◌++◌, take, drop, Option, None, Some, if◌then◌else◌}
 use Rattle.git_object.specs.Content.{Content}
 use Rattle.ref_store.specs.declared.command.Command.{Command}
 use Rattle.hub_core.specs.declared.outcome.Outcome.{Outcome}
@@ -37,6 +37,18 @@ answered h (Push place pack commands atomic) = Pushed place pack commands atomic
 pub record OwnEntry : Type 0 where
   pub before : List Entry
   pub entry : Entry
+
+-- the entries behind a log that bear a number, each with the log just before it
+abbrev pub own_behind : ℕ → List Entry → List Entry → List OwnEntry
+own_behind caller before [] = []
+own_behind caller before (e ∷ es) =
+    if nat_eq e.caller caller
+    then record { before = before; entry = e } ∷ own_behind caller (before ++ e ∷ []) es
+    else own_behind caller (before ++ e ∷ []) es
+
+-- those of a log from a place on
+abbrev pub own_in : ℕ → ℕ → List Entry → List OwnEntry
+own_in caller place log = own_behind caller (take place log) (drop place log)
 
 abbrev pub log_before : OwnEntry → List Entry
 log_before own = own.before

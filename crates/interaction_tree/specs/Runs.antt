@@ -10,15 +10,10 @@ use Rattle.interaction_tree.specs.Requests.{OwnEntry}
 use Rattle.interaction_tree.specs.Interaction.{Interaction}
 use Rattle.interaction_tree.specs.Traces.{Reading, Writing, Memory, Halt, Ended, Failed, IsTrace}
 
--- one entry was made
-pub record MakesOwn (old new : DeskView) (own : OwnEntry) : Type 0 where
-  pub made : MakesEntry old new own.before own.entry.event
-  pub entry : made.entry ≡ own.entry
-
 -- these entries were made, one after the other
 abbrev pub MakesAll : DeskView → DeskView → List OwnEntry → Type 0
 MakesAll old new [] = new ≡ old
-MakesAll old new (one ∷ own) = (mid : DeskView) × MakesOwn old mid one × MakesAll mid new own
+MakesAll old new (one ∷ own) = (mid : DeskView) × MakesEntry old mid one.before one.entry × MakesAll mid new own
 
 -- A failure of the link comes only where the link may fail and its count rose.
 abbrev pub IsCaused : {E A : Type 0} → LinkState → LinkState → Result A (Halt E) → Type 0

@@ -21,6 +21,15 @@ pub data Halt (E : Type 0) : Type 0 where
   Ended : E → Halt E
   Failed : Failure → Halt E
 
+-- the same with another end
+abbrev pub halt_as : {E F : Type 0} → (E → F) → Halt E → Halt F
+halt_as end_as (Ended e) = Ended (end_as e)
+halt_as end_as (Failed failure) = Failed failure
+
+abbrev pub outcome_as : {E F A : Type 0} → (E → F) → Result A (Halt E) → Result A (Halt F)
+outcome_as end_as (Ok a) = Ok a
+outcome_as end_as (Err halt) = Err (halt_as end_as halt)
+
 -- a list begins another
 abbrev pub Begins : {X : Type 0} → List X → List X → Type 0
 Begins {X} front whole = (rest : List X) × (whole ≡ front ++ rest)

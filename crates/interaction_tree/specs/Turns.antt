@@ -80,3 +80,13 @@ due t part logs = turn_over Open t part logs
 -- a turn, and behind it the one that its value decides, which begins behind what the first used and asked
 abbrev pub and_then : {E A B : Type 0} → Turn E A → (A → List ℕ → List Request → Turn E B) → Turn E B
 and_then t go = behind t.used t.requests t.bytes (by_stop t.stop (λ value. go value t.used t.requests))
+
+-- the same turn with another end
+abbrev pub stop_as : {E F A : Type 0} → (E → F) → Stop E A → Stop F A
+stop_as end_as (Gave value) = Gave value
+stop_as end_as (Ended e) = Ended (end_as e)
+stop_as end_as Unanswered = Unanswered
+stop_as end_as Waiting = Waiting
+
+abbrev pub turn_as : {E F A : Type 0} → (E → F) → Turn E A → Turn F A
+turn_as end_as t = record { used = t.used; requests = t.requests; bytes = t.bytes; stop = stop_as end_as t.stop }

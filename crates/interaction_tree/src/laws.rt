@@ -1,11 +1,12 @@
 // Laws of interactions, which hold of every protocol.
-ghost use Rattle.interaction_tree.specs.Laws.{AloneAsLogged, CutOffsRun, DueIsAnswered, EndsOrLacks, EntriesGrow, EntriesRun, HaltsCompose, NothingRuns, OnlyCallersAreAlone, OrdersCompose, PacketsRun, PacksRun, ReadingsRun, RefusedPacksRun, RunsCompose, RunsTakeTurns, TurnsCompose, WritesRun};
+ghost use Rattle.interaction_tree.specs.Laws.{AloneAsLogged, BothEndAs, CutOffsRun, DueIsAnswered, EndsOrLacks, EntriesGrow, EntriesRun, HaltsCompose, NothingRuns, OnlyCallersAreAlone, OrdersCompose, OrdersEndAs, OthersAreNotOwn, PacketsRun, PacksRun, ReadingsRun, RefusedPacksRun, RunsCompose, RunsEndAs, RunsTakeTurns, TurnsCompose, TurnsEndAs, WritesRun};
 
 /// What follows of code that ran an interaction; a call does nothing.
 pub fn turns_hold<E, A>()
     ensures turns { RunsTakeTurns E A }
     ensures sure { EndsOrLacks E A }
     ensures grow { EntriesGrow }
+    ensures others { OthersAreNotOwn }
     ensures answered { DueIsAnswered }
     ensures only { OnlyCallersAreAlone }
     ensures alone { AloneAsLogged E A }
@@ -29,4 +30,12 @@ pub fn steps_hold<E, A, B>()
 pub fn composition_holds<E, A, B>()
     ensures turns { TurnsCompose E A B }
     ensures order { OrdersCompose E A B }
+{}
+
+/// An interaction may have other ends; a call does nothing.
+pub fn ends_may_differ<E, F, A, B>()
+    ensures turns { TurnsEndAs E F A }
+    ensures runs { RunsEndAs E F A }
+    ensures order { OrdersEndAs E F A }
+    ensures both { BothEndAs E F A B }
 {}

@@ -13,4 +13,4 @@
 
 mod laws;
 
-pub use laws::{composition_holds, steps_hold, turns_hold};
+pub use laws::{composition_holds, ends_may_differ, steps_hold, turns_hold};

@@ -8,7 +8,7 @@ use Rattle.gitolite_shell.specs.Lone.{EndsScript}
 use Rattle.gitolite_shell.specs.Words.{script_admin}
 use Rattle.gitolite_shell.specs.declared.status.Status.{Status}
 use Rattle.gitolite_shell.specs.declared.status.Status.TheVariants.{NoMemory}
-use Rattle.gitolite_shell.proofs.LoneLemmas.{by_words, ended_new, surely, undone}
+use Rattle.gitolite_shell.proofs.LoneLemmas.{by_words, ended_new, legal_none, legal_script, surely, undone}
 use Rattle.gitolite_shell.proofs.lone.lone_main.Goals as goal
 
 pub returns-then-is_check-clause-ends : goal.returns-then-is_check-clause-ends
@@ -81,3 +81,17 @@ returns-clause-ends g c =
 
 pub returns-clause-sure : goal.returns-clause-sure
 returns-clause-sure g c = surely _ _ _ _ _ _ _ (returns-clause-ends g c)
+
+pub returns-then-is_check-clause-legal : goal.returns-then-is_check-clause-legal
+returns-then-is_check-clause-legal g c = legal_none (script_admin (map string_bytes c.args.words.now)) c.new.result c.new.ensures
+
+pub returns-in_default-clause-legal : goal.returns-in_default-clause-legal
+returns-in_default-clause-legal g c = legal_none (script_admin (map string_bytes c.args.words.now)) c.new-in_default.result c.new-in_default.ensures
+
+pub returns-in_default-new_desk-clause-legal : goal.returns-in_default-new_desk-clause-legal
+returns-in_default-new_desk-clause-legal g c = legal_none (script_admin (map string_bytes c.args.words.now)) c.new-in_default-new_desk.result c.new-in_default-new_desk.ensures
+
+pub returns-clause-legal : goal.returns-clause-legal
+returns-clause-legal g c =
+    legal_script (script_admin (map string_bytes c.args.words.now)) c.in-Some.admin.now (desk_of c.in-Ok.desk) (desk_of c.run_script.new.desk) c.into_log.result
+    (sym c.script_admin.ensures ∙ ap option_copied c.in-Some.is) c.in-Ok.ensures c.run_script.ensures.admin c.sound.ensures (c.into_log.ensures ∙ ap (λ (h : HubView). h.log) c.into_hub.ensures)

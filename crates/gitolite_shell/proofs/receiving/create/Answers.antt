@@ -22,3 +22,9 @@ unfolding creating
 returns-clause-runs g c =
     goes _ _ _ _ _ (λ commands. taking_pack commands >>= λ pack. pushing _ c.args.pin commands pack) c.take_commands.result _ _ c.in_ok-commands.commands _ c.in_ok-commands.was (c.take_commands.ensures.runs _)
     (goes _ _ _ _ _ (λ pack. pushing _ c.args.pin c.in_ok-commands.commands pack) c.take_pack.result _ _ c.in_ok-pack.pack _ c.in_ok-pack.was (c.take_pack.ensures.runs _) c.push.ensures.runs)
+
+pub returns-in_err-commands-clause-goes : goal.returns-in_err-commands-clause-goes
+returns-in_err-commands-clause-goes g c = g.met.K.Desk.stays c.args.desk.now
+
+pub returns-in_err-pack-clause-goes : goal.returns-in_err-pack-clause-goes
+returns-in_err-pack-clause-goes g c = g.met.K.Desk.stays c.args.desk.now

@@ -12,4 +12,10 @@ pub returns-in-Settled-clause-runs : goal.returns-in-Settled-clause-runs
 returns-in-Settled-clause-runs g c = pushed_then _ _ _ _ c.args.pin c.args.pack c.args.commands c.in-Ok.told c.in-Settled.outcomes _ c.in-Ok.ensures c.in-Settled.ensures.answers (c.report.ensures.runs _)
 
 pub returns-clause-runs : goal.returns-clause-runs
-returns-clause-runs g c = rw c.in-NoMemory.ensures.answers.1.0 (runs_memory _ _ _)
+returns-clause-runs g c = rw c.in-NoMemory.ensures.answers.1 (runs_memory _ _ _)
+
+pub returns-in_default-clause-goes : goal.returns-in_default-clause-goes
+returns-in_default-clause-goes g c = g.met.K.Desk.stays c.args.desk.now
+
+pub returns-in_default-judge-clause-goes : goal.returns-in_default-judge-clause-goes
+returns-in_default-judge-clause-goes g c = g.met.K.Desk.stays c.args.desk.now

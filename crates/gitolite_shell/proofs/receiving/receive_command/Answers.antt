@@ -44,3 +44,18 @@ unfolding commanding
 returns-clause-runs g c =
     let n = c.next.ensures in
     packet_failed _ _ _ (λ reply. commanded _ c.args.pin reply.found) c.next.result n.reads n.writing n.later c.in-Err-ReadFault.field-0 c.in-Err-ReadFault.is c.in-Err-ReadFault.field-0-is
+
+pub returns-in_err-first-in-Ok-Line-clause-goes : goal.returns-in_err-first-in-Ok-Line-clause-goes
+returns-in_err-first-in-Ok-Line-clause-goes g c = g.met.K.Desk.stays c.args.desk.now
+
+pub returns-in-Ok-Flush-clause-goes : goal.returns-in-Ok-Flush-clause-goes
+returns-in-Ok-Flush-clause-goes g c = g.met.K.Desk.stays c.args.desk.now
+
+pub returns-in-Err-BadLength-clause-goes : goal.returns-in-Err-BadLength-clause-goes
+returns-in-Err-BadLength-clause-goes g c = g.met.K.Desk.stays c.args.desk.now
+
+pub returns-in-Err-Truncated-clause-goes : goal.returns-in-Err-Truncated-clause-goes
+returns-in-Err-Truncated-clause-goes g c = g.met.K.Desk.stays c.args.desk.now
+
+pub returns-clause-goes : goal.returns-clause-goes
+returns-clause-goes g c = g.met.K.Desk.stays c.args.desk.now

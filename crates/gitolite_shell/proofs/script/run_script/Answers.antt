@@ -4,7 +4,7 @@ use Rattle.gitolite_shell.proofs.ScriptLemmas.{advances_none, advances_next, cou
 use Rattle.gitolite_shell.proofs.script.run_script.Goals as goal
 
 pub loop-taken-init : goal.loop-taken-init
-loop-taken-init g c = record { so_far = ([], advances_none _ _ _ c.requires, refl, refl); tells_input = refl; tells_output = refl; input = later_same _; output = later_same _ }
+loop-taken-init g c = record { so_far = ([], advances_none _ _ _ c.requires, refl, refl); tells_input = refl; tells_output = refl; input = later_same _; output = later_same _; goes = g.met.K.Desk.stays _ }
 
 pub returns-in_err-taken-clause-err : goal.returns-in_err-taken-clause-err
 returns-in_err-taken-clause-err g c =
@@ -32,6 +32,7 @@ loop-taken-preserved g c =
       tells_output = c.in_ok-taken.ensures.tells_output ∙ c.loop-taken.invariant.tells_output;
       input = later_more _ _ _ c.loop-taken.invariant.input c.advance.ensures.input;
       output = later_more _ _ _ c.loop-taken.invariant.output c.advance.ensures.output;
+      goes = g.met.K.Desk.composes _ _ _ c.loop-taken.invariant.goes c.advance.ensures.goes;
     }
 
 pub returns-clause-ok : goal.returns-clause-ok
@@ -39,3 +40,15 @@ returns-clause-ok g c =
     let end = rw c.in_default.is at c.in_ok-taken.ensures.none in
     let so_far = c.loop-taken.invariant.so_far in
     runs_end _ _ _ _ _ _ _ _ _ so_far.0 so_far.1 end
+
+pub returns-in_err-taken-clause-admin : goal.returns-in_err-taken-clause-admin
+returns-in_err-taken-clause-admin g c = c.advance.ensures.admin ∙ c.loop-taken.invariant.so_far.1.admin
+
+pub returns-in_err-taken-clause-goes : goal.returns-in_err-taken-clause-goes
+returns-in_err-taken-clause-goes g c = g.met.K.Desk.composes _ _ _ c.loop-taken.invariant.goes c.advance.ensures.goes
+
+pub returns-clause-admin : goal.returns-clause-admin
+returns-clause-admin g c = c.advance.ensures.admin ∙ c.loop-taken.invariant.so_far.1.admin
+
+pub returns-clause-goes : goal.returns-clause-goes
+returns-clause-goes g c = g.met.K.Desk.composes _ _ _ c.loop-taken.invariant.goes c.advance.ensures.goes

@@ -14,6 +14,7 @@ invariant-loop-taken g l = record {
   tells_output : (g.O.Endpoint.state l.output).write_faults ≡ (g.O.Endpoint.state l.initial.output).write_faults;
   input : IsLater (g.I.Endpoint.state l.initial.input) (g.I.Endpoint.state l.input);
   output : IsLater (g.O.Endpoint.state l.initial.output) (g.O.Endpoint.state l.output);
+  goes : g.K.Desk.goes_on l.initial.desk l.desk;
 }
 
 abbrev pub decreases-loop-taken : goal.decreases-loop-taken

@@ -1,4 +1,7 @@
 use Rattle.interaction_tree.proofs.RunLemmas.{runs_memory}
+use Rattle.std.proofs.Common.{ap}
+use Rattle.hub_core.specs.Desk.{DeskView}
+use Rattle.hub_core.proofs.DeskLemmas.{legal_after}
 use Rattle.hub_core.proofs.ShortNames.{pinned_short}
 use Rattle.gitolite_shell.proofs.StepLemmas.{refused}
 use Rattle.gitolite_shell.proofs.OpeningLemmas.{granted_then, created_then, denied_then, no_repo_then}
@@ -17,10 +20,25 @@ pub returns-in-NoRepo-clause-runs : goal.returns-in-NoRepo-clause-runs
 returns-in-NoRepo-clause-runs g c = no_repo_then _ _ _ _ c.args.asked.now _ c.in-NoRepo.ensures.answers (refused _ _ _ _ _ _ (c.refuse.ensures.runs _))
 
 pub returns-in-NoMemory-clause-runs : goal.returns-in-NoMemory-clause-runs
-returns-in-NoMemory-clause-runs g c = rw c.in-NoMemory.ensures.answers.1.0 (runs_memory _ _ _)
+returns-in-NoMemory-clause-runs g c = rw c.in-NoMemory.ensures.answers.1 (runs_memory _ _ _)
 
 pub returns-in-Granted-clause-names : goal.returns-in-Granted-clause-names
-returns-in-Granted-clause-names g c = pinned_short _ _ c.in-Granted.ensures.answers.1.legal c.in-Granted.pin c.in-Granted.ensures.answers.2.1.stands
+returns-in-Granted-clause-names g c = pinned_short _ _ (legal_after _ _ _ _ c.in-Granted.ensures.answers.1) c.in-Granted.pin c.in-Granted.ensures.answers.2.1.stands
 
 pub returns-in-Created-clause-names : goal.returns-in-Created-clause-names
-returns-in-Created-clause-names g c = pinned_short _ _ c.in-Created.ensures.answers.1.legal c.in-Created.pin c.in-Created.ensures.answers.2.1.stands
+returns-in-Created-clause-names g c = pinned_short _ _ (legal_after _ _ _ _ c.in-Created.ensures.answers.1) c.in-Created.pin c.in-Created.ensures.answers.2.1.stands
+
+pub returns-in-Granted-clause-admin : goal.returns-in-Granted-clause-admin
+returns-in-Granted-clause-admin g c = ap (λ (d : DeskView). d.admin) c.in-Granted.ensures.answers.1.new_is
+
+pub returns-in-Created-clause-admin : goal.returns-in-Created-clause-admin
+returns-in-Created-clause-admin g c = ap (λ (d : DeskView). d.admin) c.in-Created.ensures.answers.1.new_is
+
+pub returns-in-Denied-clause-admin : goal.returns-in-Denied-clause-admin
+returns-in-Denied-clause-admin g c = ap (λ (d : DeskView). d.admin) c.in-Denied.ensures.answers.1.new_is
+
+pub returns-in-NoRepo-clause-admin : goal.returns-in-NoRepo-clause-admin
+returns-in-NoRepo-clause-admin g c = ap (λ (d : DeskView). d.admin) c.in-NoRepo.ensures.answers.1.new_is
+
+pub returns-in-NoMemory-clause-admin : goal.returns-in-NoMemory-clause-admin
+returns-in-NoMemory-clause-admin g c = ap (λ (d : DeskView). d.admin) c.in-NoMemory.ensures.answers.1

@@ -13,3 +13,6 @@ pub returns-clause-runs : goal.returns-clause-runs
 unfolding served
 returns-clause-runs g c =
     goes _ _ _ _ _ (λ a. serving _ a) c.ask.result _ _ c.in_ok-asked.asked _ c.in_ok-asked.was (c.ask.ensures.runs _) c.serve_asked.ensures.runs
+
+pub returns-in_err-asked-clause-goes : goal.returns-in_err-asked-clause-goes
+returns-in_err-asked-clause-goes g c = g.met.K.Desk.stays c.args.desk.now

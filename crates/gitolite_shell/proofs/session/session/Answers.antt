@@ -9,17 +9,17 @@ use Rattle.gitolite_shell.proofs.session.session.Goals as goal
 
 pub returns-in_default : goal.returns-in_default
 returns-in_default g c =
-    let k = session_keeps _ _ _ _ _ NoMemory (runs_memory _ _ _) in
-    record { turn = k.turn; tells = search rules; grows = k.grows; causes = k.causes; sure = k.sure; later = k.later }
+    let k = session_keeps _ _ _ _ _ NoMemory c.sound.ensures (runs_memory _ _ _) in
+    record { turn = k.turn; tells = search rules; grows = k.grows; sound = k.sound; goes = g.met.K.Desk.stays c.args.desk.now; causes = k.causes; sure = k.sure; later = k.later }
 
 pub returns-in-Ok-serve : goal.returns-in-Ok-serve
 unfolding session
 returns-in-Ok-serve g c =
-    let k = session_keeps _ _ _ _ _ Served (goes _ _ _ _ _ (λ u. ends Served) c.serve.result _ _ c.in-Ok-serve.field-0 _ c.in-Ok-serve.is c.serve.ensures.runs (runs_ends _ _ Served)) in
-    record { turn = k.turn; tells = search rules; grows = k.grows; causes = k.causes; sure = k.sure; later = k.later }
+    let k = session_keeps _ _ _ _ _ Served c.sound.ensures (goes _ _ _ _ _ (λ u. ends Served) c.serve.result _ _ c.in-Ok-serve.field-0 _ c.in-Ok-serve.is c.serve.ensures.runs (runs_ends _ _ Served)) in
+    record { turn = k.turn; tells = search rules; grows = k.grows; sound = k.sound; goes = c.serve.ensures.goes; causes = k.causes; sure = k.sure; later = k.later }
 
 pub returns : goal.returns
 unfolding session
 returns g c =
-    let k = session_keeps _ _ _ _ _ c.in-Err.end (halts _ _ _ _ _ (λ u. ends Served) c.serve.result c.in-Err.end c.in-Err.is c.serve.ensures.runs) in
-    record { turn = k.turn; tells = search rules; grows = k.grows; causes = k.causes; sure = k.sure; later = k.later }
+    let k = session_keeps _ _ _ _ _ c.in-Err.end c.sound.ensures (halts _ _ _ _ _ (λ u. ends Served) c.serve.result c.in-Err.end c.in-Err.is c.serve.ensures.runs) in
+    record { turn = k.turn; tells = search rules; grows = k.grows; sound = k.sound; goes = c.serve.ensures.goes; causes = k.causes; sure = k.sure; later = k.later }

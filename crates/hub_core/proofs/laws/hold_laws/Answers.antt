@@ -4,12 +4,13 @@ use Rattle.hub_core.specs.History.{new_history, replay}
 use Rattle.hub_core.proofs.HistoryLemmas.{IsLegalFrom-beginning, stands_kept, due_at, legal_by_places, opening_at-place}
 use Rattle.hub_core.proofs.ObjectLemmas.{names_once}
 use Rattle.hub_core.proofs.ShortNames.{names_short, pinned_short}
-use Rattle.hub_core.proofs.WholeRefs.{refs_whole, pinned_whole}
+use Rattle.hub_core.proofs.WholeRefs.{objects_grow, refs_whole, pinned_whole}
 use Rattle.hub_core.proofs.RefsApart.{refs_apart, pinned_apart}
 use Rattle.hub_core.proofs.PushLemmas.{length-outcomes}
 use Rattle.hub_core.specs.Run.{new_hub}
 use Rattle.hub_core.proofs.OpeningLemmas.{push_named}
 use Rattle.hub_core.proofs.RunLemmas.{run_keeps}
+use Rattle.hub_core.proofs.MovedRefs.{done_moves, changes_are_done, stale_is, refused_atomic}
 use Rattle.hub_core.proofs.laws.hold_laws.Goals as goal
 
 pub returns-clause-places : goal.returns-clause-places
@@ -47,3 +48,18 @@ returns-clause-runs c = λ admin later run. run_keeps (new_hub admin) later run 
 
 pub returns-clause-pushes : goal.returns-clause-pushes
 returns-clause-pushes c = λ admin log index caller place pack commands atomic outcomes legal here. push_named admin log index caller place pack commands atomic outcomes legal here
+
+pub returns-clause-moves : goal.returns-clause-moves
+returns-clause-moves c = λ admin before entry repo command legal tells. done_moves admin before entry repo command legal tells
+
+pub returns-clause-changes : goal.returns-clause-changes
+returns-clause-changes c = λ admin before entry repo name legal differs. changes_are_done admin before entry repo name legal differs
+
+pub returns-clause-stale : goal.returns-clause-stale
+returns-clause-stale c = λ admin before entry repo command is legal tells. stale_is admin before entry repo command is legal tells
+
+pub returns-clause-atomic : goal.returns-clause-atomic
+returns-clause-atomic c = λ admin before caller place pack commands outcomes index outcome legal at refused. refused_atomic admin before caller place pack commands outcomes index outcome legal at refused
+
+pub returns-clause-grow : goal.returns-clause-grow
+returns-clause-grow c = λ admin log more repo. objects_grow admin log more repo

@@ -1,5 +1,5 @@
 use Rattle.interaction_tree.proofs.EndingLemmas.{runs_turn, ends_or_lacks}
-use Rattle.interaction_tree.proofs.DeskLemmas.{makes_grows, makes_alone, due_answered}
+use Rattle.interaction_tree.proofs.DeskLemmas.{makes_grows, makes_alone, due_answered, others_not_own}
 use Rattle.interaction_tree.proofs.AloneLemmas.{alone_is}
 use Rattle.interaction_tree.proofs.laws.turns_hold.Goals as goal
 
@@ -7,7 +7,7 @@ pub returns-clause-turns : goal.returns-clause-turns
 returns-clause-turns g c = λ link link' desk desk' t halt ordered runs. runs_turn link link' desk desk' t halt ordered runs
 
 pub returns-clause-grow : goal.returns-clause-grow
-returns-clause-grow g c = λ old new own made. makes_grows old new own made
+returns-clause-grow g c = λ old new own sound made. makes_grows old new own sound made
 
 pub returns-clause-answered : goal.returns-clause-answered
 returns-clause-answered g c = λ h event due. due_answered h event due
@@ -19,4 +19,7 @@ pub returns-clause-alone : goal.returns-clause-alone
 returns-clause-alone g c = λ admin end t input own log log' alone requests stops. alone_is admin end t input own log log' alone requests stops
 
 pub returns-clause-sure : goal.returns-clause-sure
-returns-clause-sure g c = λ link link' desk desk' t halt reads writes turn. ends_or_lacks link link' desk desk' t halt reads writes turn
+returns-clause-sure g c = λ link link' own t halt reads writes turn. ends_or_lacks link link' own t halt reads writes turn
+
+pub returns-clause-others : goal.returns-clause-others
+returns-clause-others g c = λ caller place log others within of_others. others_not_own caller place log others within of_others
