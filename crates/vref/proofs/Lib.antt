@@ -7,6 +7,8 @@ mod RowLemmas
 mod PartLemmas
 mod DifferenceLemmas
 mod ComparisonLemmas
+mod TableLemmas
+mod OrderLemmas
 mod WalkLemmas
-mod PathLemmas
 mod LawLemmas
+mod PathLemmas

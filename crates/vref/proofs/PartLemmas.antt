@@ -106,6 +106,7 @@ part_new old new olds news common e parted free = parted_turned (new ++ e ∷ []
 -- where what is kept differs the trees differ, and nowhere else
 pub parted_differ : (old new olds news common : List Entry) (list : List Difference) → Parted old new olds news common → AreDifferences olds news list → AreDifferences old new list
 parted_differ old new olds news common list parted are = record {
+  ascend = are.ascend;
   each = All-weaker (IsDifference olds news) (IsDifference old new) (λ d is. whole d is (parted.apart d.name.now)) list are.each;
   all = λ name differ. named name (are.all name (λ same. differ (parted.old_is name ∙ ap (λ o. option_or o (entry_named common name)) same ∙ sym (parted.new_is name))));
 }

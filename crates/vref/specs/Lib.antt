@@ -7,5 +7,6 @@ pub mod Rows
 pub mod Paths
 pub mod Differences
 pub mod Comparisons
+pub mod PathTable
 pub mod Walk
 pub mod Laws

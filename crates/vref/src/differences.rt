@@ -1,9 +1,9 @@
 // The entries in which two trees differ, by their names.
-ghost use Rattle.std.specs.Prelude.{◌≡◌, ◌↔◌, List, IfOk, IsTrue, OnOk, map};
+ghost use Rattle.std.specs.Prelude.{◌≡◌, ◌↔◌, List, [], IfOk, IsTrue, OnOk, map};
 ghost use Rattle.std.specs.Option.{option_copied, option_map};
 ghost use Rattle.git_object.specs.Tree.{Entry, entry_of, is_directory};
 ghost use Rattle.vref.specs.Rows.{entries_in};
-ghost use Rattle.vref.specs.Differences.{AddsNames, AreDifferences, AreParted, FindsEach, NamesOnce, TellsOfStep};
+ghost use Rattle.vref.specs.Differences.{AreDifferences, AreParted, AreSifted, FindsBoth, Joins, NamesOnce, TellsOfStep};
 
 use base_types::NoMemory;
 use git_object::{Object, TreeEntry};
@@ -18,8 +18,8 @@ pub struct Difference<'a> {
     pub new: Option<TreeEntry<'a>>,
 }
 
-/// The names at which two trees differ. Without an object a side is the empty tree. Where the trees are alike it costs one pass over both; the names at
-/// which they differ are sorted, and one that both have comes twice.
+/// The names at which two trees differ, each once, in the order of their bytes. Without an object a side is the empty tree. Where the trees are alike it
+/// costs one pass over both; only what differs is sorted.
 pub fn differences_between<'a>(
     alloc: Global,
     old: Option<&'a Object>,
@@ -149,7 +149,14 @@ fn byte_behind(entry: &TreeEntry<'_>, left: &[u8]) -> u8 {
     0
 }
 
-// The names at which some entries differ.
+// What is under a name on either side.
+#[derive(Clone, Copy)]
+pub struct Sides<'a> {
+    old: Option<TreeEntry<'a>>,
+    new: Option<TreeEntry<'a>>,
+}
+
+// The names at which some entries differ, in order.
 fn differing_names<'a>(
     alloc: Global,
     old: &[TreeEntry<'a>],
@@ -157,49 +164,87 @@ fn differing_names<'a>(
 ) -> Result<Vec<Difference<'a>>, NoMemory>
     ensures { IfOk result (λ list. AreDifferences (map entry_of old.now) (map entry_of new.now) list.items) }
 {
-    let older = entries_by_name(alloc, old)?;
-    let newer = entries_by_name(alloc, new)?;
-    let mut list = Vec::new(alloc);
-    add_differing_names(&mut list, old, &older, &newer)?;
-    add_differing_names(&mut list, new, &older, &newer)?;
+    let mut names = BTreeMap::new(alloc);
+    add_old_entries(&mut names, old)?;
+    add_new_entries(&mut names, new)?;
+    let list = sift_names(alloc, names)?;
     Ok(list)
 }
 
-// Entries by their names; of two of one name the first.
-fn entries_by_name<'a>(
-    alloc: Global,
+// Puts the entries of the old tree under their names; of two of one name the first.
+fn add_old_entries<'a>(
+    names: &mut BTreeMap<&'a [u8], Sides<'a>>,
     entries: &[TreeEntry<'a>],
-) -> Result<BTreeMap<&'a [u8], TreeEntry<'a>>, NoMemory>
-    ensures { IfOk result (FindsEach (map entry_of entries.now)) }
+) -> Result<(), NoMemory>
+    requires { FindsBoth [] [] names.old }
+    ensures { OnOk result (FindsBoth (map entry_of entries.now) [] names.new) }
 {
-    let mut names = BTreeMap::new(alloc);
     for entry in entries {
         if names.contains_key(&entry.name) {
             continue;
         }
-        names.insert(entry.name, *entry)?;
-    }
-    Ok(names)
-}
-
-// Adds the names of some entries at which two trees differ.
-fn add_differing_names<'a>(
-    list: &mut Vec<Difference<'a>>,
-    entries: &[TreeEntry<'a>],
-    older: &BTreeMap<&'a [u8], TreeEntry<'a>>,
-    newer: &BTreeMap<&'a [u8], TreeEntry<'a>>,
-) -> Result<(), NoMemory>
-    ensures { (old new : List Entry) → FindsEach old older.now → FindsEach new newer.now
-        → OnOk result (AddsNames old new (map entry_of entries.now) list.old.items list.new.items) }
-{
-    for entry in entries {
-        let name = entry.name;
-        let old = older.get(&name).copied();
-        let new = newer.get(&name).copied();
-        if are_same(old, new) {
-            continue;
-        }
-        list.push(Difference { name, old, new })?;
+        let sides = Sides {
+            old: Some(*entry),
+            new: None,
+        };
+        names.insert(entry.name, sides)?;
     }
     Ok(())
+}
+
+// Puts the entries of the new tree beside those of the old one; of two of one name the first.
+fn add_new_entries<'a>(
+    names: &mut BTreeMap<&'a [u8], Sides<'a>>,
+    entries: &[TreeEntry<'a>],
+) -> Result<(), NoMemory>
+    ensures { (old : List Entry) → FindsBoth old [] names.old → OnOk result (FindsBoth old (map entry_of entries.now) names.new) }
+{
+    for entry in entries {
+        let known = names.get(&entry.name).copied();
+        let Some(sides) = join_entry(known, entry) else {
+            continue;
+        };
+        names.insert(entry.name, sides)?;
+    }
+    Ok(())
+}
+
+// An entry of the new tree beside what is known of its name, unless one of the new tree is known.
+fn join_entry<'a>(known: Option<Sides<'a>>, entry: &TreeEntry<'a>) -> Option<Sides<'a>>
+    ensures { Joins known.entry entry.now result }
+{
+    let Some(sides) = known else {
+        return Some(Sides {
+            old: None,
+            new: Some(*entry),
+        });
+    };
+    if sides.new.is_some() {
+        return None;
+    }
+    Some(Sides {
+        old: sides.old,
+        new: Some(*entry),
+    })
+}
+
+// The names whose sides differ.
+fn sift_names<'a>(
+    alloc: Global,
+    names: BTreeMap<&'a [u8], Sides<'a>>,
+) -> Result<Vec<Difference<'a>>, NoMemory>
+    ensures { IfOk result (λ list. AreSifted names.entry.entries list.items) }
+{
+    let mut list = Vec::new(alloc);
+    for (name, sides) in names {
+        if are_same(sides.old, sides.new) {
+            continue;
+        }
+        list.push(Difference {
+            name,
+            old: sides.old,
+            new: sides.new,
+        })?;
+    }
+    Ok(list)
 }

@@ -8,6 +8,8 @@
 //! - `bits`: words of bits;
 //! - `paths`: the paths that a change changes;
 //! - `root`: the tree that an id stands for;
+//! - `path_list`: paths that share their fronts, in order;
+//! - `path_table`: the table that they are in;
 //! - `walk`: the walk over two trees at once;
 //! - `comparisons`: what was found out of pairs of trees;
 //! - `differences`: the entries in which two trees differ;
@@ -23,6 +25,8 @@ mod history;
 mod laws;
 mod marks;
 mod order;
+mod path_list;
+mod path_table;
 mod paths;
 mod root;
 mod walk;
@@ -31,7 +35,9 @@ pub use ancestry::{Change, Facts};
 pub use base_types::NoMemory;
 pub use facts::{facts_of, facts_of_all};
 pub use laws::hold_laws;
-pub use paths::{Paths, TextList, changed_paths};
+pub use path_list::PathList;
+pub use paths::{Paths, changed_paths};
+pub use root::root_of;
 
 #[cfg(test)]
 mod path_tests;

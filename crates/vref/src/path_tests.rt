@@ -186,7 +186,8 @@ fn print_paths(alloc: Global, paths: &Paths) -> Result<Vec<u8>, Fail> {
     let mut out = Vec::new(alloc);
     match paths {
         Paths::Listed(list) => {
-            for path in list.as_slice() {
+            for place in 0..list.len() {
+                let path = list.path(alloc, place)?;
                 out.extend_from_slice(path.bytes())?;
                 out.push(b'\n')?;
             }
@@ -331,6 +332,31 @@ fn rows_are_counted(rt: HostRuntime) -> Result<(), Fail> {
     for (deep, wide, files, due) in &ROWS {
         let mut objects = ObjectList::new(alloc);
         let tree = put_nest(alloc, &mut objects, *deep, *wide, *files)?;
+        let lens = lens_of(alloc, &objects)?;
+        let paths = changed_paths(alloc, &lens, ObjectId::zero(), tree);
+        let out = print_count(alloc, &paths)?;
+        assert_eq!(rt; out.as_slice(), due.as_bytes());
+    }
+    Ok(())
+}
+
+// How many files each of 100 folders has that lie in a folder with a name of 4,000 bytes, and how many changed paths there are then: of 199,901 rows, and of
+// 200,001.
+static BELOW_LONG: [(usize, &str); 2] = [(1998, "199800"), (1999, "too many")];
+
+fn put_below_long(alloc: Global, objects: &mut ObjectList, files: usize) -> Result<ObjectId, Fail> {
+    let below = put_nest(alloc, objects, 1, 100, files)?;
+    let mut body = Vec::new(alloc);
+    add_long_entry(alloc, &mut body, "40000", (b'a', 4000), below)?;
+    put(alloc, objects, Kind::Tree, &body)
+}
+
+#[test]
+fn rows_below_a_long_name_are_counted(rt: HostRuntime) -> Result<(), Fail> {
+    let alloc = rt.alloc();
+    for (files, due) in &BELOW_LONG {
+        let mut objects = ObjectList::new(alloc);
+        let tree = put_below_long(alloc, &mut objects, *files)?;
         let lens = lens_of(alloc, &objects)?;
         let paths = changed_paths(alloc, &lens, ObjectId::zero(), tree);
         let out = print_count(alloc, &paths)?;

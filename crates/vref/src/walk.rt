@@ -1,23 +1,24 @@
 // The walk over two trees at once.
-ghost use Rattle.std.specs.Prelude.{◌≡◌, ◌+◌, ◌++◌, ◌∷◌, ◌||◌, [], List, length, nat_lt, MatchResult, IfOk, OnOk, Option};
-ghost use Rattle.std.specs.BTreeMap.{btree_map_len};
+ghost use Rattle.std.specs.Prelude.{◌≡◌, ◌↔◌, ◌+◌, ◌<◌, ◌≤◌, ◌++◌, ◌∷◌, ◌||◌, [], List, length, map, nat_lt, reverse, slice_index_or, IsTrue, MatchResult, IfErr, IfOk, OnOk, Option, None, Some};
+ghost use Rattle.std.specs.List.{All};
 ghost use Rattle.std.specs.Option.{option_copied, option_map};
 ghost use Rattle.git_object.specs.Tree.{entry_of};
 ghost use Rattle.git_object.specs.Content.{Content};
-ghost use Rattle.git_object.specs.declared.object_id.ObjectId.{ObjectId};
-ghost use Rattle.vref.specs.Rows.{Name, object_at, tree_below};
+ghost use Rattle.vref.specs.Rows.{object_at, tree_below};
 ghost use Rattle.vref.specs.Paths.{is_file};
-ghost use Rattle.vref.specs.Walk.{Differing, IsWalking, Stops};
+ghost use Rattle.vref.specs.PathTable.{IsWithin, paths_of};
+ghost use Rattle.vref.specs.Walk.{AreShort, Differing, has_tree, IsDirectory, IsDirectoryOf, IsTooLong, IsWalking, items_from, key_cmp, key_of, next_of, row_of, SortsItems, Stops, tail_of};
 ghost use Rattle.vref.specs.Comparisons.{IsSound};
 ghost use Rattle.vref.specs.Differences.{new_entry, old_entry};
 
 use crate::comparisons::{Comparisons, TreePair};
 use crate::differences::{Difference, differences_between, is_directory};
-use base_types::{NoMemory, Text};
+use crate::path_table::Row;
+use base_types::NoMemory;
 use git_object::{Object, ObjectId, TreeEntry};
 use ref_store::Lens;
 use std::alloc::{AllocError, AllocFailed, Global};
-use std::collections::BTreeMap;
+use std::cmp::Ordering;
 
 /// At how many paths two trees differ at most for which paths are listed.
 const MAX_ROWS: usize = 200_000;
@@ -63,62 +64,127 @@ impl<T: Drop> From<AllocFailed<T>> for Stop {
     }
 }
 
-/// The paths at which two trees differ, each with whether it is listed. Without an id a side is the empty tree.
-pub fn walk_trees(
+/// The rows of the paths at which two trees differ, and their places in the order of the bytes of their paths.
+#[derive(Drop)]
+pub struct Walked<'a> {
+    pub rows: Vec<Row<'a>>,
+    pub order: Vec<usize>,
+}
+
+/// The paths at which two trees differ. Without an id a side is the empty tree.
+pub fn walk_trees<'a>(
     alloc: Global,
-    lens: &Lens,
+    lens: &'a Lens,
     old: Option<ObjectId>,
     new: Option<ObjectId>,
-) -> Result<BTreeMap<Text, bool>, Stop>
-    ensures { MatchResult result (λ met. IsWalking lens.now old new met []) (Stops lens.now old new) }
+) -> Result<Walked<'a>, Stop>
+    ensures { MatchResult result (λ w. IsWalking lens.now old new w.rows.items w.order.items []) (Stops lens.now old new) }
 {
     let mut walker = Walker {
-        met: BTreeMap::new(alloc),
+        rows: Vec::new(alloc),
+        order: Vec::new(alloc),
         work: Vec::new(alloc),
     };
-    walker.work.push(Pending {
-        front: Text::of(alloc, b"")?,
-        old,
-        new,
+    walker.work.push(Item {
+        name: b"",
+        task: Task::Enter(None),
     })?;
     let mut compared = Comparisons::new(alloc, lens);
-    while let Some(at) = walker.work.pop() {
-        walker.compare_directory(alloc, lens, &mut compared, &at)?;
+    let root = Directory {
+        place: None,
+        old,
+        new,
+        front: 0,
+    };
+    while let Some(item) = walker.work.pop() {
+        walker.run_task(alloc, lens, root, &mut compared, item.task)?;
     }
-    let Walker { met, work: _work } = walker;
-    Ok(met)
+    let Walker {
+        rows,
+        order,
+        work: _work,
+    } = walker;
+    Ok(Walked { rows, order })
 }
 
-/// A directory that is to be compared: what comes before the names in it, its path and a slash or, of a root, nothing; and its tree on either side.
-#[derive(Drop)]
-pub struct Pending {
-    front: Text,
+/// A directory: the place of its row, or none for the root; its tree on either side; and how many bytes come before the names in it.
+#[derive(Clone, Copy)]
+pub struct Directory {
+    place: Option<usize>,
     old: Option<ObjectId>,
     new: Option<ObjectId>,
+    front: usize,
 }
 
-/// The paths at which two trees differ that were met, each with whether it is listed, and the directories that are left to compare.
+/// What is to be done.
+#[derive(Clone, Copy)]
+pub enum Task {
+    /// The row at this place is the next one.
+    Put(usize),
+    /// The trees of the directory at this place are compared.
+    Enter(Option<usize>),
+}
+
+/// What is to be done, with the name of its row, by which it is sorted among what lies in the same directory.
+#[derive(Clone, Copy)]
+pub struct Item<'a> {
+    name: &'a [u8],
+    task: Task,
+}
+
+/// The rows that were found, the places of those that are in order, and what is left to do; the last of it comes next.
 #[derive(Drop)]
-pub struct Walker {
-    met: BTreeMap<Text, bool>,
-    work: Vec<Pending>,
+pub struct Walker<'a> {
+    rows: Vec<Row<'a>>,
+    order: Vec<usize>,
+    work: Vec<Item<'a>>,
 }
 
-impl Walker {
-    ghost use Rattle.vref.specs.Walk.{Goes, IsFound, IsPlace, IsSpent, IsMet};
-    ghost use Rattle.vref.specs.declared.walk.Pending.{Pending};
+impl<'a> Walker<'a> {
+    ghost use Rattle.vref.specs.Walk.{IsSpent};
+    ghost use Rattle.vref.specs.declared.walk.Task.TheVariants.{Put, Enter};
 
-    // Compares the two trees of a directory.
-    fn compare_directory<'l>(
+    fn run_task(
         &mut self,
         alloc: Global,
-        lens: &'l Lens,
-        compared: &mut Comparisons<'l>,
-        at: &Pending,
+        lens: &'a Lens,
+        root: Directory,
+        compared: &mut Comparisons<'a>,
+        task: Task,
     ) -> Result<(), Stop>
-        requires { IsSound lens.now compared.old }
-        ensures goes { (old new : Option ObjectId) → IsWalking lens.now old new self.old.met (at.now ∷ self.old.work.items)
-            → MatchResult result (λ _. IsWalking lens.now old new self.new.met self.new.work.items) (Stops lens.now old new) }
+        requires walking { IsWalking lens.now root.old root.new self.old.rows.items self.old.order.items (task ∷ next_of self.old.work.items) }
+        requires root { root.place ≡ None }
+        requires front { root.front ≡ 0 }
+        requires sound { IsSound lens.now compared.old }
+        ensures goes { MatchResult result (λ _. IsWalking lens.now root.old root.new self.new.rows.items self.new.order.items (next_of self.new.work.items)) (Stops lens.now root.old root.new) }
+        ensures spent { OnOk result (IsSpent self.old self.new) }
+        ensures sound { IsSound lens.now compared.new }
+    {
+        match task {
+            Task::Put(place) => {
+                self.order.push(place)?;
+                Ok(())
+            }
+            Task::Enter(place) => {
+                let at = directory_at(&self.rows, root, place);
+                self.enter(alloc, lens, root, compared, at)
+            }
+        }
+    }
+
+    // Compares the two trees of a directory.
+    fn enter(
+        &mut self,
+        alloc: Global,
+        lens: &'a Lens,
+        root: Directory,
+        compared: &mut Comparisons<'a>,
+        at: Directory,
+    ) -> Result<(), Stop>
+        requires walking { IsWalking lens.now root.old root.new self.old.rows.items self.old.order.items (Enter at.place ∷ next_of self.old.work.items) }
+        requires at { IsDirectory lens.now root.old root.new (paths_of self.old.rows.items) at }
+        requires sound { IsSound lens.now compared.old }
+        ensures goes { MatchResult result (λ _. IsWalking lens.now root.old root.new self.new.rows.items self.new.order.items (next_of self.new.work.items)) (Stops lens.now root.old root.new) }
         ensures spent { OnOk result (IsSpent self.old self.new) }
         ensures sound { IsSound lens.now compared.new }
     {
@@ -128,77 +194,173 @@ impl Walker {
                 object_at(lens, at.old),
                 object_at(lens, at.new),
             )?;
-            return self.meet_all(alloc, at, &list);
+            return self.add_all(alloc, lens, root, at, &list);
         };
         let pair = TreePair { old, new };
         compared.compare_pair(alloc, lens, pair)?;
-        self.meet_all(alloc, at, compared.differences_of(lens, pair))
+        self.add_all(alloc, lens, root, at, compared.differences_of(lens, pair))
     }
 
-    // Meets each name of a directory at which the trees differ.
-    fn meet_all(&mut self, alloc: Global, at: &Pending, list: &[Difference<'_>]) -> Result<(), Stop>
-        ensures goes { (objects : List Content) (old new : Option ObjectId) → Differing objects at.now list.now
-            → IsWalking objects old new self.old.met (at.now ∷ self.old.work.items)
-            → MatchResult result (λ _. IsWalking objects old new self.new.met self.new.work.items) (Stops objects old new) }
+    // Adds a row for each name of a directory at which its trees differ, and puts what is to be done of them before what is left.
+    fn add_all(
+        &mut self,
+        alloc: Global,
+        lens: &Lens,
+        root: Directory,
+        at: Directory,
+        list: &[Difference<'a>],
+    ) -> Result<(), Stop>
+        requires walking { IsWalking lens.now root.old root.new self.old.rows.items self.old.order.items (Enter at.place ∷ next_of self.old.work.items) }
+        requires at { IsDirectory lens.now root.old root.new (paths_of self.old.rows.items) at }
+        requires differing { Differing lens.now at list.now }
+        ensures goes { MatchResult result (λ _. IsWalking lens.now root.old root.new self.new.rows.items self.new.order.items (next_of self.new.work.items)) (Stops lens.now root.old root.new) }
         ensures spent { OnOk result (IsSpent self.old self.new) }
     {
-        for found in list {
-            self.meet(alloc, at.front.bytes(), found)?;
+        let _objects = lens;
+        // The rows are counted before they are made.
+        if are_too_many(self.rows.len(), list.len()) {
+            return Err(Stop::TooMuch);
         }
+        let rows = rows_of(alloc, at, list)?;
+        let items = items_of(alloc, self.rows.len(), &rows)?;
+        let items = sort_items(items)?;
+        self.rows.extend_from_slice(&rows)?;
+        self.work.extend_from_slice(&items)?;
         Ok(())
     }
+}
 
-    // Meets a name of a directory at which the trees differ. One that was met before is passed over.
-    fn meet(&mut self, alloc: Global, front: &[u8], found: &Difference<'_>) -> Result<(), Stop>
-        ensures goes { (objects : List Content) (old new : Option ObjectId) (at : Pending) (names : List Name)
-            → IsWalking objects old new self.old.met (at ∷ self.old.work.items)
-            → IsPlace objects old new names at → at.front ≡ front.now
-            → IsFound objects old new names found.now.name.now (old_entry found.now) (new_entry found.now)
-            → MatchResult result
-            (λ _. Goes objects old new self.old.met self.new.met (at ∷ self.new.work.items) × IsMet self.new.met (front.now ++ found.now.name.now))
-            (Stops objects old new) }
-        ensures spent { OnOk result (IsSpent self.old self.new) }
-    {
-        // The length is looked at before the path is put together: a name may have millions of bytes.
-        if is_too_long(front, found.name) {
+// Whether these are more rows together than there may be.
+fn are_too_many(rows: usize, more: usize) -> bool
+    requires { rows ≤ MAX_ROWS }
+    ensures { IsTrue result ↔ (MAX_ROWS < rows + more) }
+{
+    more > MAX_ROWS - rows
+}
+
+// Whether a path of so many bytes and a name is longer than a path may be.
+fn is_too_long(front: usize, name: &[u8]) -> bool
+    requires { front ≤ MAX_PATH + 1 }
+    ensures { result ≡ nat_lt MAX_PATH (front + length name.now) }
+{
+    front + name.len() > MAX_PATH
+}
+
+// The directory at a place.
+fn directory_at(rows: &[Row<'_>], root: Directory, place: Option<usize>) -> Directory
+    requires within { IsWithin (length rows.now) place }
+    requires short { All (λ (r : Row). r.length ≤ MAX_PATH) rows.now }
+    requires root { root.place ≡ None }
+    ensures { IsDirectoryOf rows.now root place result }
+{
+    let Some(at) = place else {
+        return root;
+    };
+    let row = &rows[at];
+    Directory {
+        place,
+        old: row.old,
+        new: row.new,
+        front: row.length + 1,
+    }
+}
+
+// The rows of the names of a directory. The lengths of their paths are looked at before any text is made.
+fn rows_of<'a>(alloc: Global, at: Directory, list: &[Difference<'a>]) -> Result<Vec<Row<'a>>, Stop>
+    requires { at.front ≤ MAX_PATH + 1 }
+    ensures rows { IfOk result (λ rows. rows.items ≡ map (row_of at) list.now) }
+    ensures short { OnOk result (AreShort at list.now) }
+    ensures stops { IfErr result (IsTooLong at list.now) }
+{
+    let mut rows = Vec::new(alloc);
+    for found in list {
+        if is_too_long(at.front, found.name) {
             return Err(Stop::TooMuch);
         }
-        let path = join_texts(alloc, front, found.name)?;
-        if self.met.contains_key(&path) {
-            return Ok(());
-        }
-        let below = join_texts(alloc, path.bytes(), b"/")?;
-        let listed = is_listed(found);
-        self.met.insert(path, listed)?;
-        if are_too_many(&self.met) {
-            return Err(Stop::TooMuch);
-        }
-        let old = tree_below(found.old);
-        let new = tree_below(found.new);
-        if old.is_none() && new.is_none() {
-            return Ok(());
-        }
-        self.work.push(Pending {
-            front: below,
-            old,
-            new,
+        rows.push(row_of(at, found))?;
+    }
+    Ok(rows)
+}
+
+fn row_of<'a>(at: Directory, found: &Difference<'a>) -> Row<'a>
+    requires { at.front + length found.now.name.now ≤ MAX_PATH }
+    ensures { result ≡ row_of at found.now }
+{
+    Row {
+        parent: at.place,
+        name: found.name,
+        old: tree_below(found.old),
+        new: tree_below(found.new),
+        listed: is_file(found.old) || is_file(found.new),
+        length: at.front + found.name.len(),
+    }
+}
+
+// What is to be done of some rows, of which the first is at this place.
+fn items_of<'a>(alloc: Global, first: usize, rows: &[Row<'a>]) -> Result<Vec<Item<'a>>, NoMemory>
+    requires { first + length rows.now ≤ MAX_ROWS }
+    ensures { IfOk result (λ items. items.items ≡ items_from first rows.now) }
+{
+    let mut items = Vec::new(alloc);
+    let mut place = first;
+    for row in rows {
+        add_items(&mut items, place, row)?;
+        place += 1;
+    }
+    Ok(items)
+}
+
+fn add_items<'a>(items: &mut Vec<Item<'a>>, place: usize, row: &Row<'a>) -> Result<(), NoMemory>
+    ensures { OnOk result (items.new.items ≡ items.old.items ++ items_from place (row.now ∷ [])) }
+{
+    items.push(Item {
+        name: row.name,
+        task: Task::Put(place),
+    })?;
+    if has_tree(row) {
+        items.push(Item {
+            name: row.name,
+            task: Task::Enter(Some(place)),
         })?;
-        Ok(())
+        return Ok(());
     }
+    Ok(())
 }
 
-// Whether a path of a front and a name is longer than a path may be.
-fn is_too_long(front: &[u8], name: &[u8]) -> bool
-    ensures { result ≡ nat_lt MAX_PATH (length front.now + length name.now) }
+fn has_tree(row: &Row<'_>) -> bool
+    ensures { result ≡ has_tree row.now }
 {
-    front.len() + name.len() > MAX_PATH
+    row.old.is_some() || row.new.is_some()
 }
 
-// Whether more paths were met than trees may differ at.
-fn are_too_many(met: &BTreeMap<Text, bool>) -> bool
-    ensures { result ≡ nat_lt MAX_ROWS (btree_map_len met.now) }
+// Sorts what is to be done in a directory; what comes next is the last.
+//
+// What lies below a name stands behind the names that go on with a byte below `/`: a slash is put behind the name where they are compared.
+fn sort_items(items: Vec<Item<'_>>) -> Result<Vec<Item<'_>>, NoMemory>
+    ensures { IfOk result (λ sorted. SortsItems items.entry.items (reverse sorted.items)) }
 {
-    met.len() > MAX_ROWS
+    let mut items = items;
+    items.sort_by(|one, other| compare_items(one, other))?;
+    items.reverse();
+    Ok(items)
+}
+
+fn compare_items(one: &Item<'_>, other: &Item<'_>) -> Ordering
+    ensures { result ≡ key_cmp one.now other.now }
+{
+    let one_key = one.name.iter().chain(tail_of(one.task).iter());
+    let other_key = other.name.iter().chain(tail_of(other.task).iter());
+    one_key.cmp(other_key)
+}
+
+// What is put behind the name of a row where what is to be done is sorted.
+fn tail_of(task: Task) -> &'static [u8]
+    ensures { result.now ≡ tail_of task }
+{
+    match task {
+        Task::Put(_) => b"",
+        Task::Enter(_) => b"/",
+    }
 }
 
 fn object_at<'l>(lens: &'l Lens, tree: Option<ObjectId>) -> Option<&'l Object>
@@ -222,13 +384,6 @@ fn tree_below(entry: Option<TreeEntry<'_>>) -> Option<ObjectId>
     None
 }
 
-// Whether a path is listed, by what is there on either side.
-fn is_listed(found: &Difference<'_>) -> bool
-    ensures { result ≡ (is_file (old_entry found.now) || is_file (new_entry found.now)) }
-{
-    is_file(found.old) || is_file(found.new)
-}
-
 fn is_file(entry: Option<TreeEntry<'_>>) -> bool
     ensures { result ≡ is_file (option_map entry_of entry.entry) }
 {
@@ -236,12 +391,4 @@ fn is_file(entry: Option<TreeEntry<'_>>) -> bool
         Some(entry) => !is_directory(&entry),
         None => false,
     }
-}
-
-fn join_texts(alloc: Global, front: &[u8], back: &[u8]) -> Result<Text, NoMemory>
-    ensures { IfOk result (λ text. text ≡ front.now ++ back.now) }
-{
-    let mut bytes = front.to_vec(alloc)?;
-    bytes.extend_from_slice(back)?;
-    Ok(Text::from(bytes))
 }
