@@ -1,0 +1,26 @@
+-- A check of changes, as contracts see it.
+use Rattle.std.specs.Prelude.{◌≡◌, ℕ, Bool, List}
+use Rattle.rule_compile.specs.Patterns.{AreTrue, Patterns}
+use Rattle.rule_compile.specs.declared.rule.Rule.{Rule}
+use Rattle.access_check.specs.Letters.{flags_of}
+use Rattle.access_check.specs.Users.{Asked, asked}
+use Rattle.access_check.specs.Verdicts.{holds_vref}
+use Rattle.wild_perms.specs.Roles.{WildView}
+use Rattle.access_check.specs.declared.letters.Flags.{Flags}
+use Rattle.access_check.specs.declared.verdicts.Vref.TheVariants.{Name, MergeCheck}
+
+-- the rules, and who asks of which repository, which has this creator and these roles
+pub record CheckView : Type 0 where
+  pub rules : List Rule
+  pub wild : WildView
+  pub repo : List ℕ
+  pub user : List ℕ
+
+abbrev pub asked_by : CheckView → Asked
+asked_by check = asked check.wild check.repo check.user
+
+-- What is found once for all changes: the letters in force, and which virtual refs are asked. It serves private fields alone.
+pub record IsFoundOf (rules : List Rule) (a : Asked) (flags : Flags) (asks_merge_check asks_paths : Bool) : Type 0 where
+  pub letters : (patterns : Patterns) → AreTrue patterns → flags ≡ flags_of patterns rules a.repo a.creator
+  pub merge : (patterns : Patterns) → AreTrue patterns → asks_merge_check ≡ holds_vref patterns rules a MergeCheck
+  pub paths : (patterns : Patterns) → AreTrue patterns → asks_paths ≡ holds_vref patterns rules a Name

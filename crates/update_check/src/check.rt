@@ -1,0 +1,209 @@
+// What the rules say of changes of refs.
+ghost use Rattle.std.specs.Prelude.{◌≡◌, ◌++◌, IfOk, Option};
+ghost use Rattle.rule_compile.specs.Patterns.{AreTrue, Patterns};
+ghost use Rattle.access_check.specs.Verdicts.{decide, holds_vref};
+ghost use Rattle.vref.specs.Facts.{AreFacts};
+ghost use Rattle.update_check.specs.Check.{asked_by};
+ghost use Rattle.update_check.specs.Rules.{RulesSay, SaysOfPaths, letter_for, said_of_merge, said_of_paths, said_of_ref, said_of_virtual};
+
+use crate::Refusal;
+use access_check::{
+    Flags, Letter, Policy, RepoName, UserName, Verdict, Vref, Wild, decide, flags_of, holds_vref,
+    letter_of,
+};
+use ancestry::Facts;
+use base_types::{NoMemory, Text};
+use ref_store::{Command, Lens};
+use std::alloc::Global;
+use std::marker::Model;
+use vref::{PathList, Paths, changed_paths};
+
+const MERGE_CHECK: &[u8] = b"VREF/MERGE-CHECK/";
+
+const NAME: &[u8] = b"VREF/NAME/";
+
+/// The rules for changes of refs by one user in one repository. What is the same for all changes is found once, when it is made.
+#[derive(Drop)]
+pub struct UpdateCheck<'a> {
+    policy: &'a Policy,
+    wild: &'a Wild,
+    repo: &'a RepoName,
+    user: &'a UserName,
+    flags: Flags,
+    asks_merge_check: bool,
+    asks_paths: bool,
+}
+
+impl<'a> Model for UpdateCheck<'a> {
+    ghost use Rattle.access_check.specs.Users.{asked};
+    ghost use Rattle.update_check.specs.Check.{CheckView, IsFoundOf};
+
+    ghost Value = { CheckView };
+
+    ghost view = { λ c. record { rules = c.policy.now.rules; wild = c.wild.now; repo = c.repo.now; user = c.user.now } };
+
+    ghost invariant = { λ c. IsFoundOf c.policy.now.rules (asked c.wild.now c.repo.now c.user.now) c.flags c.asks_merge_check c.asks_paths };
+}
+
+impl<'a> UpdateCheck<'a> {
+    /// It looks at all rules of the repository's name, of `@all` and of patterns.
+    pub fn new(
+        policy: &'a Policy,
+        wild: &'a Wild,
+        repo: &'a RepoName,
+        user: &'a UserName,
+    ) -> UpdateCheck<'a>
+        ensures { result ≡ record { rules = policy.now.rules; wild = wild.now; repo = repo.now; user = user.now } }
+    {
+        UpdateCheck {
+            policy,
+            wild,
+            repo,
+            user,
+            flags: flags_of(policy, wild, repo),
+            asks_merge_check: holds_vref(policy, wild, repo, user, Vref::MergeCheck),
+            asks_paths: holds_vref(policy, wild, repo, user, Vref::Name),
+        }
+    }
+
+    /// Why the rules don't let a change be made, if they don't.
+    ///
+    /// It costs the decisions on the ref and, where a merge is brought, on the merge check. Where a rule asks for changed paths, it costs what
+    /// `vref::changed_paths` does, and a decision for each path up to the first that is denied.
+    pub fn refusal(
+        &self,
+        alloc: Global,
+        lens: &Lens,
+        facts: &Facts,
+        change: &Command,
+    ) -> Result<Option<Refusal>, NoMemory>
+        requires { AreFacts lens.now change.now.name change.now.old change.now.new facts.now }
+        ensures { IfOk result (λ found. (ps : Patterns) → AreTrue ps → RulesSay ps self.now.rules (asked_by self.now) lens.now change.now found) }
+    {
+        let letter = self.letter(facts);
+        if let Some(refusal) = self.refusal_of_ref(letter, &change.name)? {
+            return Ok(Some(refusal));
+        }
+        if let Some(refusal) = self.refusal_of_merge(alloc, letter, facts.merge, &change.name)? {
+            return Ok(Some(refusal));
+        }
+        self.refusal_of_paths(alloc, letter, lens, change)
+    }
+
+    // The ref itself.
+    fn refusal_of_ref(&self, letter: Letter, name: &Text) -> Result<Option<Refusal>, NoMemory>
+        ensures { IfOk result (λ said. (ps : Patterns) → AreTrue ps → said ≡ said_of_ref ps self.now.rules (asked_by self.now) letter name.now) }
+    {
+        let verdict = self.verdict(letter, name.bytes());
+        if let Verdict::Allowed(_) = verdict {
+            return Ok(None);
+        }
+        Ok(Some(Refusal::Denied {
+            verdict,
+            letter,
+            name: name.clone()?,
+        }))
+    }
+
+    // A merge that is brought, where a rule asks for the merge check.
+    fn refusal_of_merge(
+        &self,
+        alloc: Global,
+        letter: Letter,
+        brings_merge: bool,
+        name: &Text,
+    ) -> Result<Option<Refusal>, NoMemory>
+        ensures { IfOk result (λ said. (ps : Patterns) → AreTrue ps → said ≡ said_of_merge ps self.now.rules (asked_by self.now) letter brings_merge name.now) }
+    {
+        if !self.asks(Vref::MergeCheck) || !brings_merge {
+            return Ok(None);
+        }
+        Ok(self.refusal_of_virtual(letter, joined(alloc, MERGE_CHECK, name.bytes())?))
+    }
+
+    // The changed paths, where a rule asks for them.
+    fn refusal_of_paths(
+        &self,
+        alloc: Global,
+        letter: Letter,
+        lens: &Lens,
+        change: &Command,
+    ) -> Result<Option<Refusal>, NoMemory>
+        ensures { IfOk result (λ said. (ps : Patterns) → AreTrue ps → SaysOfPaths ps self.now.rules (asked_by self.now) lens.now letter change.now said) }
+    {
+        if !self.asks(Vref::Name) {
+            return Ok(None);
+        }
+        match changed_paths(alloc, lens, change.old, change.new) {
+            Paths::Listed(paths) => self.refusal_of_first(alloc, letter, &paths),
+            Paths::TooMany => Ok(Some(Refusal::ManyPaths)),
+            Paths::NoMemory => Err(NoMemory),
+        }
+    }
+
+    // The first of these paths that a rule denies.
+    fn refusal_of_first(
+        &self,
+        alloc: Global,
+        letter: Letter,
+        paths: &PathList<'_>,
+    ) -> Result<Option<Refusal>, NoMemory>
+        ensures { IfOk result (λ said. (ps : Patterns) → AreTrue ps → said ≡ said_of_paths ps self.now.rules (asked_by self.now) letter paths.now) }
+    {
+        for place in 0..paths.len() {
+            let path = paths.path(alloc, place)?;
+            let name = joined(alloc, NAME, path.bytes())?;
+            if let Some(refusal) = self.refusal_of_virtual(letter, name) {
+                return Ok(Some(refusal));
+            }
+        }
+        Ok(None)
+    }
+
+    // A virtual ref.
+    fn refusal_of_virtual(&self, letter: Letter, name: Text) -> Option<Refusal>
+        ensures { (ps : Patterns) → AreTrue ps → result ≡ said_of_virtual ps self.now.rules (asked_by self.now) letter name }
+    {
+        let verdict = self.verdict(letter, name.bytes());
+        if let Verdict::DeniedBy(_) = verdict {
+            return Some(Refusal::Denied {
+                verdict,
+                letter,
+                name,
+            });
+        }
+        None
+    }
+
+    // The letter that a change needs.
+    fn letter(&self, facts: &Facts) -> Letter
+        ensures { (ps : Patterns) → AreTrue ps → result ≡ letter_for ps self.now.rules (asked_by self.now) facts.now }
+    {
+        letter_of(self.flags, facts)
+    }
+
+    // Whether some rule asks for a virtual ref of this kind.
+    fn asks(&self, which: Vref) -> bool
+        ensures { (ps : Patterns) → AreTrue ps → result ≡ holds_vref ps self.now.rules (asked_by self.now) which }
+    {
+        match which {
+            Vref::MergeCheck => self.asks_merge_check,
+            Vref::Name => self.asks_paths,
+        }
+    }
+
+    fn verdict(&self, letter: Letter, name: &[u8]) -> Verdict
+        ensures { (ps : Patterns) → AreTrue ps → result ≡ decide ps self.now.rules (asked_by self.now) letter name.now }
+    {
+        decide(self.policy, self.wild, self.repo, self.user, letter, name)
+    }
+}
+
+// The name of a virtual ref: the name of its kind, and behind it what is asked of it.
+fn joined(alloc: Global, kind: &[u8], rest: &[u8]) -> Result<Text, NoMemory>
+    ensures { IfOk result (λ name. name ≡ kind.now ++ rest.now) }
+{
+    let mut name = kind.to_vec(alloc)?;
+    name.extend_from_slice(rest)?;
+    Ok(Text::from(name))
+}
