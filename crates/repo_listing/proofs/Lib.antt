@@ -1,0 +1,5 @@
+mod CreatorLemmas
+mod LawLemmas
+mod ListLemmas
+mod NumberLemmas
+mod StepLemmas
