@@ -1,0 +1,17 @@
+mod HistoryLemmas
+mod OpeningLemmas
+mod EachRepository
+mod PushLemmas
+mod JudgeLemmas
+mod ShortNames
+mod ObjectLemmas
+mod RefsApart
+mod CollisionLemmas
+mod GrownObjects
+mod WholeRefs
+mod GrowthLemmas
+mod WholeLogs
+mod MovedRefs
+mod MovedLogs
+mod AnswerLemmas
+mod ConfLemmas

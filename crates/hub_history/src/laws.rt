@@ -1,0 +1,35 @@
+// What holds of the definitions themselves.
+ghost use Rattle.hub_history.specs.Laws.{BeginningIsLegal, ChangesAreDone, ConfChangesAreDone, ConfStaysGood, DoneIsLet, DoneMoves, LegalByPlaces, NamesStayOnce, NamesStayShort, ObjectsOnlyGrow, OneAnswer, OpeningStays, PinsAreOfOpenings, PinsOfItsPlace, RefsStayApart, RefsStayWhole, RefusedAtomicChangesNothing, RepositoriesStay, StaleIsStale, StateStays};
+
+use rule_compile::some_patterns_are_true;
+
+/// The laws of histories; a call does nothing.
+pub fn hold_laws()
+    ensures places { LegalByPlaces }
+    ensures beginning { BeginningIsLegal }
+    ensures stays { StateStays }
+    ensures stands { OpeningStays }
+    ensures pins { PinsOfItsPlace }
+    ensures openings { PinsAreOfOpenings }
+    ensures short { NamesStayShort }
+    ensures names { NamesStayOnce }
+    ensures apart { RefsStayApart }
+    ensures whole { RefsStayWhole }
+    ensures grow { ObjectsOnlyGrow }
+    ensures there { RepositoriesStay }
+    ensures allowed { DoneIsLet }
+    ensures moves { DoneMoves }
+    ensures changes { ChangesAreDone }
+    ensures stale { StaleIsStale }
+    ensures atomic { RefusedAtomicChangesNothing }
+    ensures good { ConfStaysGood }
+    ensures conf { ConfChangesAreDone }
+    ensures one { OneAnswer }
+{
+    // called for its clause that some answers about patterns are true, which the proof cites
+    some_patterns_are_true();
+    // called for its clause on what is said of a change
+    update_check::hold_laws();
+    // called for its clause that a conf has one answer
+    policy_swap::hold_laws();
+}
