@@ -42,9 +42,9 @@ unfolding sessions
 undone source sink admin = record {
   done = [];
   more = [];
-  written = Appends-nil sink.written;
+  written = λ answers agrees. Appends-nil sink.written;
   may_lack = inl refl;
-  stops = inl (record { part = []; small = tt; none = begins_none; inside = inl (tt, omega arith); takes = record { consumed = Consumes-nil source.left; counted = omega arith }; nothing = refl; log_is = refl });
+  stops = inl (record { part = []; small = tt; none = begins_none; inside = inl (tt, omega arith); takes = record { consumed = Consumes-nil source.left; counted = omega arith }; nothing = refl; log_is = λ answers agrees. refl });
 }
 
 module _ (words : List (List ℕ)) (source source' sink sink' : LinkState) (log : List Entry) where

@@ -1,6 +1,5 @@
 -- An opening's entry, and what it pins.
-use Rattle.std.proofs.Common.{◌≡◌, List, [], ◌∷◌, ◌++◌, length, Option, Some, Result, Ok, codes, refl, sym, ◌∙◌, ap, subst}
-use Rattle.std.specs.Option.{IfSome}
+use Rattle.std.proofs.Common.{◌≡◌, List, [], ◌∷◌, ◌++◌, length, Some, Result, Ok, codes, refl, sym, ◌∙◌, ap, subst}
 use Rattle.pktline_core.specs.LinkState.{LinkState}
 use Rattle.hub_core.specs.declared.verdict.Want.TheVariants.{Write}
 use Rattle.hub_core.specs.declared.entry.Entry.{Entry}
@@ -9,15 +8,14 @@ use Rattle.hub_core.specs.declared.entry.EnterKept.TheVariants.{Granted, Created
 use Rattle.hub_core.specs.declared.entry.Event.TheVariants.{Entered}
 use Rattle.hub_core.specs.declared.hub.Entered as hub_entered
 use Rattle.hub_core.specs.Name.{Name}
-use Rattle.hub_core.specs.State.{State}
-use Rattle.hub_core.specs.Pin.{Opening, answer_to, pinned_in, pins}
-use Rattle.hub_core.specs.History.{History, history, new_history, opening_at, replay, step, pinned_by}
+use Rattle.hub_core.specs.Pin.{Opening, answer_to, pins}
+use Rattle.hub_core.specs.History.{history, opening_at, replay, pinned_by}
 use Rattle.hub_core.specs.Hub.{Stands}
 use Rattle.hub_core.specs.Answer.{kept}
 use Rattle.hub_core.specs.Desk.{DeskView, Enters, MakesEntry, known}
-use Rattle.hub_core.proofs.HistoryLemmas.{history_from-append, opening_at-place}
+use Rattle.hub_core.proofs.HistoryLemmas.{opening_at-place}
 use Rattle.interaction_tree.specs.Interaction.{gives, ask}
-use Rattle.interaction_tree.specs.Requests.{Enter, answered}
+use Rattle.interaction_tree.specs.Requests.{Enter, OwnEntry}
 use Rattle.interaction_tree.specs.Traces.{Halt}
 use Rattle.interaction_tree.specs.Runs.{Runs}
 use Rattle.interaction_tree.proofs.RunLemmas.{runs_bind, runs_gives}
@@ -29,36 +27,35 @@ use Rattle.gitolite_shell.specs.Texts.{denial}
 use Rattle.gitolite_shell.specs.declared.end.SessionEnd.TheVariants as end
 use Rattle.hub_core.specs.declared.verdict.Verdict.{Verdict}
 
+-- the entry of an opening, and the log just before it
+abbrev pub own_at : DeskView → List Entry → Asked → EnterKept → OwnEntry
+own_at d before q answer = record { before = before; entry = record { caller = d.caller; event = Entered q.user q.repo Write answer } }
+
 -- an opening's entry, and the rest by its answer
 pub entered_then : (a c : LinkState) (d e : DeskView) (q : Asked) (result : hub_entered.Entered) (answer : EnterKept) (out : Result Opening (Halt SessionEnd)) → kept result ≡ Some answer → (enters : Enters d e q.user q.repo Write result)
-    → Runs a c e e (by_answer q answer (opening_behind d.admin enters.0 q)) out → Runs a c d e (entering d.admin q) out
+    → Runs a c e e (by_answer q answer (opening_behind d.admin (own_at d enters.0 q answer) q)) out → Runs a c d e (entering d.admin q) out
 unfolding entering
 entered_then a c d e q result answer out is enters rest =
-    let due : answer ≡ answer_to (replay d.admin enters.0) q.user q.repo Write = subst (λ (o : Option EnterKept). IfSome o (λ k. k ≡ answer_to (replay d.admin enters.0) q.user q.repo Write)) is enters.2.0 in
-    runs_bind a a c d e e (ask (Enter q.user q.repo Write)) enters.0 _ out (runs_entered a d e q.user q.repo Write result answer is enters)
-    (subst (λ (k : EnterKept). Runs a c e e (by_answer q k (opening_behind d.admin enters.0 q)) out) due rest)
+    runs_bind a a c d e e (ask (Enter q.user q.repo Write)) (own_at d enters.0 q answer) _ out (runs_entered a d e q.user q.repo Write result answer is enters) rest
 
 some_same : {X : Type 0} {a b : X} → Some a ≡ Some b → a ≡ b
 some_same {X} {a} {b} same = cc
 
 module _ (admin : Name) (before : List Entry) (entry : Entry) (q : Asked) (answer : EnterKept) (event : entry.event ≡ Entered q.user q.repo Write answer) where
-  -- the state with the opening
-  state_with : replay admin (before ++ entry ∷ []) ≡ step (history admin before) (answered (history admin before) (Enter q.user q.repo Write))
-  state_with = ap (λ (h : History). h.state) (history_from-append (new_history admin) before (entry ∷ [])) ∙ ap (step (history admin before)) event
+  abbrev behind : Opening
+  behind = opening_behind admin (record { before = before; entry = entry }) q
 
-  pins_here : (answer_to (replay admin before) q.user q.repo Write ≡ Granted) → opening_at (history admin (before ++ entry ∷ [])) (length before) ≡ Some (opening_behind admin before q).pinned
+  pins_here : (answer_to (replay admin before) q.user q.repo Write ≡ Granted) → opening_at (history admin (before ++ entry ∷ [])) (length before) ≡ Some behind.pinned
   pins_here due =
       opening_at-place admin before entry []
       ∙ ap (pinned_by (replay admin before) (replay admin (before ++ entry ∷ []))) event
       ∙ ap (pins (replay admin (before ++ entry ∷ [])) q.user q.repo Write) due
-      ∙ ap (λ (s : State). Some (pinned_in s q.user q.repo Write)) state_with
 
-  pins_created : (answer_to (replay admin before) q.user q.repo Write ≡ Created) → opening_at (history admin (before ++ entry ∷ [])) (length before) ≡ Some (opening_behind admin before q).pinned
+  pins_created : (answer_to (replay admin before) q.user q.repo Write ≡ Created) → opening_at (history admin (before ++ entry ∷ [])) (length before) ≡ Some behind.pinned
   pins_created due =
       opening_at-place admin before entry []
       ∙ ap (pinned_by (replay admin before) (replay admin (before ++ entry ∷ []))) event
       ∙ ap (pins (replay admin (before ++ entry ∷ [])) q.user q.repo Write) due
-      ∙ ap (λ (s : State). Some (pinned_in s q.user q.repo Write)) state_with
 
 -- what stands behind an entry, at its place
 stood : (d e : DeskView) (before : List Entry) (entry : Entry) → MakesEntry d e before entry → (pin : Opening) → pin.place ≡ length before → Stands pin (known e)
@@ -68,25 +65,23 @@ stood d e before entry m pin place stands =
     ∙ ap (λ (v : DeskView). opening_at (history v.admin v.seen) pin.place) (sym m.new_is)
     ∙ stands
 
--- the entry of an opening
-abbrev entry_at : DeskView → Asked → EnterKept → Entry
-entry_at d q answer = record { caller = d.caller; event = Entered q.user q.repo Write answer }
-
 same_opening : (pin other : Opening) → pin.place ≡ other.place → pin.pinned ≡ other.pinned → pin ≡ other
 same_opening pin other p q = λ i. record { place = p i; pinned = q i }
 
 -- the pin of an opening that was granted, or whose repository was made, is the one that its interaction gives
-pub pin_granted : (d e : DeskView) (q : Asked) (pin : Opening) (enters : Enters d e q.user q.repo Write (hub_entered.TheVariants.Granted pin)) → pin ≡ opening_behind d.admin enters.0 q
+pub pin_granted : (d e : DeskView) (q : Asked) (pin : Opening) (enters : Enters d e q.user q.repo Write (hub_entered.TheVariants.Granted pin)) → pin ≡ opening_behind d.admin (own_at d enters.0 q Granted) q
 pin_granted d e q pin enters =
     let m = enters.1 in
     let is = enters.2.1 in
-    same_opening pin (opening_behind d.admin enters.0 q) is.place (some_same (sym (stood d e enters.0 (entry_at d q Granted) m pin is.place is.stands) ∙ pins_here d.admin enters.0 (entry_at d q Granted) q Granted refl (sym enters.2.0)))
+    let own = own_at d enters.0 q Granted in
+    same_opening pin (opening_behind d.admin own q) is.place (some_same (sym (stood d e enters.0 own.entry m pin is.place is.stands) ∙ pins_here d.admin enters.0 own.entry q Granted refl (sym enters.2.0)))
 
-pub pin_created : (d e : DeskView) (q : Asked) (pin : Opening) (enters : Enters d e q.user q.repo Write (hub_entered.TheVariants.Created pin)) → pin ≡ opening_behind d.admin enters.0 q
+pub pin_created : (d e : DeskView) (q : Asked) (pin : Opening) (enters : Enters d e q.user q.repo Write (hub_entered.TheVariants.Created pin)) → pin ≡ opening_behind d.admin (own_at d enters.0 q Created) q
 pin_created d e q pin enters =
     let m = enters.1 in
     let is = enters.2.1 in
-    same_opening pin (opening_behind d.admin enters.0 q) is.place (some_same (sym (stood d e enters.0 (entry_at d q Created) m pin is.place is.stands) ∙ pins_created d.admin enters.0 (entry_at d q Created) q Created refl (sym enters.2.0)))
+    let own = own_at d enters.0 q Created in
+    same_opening pin (opening_behind d.admin own q) is.place (some_same (sym (stood d e enters.0 own.entry m pin is.place is.stands) ∙ pins_created d.admin enters.0 own.entry q Created refl (sym enters.2.0)))
 
 -- ---- an opening by its answer
 

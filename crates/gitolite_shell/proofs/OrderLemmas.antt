@@ -8,10 +8,8 @@ use Rattle.git_object.specs.Content.{Content}
 use Rattle.ref_store.specs.declared.command.Command.{Command}
 use Rattle.hub_core.specs.declared.entry.EnterKept.{EnterKept}
 use Rattle.hub_core.specs.declared.entry.EnterKept.TheVariants as answer
-use Rattle.hub_core.specs.declared.verdict.Want.TheVariants.{Write}
 use Rattle.hub_core.specs.Name.{Name}
-use Rattle.hub_core.specs.Pin.{Opening, answer_to}
-use Rattle.hub_core.specs.History.{replay}
+use Rattle.hub_core.specs.Pin.{Opening}
 use Rattle.interaction_tree.specs.Interaction.{Interaction, gives, ◌>>=◌, write, read, ask}
 use Rattle.interaction_tree.specs.Order.{EntriesFirst, IsOrdered}
 use Rattle.interaction_tree.proofs.OrderLemmas.{order_then}
@@ -19,7 +17,7 @@ use Rattle.gitolite_shell.specs.declared.end.SessionEnd.{SessionEnd}
 use Rattle.gitolite_shell.specs.declared.first_packet.Asked.{Asked}
 use Rattle.gitolite_shell.specs.FirstPacket.{asked, without_feed}
 use Rattle.gitolite_shell.specs.Create.{first_at, further_create}
-use Rattle.gitolite_shell.specs.Session.{refuse, not_built, next_packet, or_not_built, asked_in, asking, opening_behind, by_answer, entering, only_flush, further_in, up_to_flush, taking_flush, taking_further, taking_rest, taking_commands, pack_in, refusing_pack, taking_pack, pushing, creating, commanded, commanding, receiving, serving, served, session}
+use Rattle.gitolite_shell.specs.Session.{refuse, not_built, next_packet, or_not_built, asked_in, asking, recorded_answer, opening_behind, by_answer, entering, only_flush, further_in, up_to_flush, taking_flush, taking_further, taking_rest, taking_commands, pack_in, refusing_pack, taking_pack, pushing, creating, commanded, commanding, receiving, serving, served, session}
 
 -- it read last
 ReadLast : {A : Type 0} → Bool → A → Type 0
@@ -49,7 +47,7 @@ order_by_answer a answer.NoRepo opening = tt
 
 order_entering : (admin : Name) (a : Asked) → EntriesFirst false (entering admin a) ReadLast
 unfolding EntriesFirst ◌>>=◌ ask entering
-order_entering admin a = (refl, λ before. order_by_answer a (answer_to (replay admin before) a.user a.repo Write) (opening_behind admin before a))
+order_entering admin a = (refl, λ own. order_by_answer a (recorded_answer own.entry.event) (opening_behind admin own a))
 
 order_only_flush : (found : Result packets.Packet PktFault) → EntriesFirst false (only_flush found) ReadLast
 unfolding EntriesFirst ◌>>=◌ write refuse not_built ReadLast
@@ -99,31 +97,31 @@ order_pack : (commands : List Command) → EntriesFirst false (taking_pack comma
 unfolding EntriesFirst ◌>>=◌ read taking_pack
 order_pack commands = λ reply. order_pack_in commands reply.found
 
-order_pushing : (admin : Name) (opening : Opening) (commands : List Command) (pack : List Content) → EntriesFirst false (pushing admin opening commands pack) (λ w a. ⊤)
+order_pushing : (opening : Opening) (commands : List Command) (pack : List Content) → EntriesFirst false (pushing opening commands pack) (λ w a. ⊤)
 unfolding EntriesFirst ◌>>=◌ ask write pushing
-order_pushing admin opening commands pack = (refl, λ before. tt)
+order_pushing opening commands pack = (refl, λ own. tt)
 
-order_creating : (admin : Name) (opening : Opening) (first : Command) → EntriesFirst false (creating admin opening first) (λ w a. ⊤)
+order_creating : (opening : Opening) (first : Command) → EntriesFirst false (creating opening first) (λ w a. ⊤)
 unfolding creating ReadLast
-order_creating admin opening first =
+order_creating opening first =
     order_then false (taking_commands first) _ ReadLast _ (order_commands first)
-    (λ w commands last. rw last (order_then false (taking_pack commands) _ ReadLast _ (order_pack commands) (λ w' pack last'. rw last' (order_pushing admin opening commands pack))))
+    (λ w commands last. rw last (order_then false (taking_pack commands) _ ReadLast _ (order_pack commands) (λ w' pack last'. rw last' (order_pushing opening commands pack))))
 
-order_commanded : (admin : Name) (opening : Opening) (found : Result packets.Packet PktFault) → EntriesFirst false (commanded admin opening found) (λ w a. ⊤)
+order_commanded : (opening : Opening) (found : Result packets.Packet PktFault) → EntriesFirst false (commanded opening found) (λ w a. ⊤)
 unfolding EntriesFirst ◌>>=◌ write refuse not_built ReadLast
-order_commanded admin opening (Ok packets.Flush) = tt
-order_commanded admin opening (Ok (packets.Line payload)) =
+order_commanded opening (Ok packets.Flush) = tt
+order_commanded opening (Ok (packets.Line payload)) =
     let first : Option Command = first_at opening.pinned.repo (without_feed payload) in
-    order_then false (or_not_built first) _ ReadLast _ (order_or_not_built first) (λ w c last. rw last (order_creating admin opening c))
-order_commanded admin opening (Err fault) = tt
+    order_then false (or_not_built first) _ ReadLast _ (order_or_not_built first) (λ w c last. rw last (order_creating opening c))
+order_commanded opening (Err fault) = tt
 
-order_receiving : (admin : Name) (opening : Opening) → EntriesFirst false (receiving admin opening) (λ w a. ⊤)
+order_receiving : (opening : Opening) → EntriesFirst false (receiving opening) (λ w a. ⊤)
 unfolding EntriesFirst ◌>>=◌ write read next_packet commanding receiving
-order_receiving admin opening = λ reply. order_commanded admin opening reply.found
+order_receiving opening = λ reply. order_commanded opening reply.found
 
 order_serving : (admin : Name) (a : Asked) → EntriesFirst false (serving admin a) (λ w a. ⊤)
 unfolding serving ReadLast
-order_serving admin a = order_then false (entering admin a) _ ReadLast _ (order_entering admin a) (λ w opening last. rw last (order_receiving admin opening))
+order_serving admin a = order_then false (entering admin a) _ ReadLast _ (order_entering admin a) (λ w opening last. rw last (order_receiving opening))
 
 order_served : (admin : Name) → EntriesFirst false (served admin) (λ w a. ⊤)
 unfolding served ReadLast

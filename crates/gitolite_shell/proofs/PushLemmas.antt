@@ -19,8 +19,8 @@ use Rattle.gitolite_shell.specs.Session.{pushing}
 
 -- the report may be of a copy of the commands
 pub pushed_then : (a c : LinkState) (d e : DeskView) (pin : Opening) (pack : List Content) (commands told : List Command) (outcomes : List Outcome) (out : Result (Unit {0}) (Halt SessionEnd))
-    → told ≡ commands → Pushes d e pin pack commands false (Settled outcomes) → Runs a c e e (write (report told outcomes)) out → Runs a c d e (pushing d.admin pin commands pack) out
+    → told ≡ commands → Pushes d e pin pack commands false (Settled outcomes) → Runs a c e e (write (report told outcomes)) out → Runs a c d e (pushing pin commands pack) out
 unfolding pushing
 pushed_then a c d e pin pack commands told outcomes out same pushes rest =
-    runs_bind a a c d e e (ask (Push pin.place pack commands false)) pushes.0 _ out (runs_pushed a d e pin pack commands false outcomes pushes)
-    (subst (λ (os : List Outcome). Runs a c e e (write (report commands os)) out) pushes.2 (subst (λ (cs : List Command). Runs a c e e (write (report cs outcomes)) out) same rest))
+    runs_bind a a c d e e (ask (Push pin.place pack commands false)) _ _ out (runs_pushed a d e pin pack commands false outcomes pushes)
+    (subst (λ (cs : List Command). Runs a c e e (write (report cs outcomes)) out) same rest)

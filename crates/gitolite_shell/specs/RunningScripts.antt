@@ -7,6 +7,7 @@ use Rattle.pktline_core.specs.LinkState.{LinkState}
 use Rattle.hub_core.specs.declared.entry.Entry.{Entry}
 use Rattle.hub_core.specs.Name.{Name}
 use Rattle.hub_core.specs.Desk.{DeskView}
+use Rattle.interaction_tree.specs.Requests.{AsLogged}
 use Rattle.interaction_tree.specs.Traces.{Begins, FallsShort}
 use Rattle.interaction_tree.specs.Endings.{IsInput}
 use Rattle.gitolite_shell.specs.Frames.{frame_text, AreBodies, BeginsNoFrame, IsScript}
@@ -15,19 +16,20 @@ use Rattle.gitolite_shell.specs.Script.{stop_word, reply_text, fault_text, serve
 use Rattle.gitolite_shell.specs.declared.script.ScriptFault.{ScriptFault}
 use Rattle.gitolite_shell.specs.declared.script.ScriptFault.TheVariants.{BadScript, InputFault, OutputFault, NoMemory}
 
--- one session was served, and this is printed of it
+-- One session was served, and this is printed of it: what the session gives at a hub that answers as the log afterwards records.
 pub record Serves (old new : DeskView) (number : ℕ) (body text : List ℕ) : Type 0 where
-  pub printed : text ≡ reply_text number (stop_word (served_alone old.admin body old.seen).stop) (served_alone old.admin body old.seen).bytes
-  pub seen : new.seen ≡ (served_alone old.admin body old.seen).log
+  pub printed : AsLogged new.seen (λ answers. text ≡ reply_text number (stop_word (served_alone answers old.admin body old.seen).stop) (served_alone answers old.admin body old.seen).bytes)
+  pub seen : AsLogged new.seen (λ answers. new.seen ≡ (served_alone answers old.admin body old.seen).log)
   pub admin : new.admin ≡ old.admin
   pub alone : IsTrue new.alone
 
--- Frames with these bodies were read, and their sessions served and printed, of which the first has this number.
+-- Frames with these bodies were read, and their sessions served and printed, of which the first has this number, where the hub answers as the log
+-- afterwards records.
 pub record Advances (source source' sink sink' : LinkState) (old new : DeskView) (number : ℕ) (bodies : List (List ℕ)) : Type 0 where
   pub small : AreBodies bodies
   pub takes : Takes source source' (flat_map frame_text bodies)
-  pub written : Appends sink.written sink'.written (sessions old.admin number bodies old.seen).output
-  pub seen : new.seen ≡ (sessions old.admin number bodies old.seen).log
+  pub written : AsLogged new.seen (λ answers. Appends sink.written sink'.written (sessions answers old.admin number bodies old.seen).output)
+  pub seen : AsLogged new.seen (λ answers. new.seen ≡ (sessions answers old.admin number bodies old.seen).log)
   pub admin : new.admin ≡ old.admin
   pub alone : IsTrue new.alone
 
@@ -82,7 +84,7 @@ pub record LacksAtRead (source source' sink sink' : LinkState) (old new : DeskVi
 -- Memory lacked in a session, or where its reply was put together: of the entries that are due of it a beginning was made.
 pub record LacksSession (old new : DeskView) (body : List ℕ) : Type 0 where
   pub goes_on : Begins old.seen new.seen
-  pub within : Begins new.seen (served_alone old.admin body old.seen).log
+  pub within : AsLogged new.seen (λ answers. Begins new.seen (served_alone answers old.admin body old.seen).log)
 
 -- the next frame was read, and memory lacked in its session, of which nothing was printed
 pub record LacksServing (source source' sink sink' : LinkState) (old new : DeskView) : Type 0 where
@@ -123,7 +125,8 @@ StopsAdvancing source source' sink sink' old new number offset NoMemory =
 abbrev pub IsReadOf : Option (List ℕ) → List ℕ → List ℕ → Type 0
 IsReadOf left part rest = (more : List ℕ) × IsRest left more × (rest ≡ part ++ more)
 
--- A script was run to its end, or to a bad frame: the input is a script, and what was printed, and the log from one to another, are that script's.
+-- A script was run to its end, or to a bad frame: the input is a script, and what was printed, and the log from one to another, are that script's at a
+-- hub that answers as the log afterwards records.
 -- Of what follows the frames a part was read; where the script is bad, a byte at least, and none behind one at which it no longer ends inside a frame.
 pub record RunsScript (source source' sink sink' : LinkState) (admin : Name) (log log' : List Entry) (bad : Bool) : Type 0 where
   pub input : List ℕ
@@ -137,8 +140,8 @@ pub record RunsScript (source source' sink sink' : LinkState) (admin : Name) (lo
   pub some : IsTrue bad → 0 < length part
   pub no_further : IsTrue bad → GoesNoFurther part
   pub takes : Takes source source' (flat_map frame_text bodies ++ part)
-  pub written : Appends sink.written sink'.written (script admin bodies rest log).output
-  pub log_is : log' ≡ (script admin bodies rest log).log
+  pub written : AsLogged log' (λ answers. Appends sink.written sink'.written (script answers admin bodies rest log).output)
+  pub log_is : AsLogged log' (λ answers. log' ≡ (script answers admin bodies rest log).log)
 
 -- A read failed before a frame or inside it: the sessions of all frames that were read whole were served and printed.
 pub record StopsAtRead (source source' sink sink' : LinkState) (admin : Name) (log log' : List Entry) : Type 0 where
@@ -148,20 +151,21 @@ pub record StopsAtRead (source source' sink sink' : LinkState) (admin : Name) (l
   pub none : BeginsNoFrame part
   pub wants : WantsMore part
   pub takes : Takes source source' (flat_map frame_text bodies ++ part)
-  pub written : Appends sink.written sink'.written (sessions admin 1 bodies log).output
-  pub log_is : log' ≡ (sessions admin 1 bodies log).log
+  pub written : AsLogged log' (λ answers. Appends sink.written sink'.written (sessions answers admin 1 bodies log).output)
+  pub log_is : AsLogged log' (λ answers. log' ≡ (sessions answers admin 1 bodies log).log)
   pub risen : HasRisen source.read_faults source'.read_faults
 
--- the session of the next frame was served, and what was printed falls short of what is printed of these and of that one
-pub record StopsServing (source source' : LinkState) (admin : Name) (log log' : List Entry) (done : List (List ℕ)) (printed : List ℕ) : Type 0 where
+-- The session of the next frame was served, and what was printed, which is what is printed of these and then so much more, falls short of what is
+-- printed of these and of that one.
+pub record StopsServing (source source' : LinkState) (admin : Name) (log log' : List Entry) (done : List (List ℕ)) (more : List ℕ) : Type 0 where
   pub body : List ℕ
   pub small : AreBodies (done ++ body ∷ [])
   pub takes : Takes source source' (flat_map frame_text (done ++ body ∷ []))
-  pub short : FallsShort printed (sessions admin 1 (done ++ body ∷ []) log).output
-  pub log_is : log' ≡ (sessions admin 1 (done ++ body ∷ []) log).log
+  pub short : AsLogged log' (λ answers. FallsShort ((sessions answers admin 1 done log).output ++ more) (sessions answers admin 1 (done ++ body ∷ []) log).output)
+  pub log_is : AsLogged log' (λ answers. log' ≡ (sessions answers admin 1 (done ++ body ∷ []) log).log)
 
--- no frame follows, and what was printed falls short of what is printed of these and of the bad frame
-pub record StopsTelling (source source' : LinkState) (admin : Name) (log log' : List Entry) (done : List (List ℕ)) (printed : List ℕ) : Type 0 where
+-- no frame follows, and what was printed, so much more than of these, falls short of what is printed of these and of the bad frame
+pub record StopsTelling (source source' : LinkState) (admin : Name) (log log' : List Entry) (done : List (List ℕ)) (more : List ℕ) : Type 0 where
   pub rest : List ℕ
   pub part : List ℕ
   pub told : IsInput source.left (flat_map frame_text done ++ rest)
@@ -171,17 +175,15 @@ pub record StopsTelling (source source' : LinkState) (admin : Name) (log log' : 
   pub some : 0 < length part
   pub no_further : GoesNoFurther part
   pub takes : Takes source source' (flat_map frame_text done ++ part)
-  pub short : FallsShort printed (script admin done rest log).output
-  pub log_is : log' ≡ (sessions admin 1 done log).log
+  pub short : AsLogged log' (λ answers. FallsShort ((sessions answers admin 1 done log).output ++ more) (script answers admin done rest log).output)
+  pub log_is : AsLogged log' (λ answers. log' ≡ (sessions answers admin 1 done log).log)
 
 -- A write failed. The sessions of these frames were served and printed whole; then the next session was served, or a frame was found to be bad, and a beginning of what is printed of that, not all of it.
 pub record StopsAtWrite (source source' sink sink' : LinkState) (admin : Name) (log log' : List Entry) : Type 0 where
   pub done : List (List ℕ)
   pub more : List ℕ
-  pub written : Appends sink.written sink'.written ((sessions admin 1 done log).output ++ more)
-  pub stops :
-      StopsServing source source' admin log log' done ((sessions admin 1 done log).output ++ more)
-      ⊎ StopsTelling source source' admin log log' done ((sessions admin 1 done log).output ++ more)
+  pub written : AsLogged log' (λ answers. Appends sink.written sink'.written ((sessions answers admin 1 done log).output ++ more))
+  pub stops : StopsServing source source' admin log log' done more ⊎ StopsTelling source source' admin log log' done more
   pub risen : HasRisen sink.write_faults sink'.write_faults
 
 -- memory lacked before the next frame or inside it, and nothing more was printed than of these
@@ -192,7 +194,7 @@ pub record StopsReading (source source' : LinkState) (admin : Name) (log log' : 
   pub inside : EndsInside 18 part
   pub takes : Takes source source' (flat_map frame_text done ++ part)
   pub nothing : more ≡ []
-  pub log_is : log' ≡ (sessions admin 1 done log).log
+  pub log_is : AsLogged log' (λ answers. log' ≡ (sessions answers admin 1 done log).log)
 
 -- memory lacked in the session of the next frame: nothing more was printed than of these, and of that session's entries a beginning was made
 pub record StopsInSession (source source' : LinkState) (admin : Name) (log log' : List Entry) (done : List (List ℕ)) (more : List ℕ) : Type 0 where
@@ -200,21 +202,21 @@ pub record StopsInSession (source source' : LinkState) (admin : Name) (log log' 
   pub small : AreBodies (done ++ body ∷ [])
   pub takes : Takes source source' (flat_map frame_text (done ++ body ∷ []))
   pub nothing : more ≡ []
-  pub goes_on : Begins (sessions admin 1 done log).log log'
-  pub within : Begins log' (sessions admin 1 (done ++ body ∷ []) log).log
+  pub goes_on : AsLogged log' (λ answers. Begins (sessions answers admin 1 done log).log log')
+  pub within : AsLogged log' (λ answers. Begins log' (sessions answers admin 1 (done ++ body ∷ []) log).log)
 
 -- Memory lacked. The sessions of these frames were served and printed whole; then it lacked before the next frame or inside it, or in its session, and
 -- nothing more was printed; or that session was served, or a frame was found to be bad, and a beginning of what is printed of that, not all of it.
 pub record StopsForMemory (source source' sink sink' : LinkState) (admin : Name) (log log' : List Entry) : Type 0 where
   pub done : List (List ℕ)
   pub more : List ℕ
-  pub written : Appends sink.written sink'.written ((sessions admin 1 done log).output ++ more)
+  pub written : AsLogged log' (λ answers. Appends sink.written sink'.written ((sessions answers admin 1 done log).output ++ more))
   pub may_lack : MayLackAfter sink more
   pub stops :
       StopsReading source source' admin log log' done more
       ⊎ StopsInSession source source' admin log log' done more
-      ⊎ StopsServing source source' admin log log' done ((sessions admin 1 done log).output ++ more)
-      ⊎ StopsTelling source source' admin log log' done ((sessions admin 1 done log).output ++ more)
+      ⊎ StopsServing source source' admin log log' done more
+      ⊎ StopsTelling source source' admin log log' done more
 
 -- why a script ended before its input did
 abbrev pub StopsScript : LinkState → LinkState → LinkState → LinkState → Name → List Entry → List Entry → ScriptFault → Type 0

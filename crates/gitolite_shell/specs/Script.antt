@@ -3,6 +3,7 @@ use Rattle.std.specs.Prelude.{ℕ, ◌+◌, List, [], ◌∷◌, ◌++◌, lengt
 use Rattle.std.specs.List.{flat_map}
 use Rattle.hub_core.specs.declared.entry.Entry.{Entry}
 use Rattle.hub_core.specs.Name.{Name}
+use Rattle.interaction_tree.specs.Requests.{Answers}
 use Rattle.interaction_tree.specs.Turns.{Stop, Gave, Ended, Unanswered, Waiting}
 use Rattle.interaction_tree.specs.Alone.{TurnAlone, turn_alone}
 use Rattle.gitolite_shell.specs.declared.end.SessionEnd.{SessionEnd}
@@ -38,11 +39,11 @@ reply_text number word reply = codes "session " ++ decimal number ++ 32 ∷ word
 unfoldable pub fault_text : ℕ → List ℕ
 fault_text offset = codes "bad script at " ++ decimal offset ++ 10 ∷ []
 
--- II. Sessions one after the other
+-- II. Sessions one after the other, at a hub of this admin's setup that answers so and that nobody else asks
 
--- a session with this input, alone at a hub with this log
-unfoldable pub served_alone : Name → List ℕ → List Entry → TurnAlone SessionEnd (Unit {0})
-served_alone admin input log = turn_alone admin (session admin) input log
+-- a session with this input, on this log
+unfoldable pub served_alone : Answers → Name → List ℕ → List Entry → TurnAlone SessionEnd (Unit {0})
+served_alone answers admin input log = turn_alone answers (session admin) input log
 
 pub record Printed : Type 0 where
   -- what is printed
@@ -51,11 +52,11 @@ pub record Printed : Type 0 where
   pub log : List Entry
 
 -- The sessions with these inputs, of which the first has this number, each on the log that the one before it left.
-unfoldable pub sessions : Name → ℕ → List (List ℕ) → List Entry → Printed
-sessions admin number [] log = record { output = []; log = log }
-sessions admin number (body ∷ bodies) log =
-    let turn = served_alone admin body log in
-    let more = sessions admin (number + 1) bodies turn.log in
+unfoldable pub sessions : Answers → Name → ℕ → List (List ℕ) → List Entry → Printed
+sessions answers admin number [] log = record { output = []; log = log }
+sessions answers admin number (body ∷ bodies) log =
+    let turn = served_alone answers admin body log in
+    let more = sessions answers admin (number + 1) bodies turn.log in
     record { output = reply_text number (stop_word turn.stop) turn.bytes ++ more.output; log = more.log }
 
 -- III. A script
@@ -71,7 +72,7 @@ last_line None = []
 last_line (Some offset) = fault_text offset
 
 -- A script of frames with these bodies and of what follows them, at the log before it: the sessions from number 1 on, and a line where a frame is bad.
-unfoldable pub script : Name → List (List ℕ) → List ℕ → List Entry → Printed
-script admin bodies rest log =
-    let all = sessions admin 1 bodies log in
+unfoldable pub script : Answers → Name → List (List ℕ) → List ℕ → List Entry → Printed
+script answers admin bodies rest log =
+    let all = sessions answers admin 1 bodies log in
     record { output = all.output ++ last_line (bad_offset bodies rest); log = all.log }

@@ -7,14 +7,16 @@ use Rattle.raw_pack.specs.declared.fault.PackFault.{PackFault}
 use Rattle.git_object.specs.Content.{Content}
 use Rattle.ref_store.specs.declared.command.Command.{Command}
 use Rattle.hub_core.specs.declared.verdict.Want.TheVariants.{Write}
-use Rattle.hub_core.specs.declared.entry.Entry.{Entry}
 use Rattle.hub_core.specs.declared.entry.EnterKept.{EnterKept}
 use Rattle.hub_core.specs.declared.entry.EnterKept.TheVariants as answer
+use Rattle.hub_core.specs.declared.entry.Event.{Event}
+use Rattle.hub_core.specs.declared.entry.Event.TheVariants.{Entered, Pushed}
+use Rattle.hub_core.specs.declared.outcome.Outcome.{Outcome}
 use Rattle.hub_core.specs.Name.{Name}
-use Rattle.hub_core.specs.Pin.{Opening, pinned_in, answer_to}
-use Rattle.hub_core.specs.History.{history, replay, outcomes_at, step}
+use Rattle.hub_core.specs.Pin.{Opening, pinned_in}
+use Rattle.hub_core.specs.History.{replay}
 use Rattle.interaction_tree.specs.Wanted.{Packet, Pack, Reply}
-use Rattle.interaction_tree.specs.Requests.{Enter, Push, answered}
+use Rattle.interaction_tree.specs.Requests.{Enter, Push, OwnEntry}
 use Rattle.interaction_tree.specs.Interaction.{CutOff, Interaction, gives, ends, ◌>>=◌, write, read, ask}
 use Rattle.gitolite_shell.specs.declared.end.SessionEnd.{SessionEnd}
 use Rattle.gitolite_shell.specs.declared.end.SessionEnd.TheVariants as end
@@ -55,11 +57,16 @@ asking = do
   reply ← next_packet
   asked_in reply.found
 
--- what an opening pins that stands behind this log
-abbrev pub opening_behind : Name → List Entry → Asked → Opening
-opening_behind admin before a = record {
-  place = length before;
-  pinned = pinned_in (step (history admin before) (answered (history admin before) (Enter a.user a.repo Write))) a.user a.repo Write;
+-- The answer that an opening's entry records. A push's entry, which a request to open never makes, is taken as one that found no repository.
+abbrev pub recorded_answer : Event → EnterKept
+recorded_answer (Entered user repo want kept) = kept
+recorded_answer (Pushed place pack commands atomic outcomes) = answer.NoRepo
+
+-- the place of an opening's entry, and what it pins of the state that the log leads to with that entry
+abbrev pub opening_behind : Name → OwnEntry → Asked → Opening
+opening_behind admin own a = record {
+  place = length own.before;
+  pinned = pinned_in (replay admin (own.before ++ own.entry ∷ [])) a.user a.repo Write;
 }
 
 abbrev pub by_answer : Asked → EnterKept → Opening → Interaction SessionEnd Opening
@@ -68,11 +75,11 @@ by_answer a answer.Created opening = gives opening
 by_answer a (answer.Denied verdict) opening = refuse (codes "ERR " ++ denial a.user a.repo verdict) end.Denied
 by_answer a answer.NoRepo opening = refuse (codes "ERR no such repository") end.NoRepo
 
--- The opening, by the log just before its entry and the admin from whose setup that log is legal.
+-- The opening, by the answer that its entry records; the admin is the one from whose setup the log is legal.
 unfoldable pub entering : Name → Asked → Interaction SessionEnd Opening
 entering admin a = do
-  before ← ask (Enter a.user a.repo Write)
-  by_answer a (answer_to (replay admin before) a.user a.repo Write) (opening_behind admin before a)
+  own ← ask (Enter a.user a.repo Write)
+  by_answer a (recorded_answer own.entry.event) (opening_behind admin own a)
 
 -- II. A push, or none
 
@@ -141,44 +148,49 @@ taking_pack commands = do
   reply ← read Pack (refused_pack commands)
   pack_in commands reply.found
 
--- The push, by the log just before its entry, and its report.
-unfoldable pub pushing : Name → Opening → List Command → List Content → Interaction SessionEnd (Unit {0})
-pushing admin opening commands pack = do
-  before ← ask (Push opening.place pack commands false)
-  write (report commands (outcomes_at (replay admin before) opening.pinned pack commands false))
+-- The outcomes that a push's entry records. An opening's entry, which a request to push never makes, has none.
+abbrev pub recorded_outcomes : Event → List Outcome
+recorded_outcomes (Entered user repo want kept) = []
+recorded_outcomes (Pushed place pack commands atomic outcomes) = outcomes
+
+-- The push, and the report of the outcomes that its entry records.
+unfoldable pub pushing : Opening → List Command → List Content → Interaction SessionEnd (Unit {0})
+pushing opening commands pack = do
+  own ← ask (Push opening.place pack commands false)
+  write (report commands (recorded_outcomes own.entry.event))
 
 -- the commands behind the first, the pack, and the push
-unfoldable pub creating : Name → Opening → Command → Interaction SessionEnd (Unit {0})
-creating admin opening first = do
+unfoldable pub creating : Opening → Command → Interaction SessionEnd (Unit {0})
+creating opening first = do
   commands ← taking_commands first
   pack ← taking_pack commands
-  pushing admin opening commands pack
+  pushing opening commands pack
 
 -- a flush in place of commands ends the session
-abbrev pub commanded : Name → Opening → Result packets.Packet PktFault → Interaction SessionEnd (Unit {0})
-commanded admin opening (Ok packets.Flush) = gives tt
-commanded admin opening (Ok (packets.Line payload)) = do
+abbrev pub commanded : Opening → Result packets.Packet PktFault → Interaction SessionEnd (Unit {0})
+commanded opening (Ok packets.Flush) = gives tt
+commanded opening (Ok (packets.Line payload)) = do
   first ← or_not_built (first_at opening.pinned.repo (without_feed payload))
-  creating admin opening first
-commanded admin opening (Err fault) = not_built
+  creating opening first
+commanded opening (Err fault) = not_built
 
-unfoldable pub commanding : Name → Opening → Interaction SessionEnd (Unit {0})
-commanding admin opening = do
+unfoldable pub commanding : Opening → Interaction SessionEnd (Unit {0})
+commanding opening = do
   next ← next_packet
-  commanded admin opening next.found
+  commanded opening next.found
 
 -- what follows an opening: the advertisement, and then the commands
-unfoldable pub receiving : Name → Opening → Interaction SessionEnd (Unit {0})
-receiving admin opening = do
+unfoldable pub receiving : Opening → Interaction SessionEnd (Unit {0})
+receiving opening = do
   advertised ← write (advertisement opening.pinned.repository.refs)
-  commanding admin opening
+  commanding opening
 
 -- III. The whole of it
 
 unfoldable pub serving : Name → Asked → Interaction SessionEnd (Unit {0})
 serving admin a = do
   opening ← entering admin a
-  receiving admin opening
+  receiving opening
 
 unfoldable pub served : Name → Interaction SessionEnd (Unit {0})
 served admin = do

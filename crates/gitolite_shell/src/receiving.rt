@@ -59,7 +59,7 @@ fn push<L: Link, K: Desk>(
     requires stands { Stands pin (known (K.view desk.old)) }
     requires write { pin.pinned.want ≡ Want.Write }
     requires within { AreWithinLimits commands }
-    ensures runs { Runs (L.state link.old) (L.state link.new) (K.view desk.old) (K.view desk.new) (pushing ((K.view desk.old).admin) pin commands pack) (outcome_of result) }
+    ensures runs { Runs (L.state link.old) (L.state link.new) (K.view desk.old) (K.view desk.new) (pushing pin commands pack) (outcome_of result) }
     ensures tells { TellsLink (L.state link.old) (L.state link.new) result }
     ensures goes { K.goes_on desk.old desk.new }
 {
@@ -103,7 +103,7 @@ fn create<L: Link, K: Desk>(
     requires stands { Stands pin (known (K.view desk.old)) }
     requires write { pin.pinned.want ≡ Want.Write }
     requires short { HasShortName first }
-    ensures runs { Runs (L.state link.old) (L.state link.new) (K.view desk.old) (K.view desk.new) (creating ((K.view desk.old).admin) pin first) (outcome_of result) }
+    ensures runs { Runs (L.state link.old) (L.state link.new) (K.view desk.old) (K.view desk.new) (creating pin first) (outcome_of result) }
     ensures tells { TellsLink (L.state link.old) (L.state link.new) result }
     ensures goes { K.goes_on desk.old desk.new }
 {
@@ -123,7 +123,7 @@ fn receive_command<L: Link, K: Desk>(
     requires ready { IsReady reader.old (L.state link.old) }
     requires stands { Stands pin (known (K.view desk.old)) }
     requires write { pin.pinned.want ≡ Want.Write }
-    ensures runs { Runs (L.state link.old) (L.state link.new) (K.view desk.old) (K.view desk.new) (commanding ((K.view desk.old).admin) pin) (outcome_of result) }
+    ensures runs { Runs (L.state link.old) (L.state link.new) (K.view desk.old) (K.view desk.new) (commanding pin) (outcome_of result) }
     ensures tells { TellsLink (L.state link.old) (L.state link.new) result }
     ensures goes { K.goes_on desk.old desk.new }
 {
@@ -151,7 +151,7 @@ pub fn receive<L: Link, K: Desk>(
     requires stands { Stands pin (known (K.view desk.old)) }
     requires write { pin.pinned.want ≡ Want.Write }
     requires names { HasShortNames pin.pinned.repository.refs }
-    ensures runs { Runs (L.state link.old) (L.state link.new) (K.view desk.old) (K.view desk.new) (receiving ((K.view desk.old).admin) pin) (outcome_of result) }
+    ensures runs { Runs (L.state link.old) (L.state link.new) (K.view desk.old) (K.view desk.new) (receiving pin) (outcome_of result) }
     ensures tells { TellsLink (L.state link.old) (L.state link.new) result }
     ensures goes { K.goes_on desk.old desk.new }
 {

@@ -81,7 +81,6 @@ fn enter<L: Link, K: Desk>(
     ensures runs { Runs (L.state link.old) (L.state link.new) (K.view desk.old) (K.view desk.new) (entering ((K.view desk.old).admin) asked.now) (outcome_of result) }
     ensures tells { TellsLink (L.state link.old) (L.state link.new) result }
     ensures same { OnOk result (L.state link.new ≡ L.state link.old) }
-    ensures admin { (K.view desk.new).admin ≡ (K.view desk.old).admin }
     ensures stands { IfOk result (λ pin. Stands pin (known (K.view desk.new))) }
     ensures write { IfOk result (λ pin. pin.pinned.want ≡ Want.Write) }
     ensures names { IfOk result (λ pin. HasShortNames pin.pinned.repository.refs) }

@@ -1,42 +1,18 @@
 -- What own entries leave of a desk.
-use Rattle.std.proofs.Common.{◌≡◌, ◌≤◌, ℕ, nat_eq, Bool, true, false, cond, List, [], ◌∷◌, ◌++◌, map, take, drop, length, Option, None, Some, refl, sym, ◌∙◌, ap, subst, append_assoc, arith, length-append}
+use Rattle.std.proofs.Common.{◌≡◌, ◌≤◌, ℕ, nat_eq, Bool, true, false, cond, List, [], ◌∷◌, ◌++◌, map, take, drop, length, refl, sym, ◌∙◌, ap, subst, append_assoc, arith, length-append}
 use Rattle.std.specs.Prelude.{IsTrue, if◌then◌else◌}
 use Rattle.std.specs.List.{AllByRecursion, filter}
 use Rattle.std.proofs.Math.Seq.{drop-length, take-length}
 use Rattle.std.proofs.lemmas.List.{append-nil, drop-append-le, take-append-le}
 use Rattle.std.proofs.lemmas.Bool.Decides.{nat_tests}
 use Rattle.std.proofs.lemmas.List.Elements.{filter-append}
-use Rattle.git_object.specs.Content.{Content}
-use Rattle.ref_store.specs.declared.command.Command.{Command}
-use Rattle.hub_core.specs.declared.outcome.Outcome.{Outcome}
 use Rattle.hub_core.specs.declared.entry.Entry.{Entry}
-use Rattle.hub_core.specs.declared.entry.Event.{Event}
-use Rattle.hub_core.specs.declared.entry.Event.TheVariants.{Entered, Pushed}
-use Rattle.hub_core.specs.State.{State}
-use Rattle.hub_core.specs.Pin.{Pinned}
-use Rattle.hub_core.specs.History.{History, history_from, new_history, opening_at, IsDue, IsDuePush, IsLegal, IsLegalFrom, after}
-use Rattle.hub_core.specs.Desk.{DeskView, IsOfAnother, IsSound, MakesEntry, mine}
-use Rattle.interaction_tree.specs.Requests.{request_of, due_outcomes, answered, OwnEntry, AreAnswered, entry_of, asked, own_behind, own_in}
+use Rattle.hub_core.specs.History.{IsLegal}
+use Rattle.hub_core.specs.Desk.{DeskView, IsOfAnother, IsSound, mine}
+use Rattle.interaction_tree.specs.Requests.{Answers, Agrees, OwnEntry, entry_of, asked, own_behind, own_in}
 use Rattle.interaction_tree.specs.Runs.{MakesAll}
 use Rattle.interaction_tree.specs.Growth.{GrowsBy, own_since}
 use Rattle.interaction_tree.specs.Alone.{IsAlone}
-
--- the last entry of a legal log is due
-last_due : (h : History) (log : List Entry) (e : Entry) → IsLegalFrom h (log ++ e ∷ []) → IsDue (history_from h log) e.event
-last_due h [] e legal = legal.0
-last_due h (x ∷ log) e legal = last_due (after h x.event) log e legal.1
-
-push_answered : (state : State) (pinned : Option Pinned) (pack : List Content) (commands : List Command) (atomic : Bool) (outcomes : List Outcome) → IsDuePush state pinned pack commands atomic outcomes → outcomes ≡ due_outcomes state pinned pack commands atomic
-push_answered state None pack commands atomic outcomes due = absurd due
-push_answered state (Some pinned) pack commands atomic outcomes due = due.2
-
--- an event that is due is the one that its request brings about
-pub due_answered : (h : History) (event : Event) → IsDue h event → event ≡ answered h (request_of event)
-due_answered h (Entered user repo want answer) due = λ i. Entered user repo want (due i)
-due_answered h (Pushed place pack commands atomic outcomes) due = λ i. Pushed place pack commands atomic (push_answered h.state (opening_at h place) pack commands atomic outcomes due i)
-
-one_answered : (a b : DeskView) (one : OwnEntry) → MakesEntry a b one.before one.entry → one.entry.event ≡ answered (history_from (new_history a.admin) one.before) (asked one)
-one_answered a b one makes = due_answered (history_from (new_history a.admin) one.before) one.entry.event (last_due (new_history a.admin) one.before one.entry makes.legal)
 
 -- ---- entries that bear a number
 
@@ -107,7 +83,6 @@ record Goes (a b : DeskView) (own : List OwnEntry) : Type 0 where
   new_is : b ≡ record a { seen = a.seen ++ more }
   own_is : own ≡ own_behind a.caller a.seen more
   legal : IsLegal a.admin a.seen → IsLegal a.admin (a.seen ++ more)
-  answered : AreAnswered a.admin own
 
 makes_goes : (a b : DeskView) (own : List OwnEntry) → MakesAll a b own → Goes a b own
 makes_goes a b [] same = record {
@@ -115,7 +90,6 @@ makes_goes a b [] same = record {
   new_is = same ∙ ap (λ (l : List Entry). record a { seen = l }) (sym (append-nil a.seen));
   own_is = refl;
   legal = λ legal. subst (IsLegal a.admin) (sym (append-nil a.seen)) legal;
-  answered = tt;
 }
 makes_goes a b (one ∷ own) p =
     let mid = p.0 in
@@ -136,7 +110,6 @@ makes_goes a b (one ∷ own) p =
       legal = λ legal.
           let mid_legal : IsLegal mid.admin mid.seen = subst (λ (d : DeskView). IsLegal d.admin d.seen) (sym mid_is) makes.legal in
           subst (IsLegal a.admin) seen (subst (λ (d : DeskView). IsLegal d.admin (d.seen ++ later.more)) mid_is (later.legal mid_legal));
-      answered = (one_answered a mid one makes, subst (λ (d : DeskView). AreAnswered d.admin own) mid_is later.answered);
     }
 
 -- what was made are the entries that the view has since
@@ -159,27 +132,28 @@ makes_grows a b own sound made =
             ∙ ap (filter (λ (e : Entry). nat_eq e.caller a.caller)) (drop-append-le a.start a.seen goes.more sound.within)
             ∙ filter-append (λ (e : Entry). nat_eq e.caller a.caller) (drop a.start a.seen) goes.more
             ∙ ap (λ (l : List Entry). mine a ++ l) (sym (entries_behind a.caller a.seen goes.more) ∙ ap (map entry_of) (sym goes.own_is));
-        answered = goes.answered;
       },
     )
   where
     further : (seen more : List Entry) → a.start ≤ length seen → a.start ≤ length (seen ++ more)
     further seen more within = omega (arith, within, length-append seen more)
 
--- at the desk of a hub's only caller each entry stands right behind the one before
-pub makes_alone : (a b : DeskView) (own : List OwnEntry) → IsTrue a.alone → MakesAll a b own → IsAlone a.admin a.seen own b.seen
-makes_alone a b [] alone same = ap (λ (d : DeskView). d.seen) same
-makes_alone a b (one ∷ own) alone p =
+-- at the desk of a hub's only caller each entry stands right behind the one before, by answers that agree with what was seen
+pub makes_alone : (a b : DeskView) (own : List OwnEntry) → IsTrue a.alone → MakesAll a b own → (answers : Answers) → Agrees answers b.seen → IsAlone answers a.seen own b.seen
+makes_alone a b [] alone same answers agrees = ap (λ (d : DeskView). d.seen) same
+makes_alone a b (one ∷ own) alone p answers agrees =
     let mid = p.0 in
     let makes = p.1 in
     let no_others = makes.no_others alone in
     let before : one.before ≡ a.seen = makes.before_is ∙ ap (λ (l : List Entry). a.seen ++ l) no_others.0 ∙ append-nil a.seen in
     let caller : one.entry.caller ≡ 0 = makes.own ∙ no_others.1 in
-    let event : one.entry.event ≡ answered (history_from (new_history a.admin) a.seen) (asked one) =
-    one_answered a mid one makes ∙ ap (λ (l : List Entry). answered (history_from (new_history a.admin) l) (asked one)) before in
+    let later = makes_goes mid b own p.2 in
+    let seen : b.seen ≡ one.before ++ one.entry ∷ later.more =
+    ap (λ (d : DeskView). d.seen) later.new_is ∙ ap (λ (d : DeskView). d.seen ++ later.more) makes.new_is ∙ append_assoc one.before (one.entry ∷ []) later.more in
+    let event : one.entry.event ≡ answers a.seen (asked one) = agrees one.before one.entry later.more seen ∙ ap (λ (l : List Entry). answers l (asked one)) before in
     let mid_is : mid ≡ record a { seen = a.seen ++ one.entry ∷ [] } = makes.new_is ∙ ap (λ (l : List Entry). record a { seen = l ++ one.entry ∷ [] }) before in
-    let ih = makes_alone mid b own (subst (λ (d : DeskView). IsTrue d.alone) (sym mid_is) alone) p.2 in (
+    let ih = makes_alone mid b own (subst (λ (d : DeskView). IsTrue d.alone) (sym mid_is) alone) p.2 answers agrees in (
       before,
       (λ i. record { caller = caller i; event = event i }),
-      subst (λ (d : DeskView). IsAlone d.admin d.seen own b.seen) mid_is ih,
+      subst (λ (d : DeskView). IsAlone answers d.seen own b.seen) mid_is ih,
     )

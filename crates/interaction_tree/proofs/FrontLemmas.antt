@@ -13,8 +13,8 @@ use Rattle.raw_pack.specs.Packs.{pack_front, signed_part, header, signature}
 use Rattle.raw_pack.specs.declared.fault.PackFault.TheVariants as pack
 use Rattle.raw_pack.proofs.FormatLemmas.{front-wants_short, front-wants_long, decided_behind, broken_behind, whole_within}
 use Rattle.raw_pack.proofs.PackLemmas.{pack_whole_stays, pack_broken_stays}
-use Rattle.hub_core.specs.declared.entry.Entry.{Entry}
 use Rattle.interaction_tree.specs.Wanted.{Wanted, Packet, Pack, Value, Fault, front_of, Reply, shown, by_front}
+use Rattle.interaction_tree.specs.Requests.{OwnEntry}
 use Rattle.interaction_tree.specs.Interaction.{CutOff, Interaction, reads}
 use Rattle.interaction_tree.specs.Turns.{Extent, Turn, cut_off, after_reading, turn_over}
 
@@ -84,19 +84,19 @@ by_shown used (Err fault) cut go = refl
 
 module _ {E A : Type 0} (extent : Extent) (wanted : Wanted) (cut : Fault wanted → CutOff E) (f : Reply wanted → Interaction E A) where
   -- the turn where the input ends inside what is wanted
-  pub turn_cut : (input : List ℕ) (logs : List (List Entry)) (fault : Fault wanted) → front_of wanted input ≡ Partial fault → turn_over extent (reads wanted cut f) input logs ≡ cut_off extent input (cut fault)
+  pub turn_cut : (input : List ℕ) (own : List OwnEntry) (fault : Fault wanted) → front_of wanted input ≡ Partial fault → turn_over extent (reads wanted cut f) input own ≡ cut_off extent input (cut fault)
   unfolding turn_over
-  turn_cut input logs fault is =
+  turn_cut input own fault is =
       ap (λ (at : Front (Value wanted) (Fault wanted)). by_front at (λ fault. cut_off {A = A} extent input (cut fault))
-      (λ used found. after_reading (take used input) (turn_over extent (f (record { used = used; found = found })) (drop used input) logs))) is
+      (λ used found. after_reading (take used input) (turn_over extent (f (record { used = used; found = found })) (drop used input) own))) is
 
   -- the turn behind a reading
-  pub turn_read : (first rest : List ℕ) (logs : List (List Entry)) (found : Result (Value wanted) (Fault wanted)) → front_of wanted first ≡ shown (length first) found
-      → turn_over extent (reads wanted cut f) (first ++ rest) logs ≡ after_reading first (turn_over extent (f (record { used = length first; found = found })) rest logs)
+  pub turn_read : (first rest : List ℕ) (own : List OwnEntry) (found : Result (Value wanted) (Fault wanted)) → front_of wanted first ≡ shown (length first) found
+      → turn_over extent (reads wanted cut f) (first ++ rest) own ≡ after_reading first (turn_over extent (f (record { used = length first; found = found })) rest own)
   unfolding turn_over
-  turn_read first rest logs found is =
-      let go : ℕ → Result (Value wanted) (Fault wanted) → Turn E A = λ used found. after_reading (take used (first ++ rest)) (turn_over extent (f (record { used = used; found = found })) (drop used (first ++ rest)) logs) in
+  turn_read first rest own found is =
+      let go : ℕ → Result (Value wanted) (Fault wanted) → Turn E A = λ used found. after_reading (take used (first ++ rest)) (turn_over extent (f (record { used = used; found = found })) (drop used (first ++ rest)) own) in
       let cut_here : Fault wanted → Turn E A = λ fault. cut_off extent (first ++ rest) (cut fault) in
       ap (λ (at : Front (Value wanted) (Fault wanted)). by_front at cut_here go) (shown_stays wanted first rest (length first) found is)
       ∙ by_shown (length first) found cut_here go
-      ∙ (λ i. after_reading (take_at first rest (length first) refl i) (turn_over extent (f (record { used = length first; found = found })) (drop_at first rest (length first) refl i) logs))
+      ∙ (λ i. after_reading (take_at first rest (length first) refl i) (turn_over extent (f (record { used = length first; found = found })) (drop_at first rest (length first) refl i) own))

@@ -8,6 +8,7 @@ pub mod StepLemmas
 pub mod PacketSteps
 pub mod EndingLemmas
 pub mod DeskLemmas
+pub mod AnswerLemmas
 pub mod OtherEnds
 pub mod AloneLemmas
 pub mod CompositionLemmas

@@ -2,7 +2,6 @@
 use Rattle.std.proofs.Common.{◌≡◌, inl, inr, ℕ, Bool, true, false, List, [], ◌∷◌, take, drop, Option, Result, Ok, Err, refl, ap}
 use Rattle.base_types.specs.Fronts.{Front, Whole, Broken, Partial}
 use Rattle.pktline_core.specs.LinkState.{LinkState}
-use Rattle.hub_core.specs.declared.entry.Entry.{Entry}
 use Rattle.hub_core.specs.Desk.{DeskView}
 use Rattle.interaction_tree.specs.Wanted.{front_of, by_front}
 use Rattle.interaction_tree.specs.Requests.{OwnEntry}
@@ -21,7 +20,7 @@ module _ {E F : Type 0} (end_as : E → F) where
   both_as (ends e) k = refl
   both_as (writes bytes t) k = ap (writes bytes) (both_as t k)
   both_as (reads wanted cut f) k = λ i. reads wanted (λ fault. cut_as end_as (cut fault)) (λ reply. both_as (f reply) k i)
-  both_as (asks request f) k = λ i. asks request (λ before. both_as (f before) k i)
+  both_as (asks request f) k = λ i. asks request (λ own. both_as (f own) k i)
 
   -- ---- turns
 
@@ -36,19 +35,19 @@ module _ {E F : Type 0} (end_as : E → F) where
   by_front_as (Broken used fault) cut cut' go go' a b = b used (Err fault)
   by_front_as (Partial fault) cut cut' go go' a b = a fault
 
-  pub turn_ends_as : {A : Type 0} (extent : Extent) (t : Interaction E A) (input : List ℕ) (logs : List (List Entry)) → turn_over extent (ending_as end_as t) input logs ≡ turn_as end_as (turn_over extent t input logs)
+  pub turn_ends_as : {A : Type 0} (extent : Extent) (t : Interaction E A) (input : List ℕ) (own : List OwnEntry) → turn_over extent (ending_as end_as t) input own ≡ turn_as end_as (turn_over extent t input own)
   unfolding ending_as turn_over
-  turn_ends_as extent (gives a) input logs = refl
-  turn_ends_as extent (ends e) input logs = refl
-  turn_ends_as extent (writes bytes t) input logs = ap (after_writing bytes) (turn_ends_as extent t input logs)
-  turn_ends_as {A} extent (reads wanted cut f) input logs =
+  turn_ends_as extent (gives a) input own = refl
+  turn_ends_as extent (ends e) input own = refl
+  turn_ends_as extent (writes bytes t) input own = ap (after_writing bytes) (turn_ends_as extent t input own)
+  turn_ends_as {A} extent (reads wanted cut f) input own =
       by_front_as (front_of wanted input) (λ fault. cut_off {A = A} extent input (cut fault)) (λ fault. cut_off {A = A} extent input (cut_as end_as (cut fault)))
-      (λ used found. after_reading (take used input) (turn_over extent (f (record { used = used; found = found })) (drop used input) logs))
-      (λ used found. after_reading (take used input) (turn_over extent (ending_as end_as (f (record { used = used; found = found }))) (drop used input) logs))
+      (λ used found. after_reading (take used input) (turn_over extent (f (record { used = used; found = found })) (drop used input) own))
+      (λ used found. after_reading (take used input) (turn_over extent (ending_as end_as (f (record { used = used; found = found }))) (drop used input) own))
       (λ fault. cut_off_as extent input (cut fault))
-      (λ used found. ap (after_reading (take used input)) (turn_ends_as extent (f (record { used = used; found = found })) (drop used input) logs))
+      (λ used found. ap (after_reading (take used input)) (turn_ends_as extent (f (record { used = used; found = found })) (drop used input) own))
   turn_ends_as extent (asks request f) input [] = refl
-  turn_ends_as extent (asks request f) input (before ∷ logs) = ap (after_asking request) (turn_ends_as extent (f before) input logs)
+  turn_ends_as extent (asks request f) input (one ∷ own) = ap (after_asking request) (turn_ends_as extent (f one) input own)
 
   -- ---- the order
 
@@ -58,7 +57,7 @@ module _ {E F : Type 0} (end_as : E → F) where
   order_as wrote (ends e) then p = p
   order_as wrote (writes bytes t) then p = order_as true t then p
   order_as wrote (reads wanted cut f) then p = λ reply. order_as false (f reply) then (p reply)
-  order_as wrote (asks request f) then p = (p.0, λ before. order_as wrote (f before) then (p.1 before))
+  order_as wrote (asks request f) then p = (p.0, λ own. order_as wrote (f own) then (p.1 own))
 
   -- ---- what code does
 
@@ -101,7 +100,7 @@ module _ {E F : Type 0} (end_as : E → F) where
   trace_as left out (reads wanted cut f) read written own (inl p) = inl (still_as left out (reads wanted cut f) read written p.0, p.1)
   trace_as left out (reads wanted cut f) read written own (inr p) = inr (p.0, p.1, p.2, p.3, p.4, trace_as left out (f _) p.1 written own p.5)
   trace_as left out (asks request f) read written own (inl p) = inl (still_as left out (asks request f) read written p.0, p.1)
-  trace_as left out (asks request f) read written own (inr p) = inr (p.0, p.1, p.2, p.3, trace_as left out (f p.0.before) read written p.1 p.4)
+  trace_as left out (asks request f) read written own (inr p) = inr (p.0, p.1, p.2, p.3, trace_as left out (f p.0) read written p.1 p.4)
 
   caused_as : {A : Type 0} (link link' : LinkState) (out : Result A (Halt E)) → IsCaused link link' out → IsCaused link link' (outcome_as end_as out)
   caused_as link link' (Ok a) p = p

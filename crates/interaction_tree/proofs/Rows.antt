@@ -7,6 +7,10 @@ use Rattle.pktline_core.specs.Packets as packets
 use Rattle.pktline_core.specs.Packets.{packet_front}
 use Rattle.pktline_core.specs.declared.packets.PktFault.{PktFault}
 use Rattle.hub_core.specs.declared.verdict.Want.TheVariants.{Read}
+use Rattle.hub_core.specs.declared.entry.EnterKept.{EnterKept}
+use Rattle.hub_core.specs.declared.entry.EnterKept.TheVariants.{Granted, NoRepo}
+use Rattle.hub_core.specs.declared.entry.Event.{Event}
+use Rattle.hub_core.specs.declared.entry.Event.TheVariants.{Entered}
 use Rattle.interaction_tree.specs.Wanted.{Packet, front_of}
 use Rattle.interaction_tree.specs.Requests.{OwnEntry, Request, Enter}
 use Rattle.interaction_tree.specs.Interaction.{Interaction, gives, ends, writes, ◌>>=◌, write, read, ask}
@@ -15,7 +19,7 @@ use Rattle.interaction_tree.specs.Order.{EntriesFirst, IsOrdered}
 use Rattle.interaction_tree.specs.Endings.{FailsReading, FailsWriting}
 use Rattle.interaction_tree.proofs.OrderLemmas.{order_bind}
 
--- a name is read, its owner opens a repository, and is greeted; an input that ends inside the name is told so
+-- a name is read, its owner opens a repository, and is greeted where the log records that it was granted; an input that ends inside the name is told so
 
 unfoldable name_in : Result packets.Packet PktFault → Interaction ℕ (List ℕ)
 name_in (Ok (packets.Line payload)) = gives payload
@@ -27,17 +31,30 @@ name_in (Err fault) = do
 abbrev opening : List ℕ → Request
 opening name = Enter name (codes "testing") Read
 
+abbrev greeted : Event → List ℕ
+greeted (Entered user repo want Granted) = codes "hello"
+greeted other = codes "sorry"
+
 unfoldable greeting : Interaction ℕ (Unit {0})
 greeting = do
   first ← read Packet (λ fault. record { bytes = codes "cut"; end = 1 })
   name ← name_in first.found
-  before ← ask (opening name)
-  write (codes "hello")
+  own ← ask (opening name)
+  write (greeted own.entry.event)
+
+-- an opening's entry with this answer
+entered : EnterKept → OwnEntry
+entered answer = record { before = []; entry = record { caller = 7; event = Entered (codes "bob") (codes "testing") Read answer } }
 
 -- what follows the packet isn't used
-served : turn greeting (codes "0007boband more") ([] ∷ []) ≡ record { used = codes "0007bob"; requests = opening (codes "bob") ∷ []; bytes = codes "hello"; stop = Gave tt }
-unfolding turn_over greeting name_in ◌>>=◌ read write ask front_of packet_front
+served : turn greeting (codes "0007boband more") (entered Granted ∷ []) ≡ record { used = codes "0007bob"; requests = opening (codes "bob") ∷ []; bytes = codes "hello"; stop = Gave tt }
+unfolding turn_over greeting name_in ◌>>=◌ read write ask front_of packet_front entered
 served = refl
+
+-- the recorded answer decides what follows
+refused : turn greeting (codes "0007bob") (entered NoRepo ∷ []) ≡ record { used = codes "0007bob"; requests = opening (codes "bob") ∷ []; bytes = codes "sorry"; stop = Gave tt }
+unfolding turn_over greeting name_in ◌>>=◌ read write ask front_of packet_front entered
+refused = refl
 
 -- the entry is due, and what follows its answer isn't yet
 unanswered : turn greeting (codes "0007bob") [] ≡ record { used = codes "0007bob"; requests = opening (codes "bob") ∷ []; bytes = []; stop = Unanswered }
@@ -72,12 +89,12 @@ writes_unread link link' own fails = sym fails.used
 -- an entry, and then bytes
 then_greets : List ℕ → Interaction ℕ (Unit {0})
 then_greets name = do
-  before ← ask (opening name)
-  write (codes "hello")
+  own ← ask (opening name)
+  write (greeted own.entry.event)
 
 name_ordered : (found : Result packets.Packet PktFault) → EntriesFirst false (name_in found) (λ wrote name. EntriesFirst wrote (then_greets name) (λ wrote unit. ⊤))
 unfolding EntriesFirst name_in then_greets ◌>>=◌ write ask
-name_ordered (Ok (packets.Line payload)) = (refl, λ before. tt)
+name_ordered (Ok (packets.Line payload)) = (refl, λ own. tt)
 name_ordered (Ok packets.Flush) = tt
 name_ordered (Err fault) = tt
 

@@ -201,7 +201,7 @@ module _ {E : Type 0} (a b : LinkState) (d : DeskView) (taken : List ℕ) (takes
 
 -- ---- an entry
 
-pub runs_ask : {E : Type 0} (a : LinkState) (d e : DeskView) (one : OwnEntry) → MakesEntry d e one.before one.entry → Runs {E = E} a a d e (ask (asked one)) (Ok one.before)
+pub runs_ask : {E : Type 0} (a : LinkState) (d e : DeskView) (one : OwnEntry) → MakesEntry d e one.before one.entry → Runs {E = E} a a d e (ask (asked one)) (Ok one)
 unfolding ask
 runs_ask a d e one makes = record {
   read = [];

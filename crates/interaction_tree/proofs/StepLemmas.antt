@@ -98,15 +98,15 @@ module _ {E : Type 0} (a b : LinkState) (d : DeskView) (keeps : KeepsWriting a b
 -- ---- the desk
 
 -- an entry was made
-pub runs_made : {E : Type 0} (a : LinkState) (d e : DeskView) (before : List Entry) (entry : Entry) → MakesEntry d e before entry → Runs {E = E} a a d e (ask (request_of entry.event)) (Ok before)
+pub runs_made : {E : Type 0} (a : LinkState) (d e : DeskView) (before : List Entry) (entry : Entry) → MakesEntry d e before entry → Runs {E = E} a a d e (ask (request_of entry.event)) (Ok (record { before = before; entry = entry }))
 runs_made a d e before entry makes = runs_ask a d e (record { before = before; entry = entry }) makes
 
 -- a repository was opened, or not
 pub runs_entered : {E : Type 0} (a : LinkState) (d e : DeskView) (user repo : Name) (want : Want) (result : hub_entered.Entered) (answer : EnterKept) → kept result ≡ Some answer → (enters : Enters d e user repo want result)
-    → Runs {E = E} a a d e (ask (Enter user repo want)) (Ok enters.0)
+    → Runs {E = E} a a d e (ask (Enter user repo want)) (Ok (record { before = enters.0; entry = record { caller = d.caller; event = Entered user repo want answer } }))
 runs_entered a d e user repo want result answer is enters = runs_made a d e enters.0 (record { caller = d.caller; event = Entered user repo want answer }) (rw is at enters.1)
 
 -- a push was settled
 pub runs_pushed : {E : Type 0} (a : LinkState) (d e : DeskView) (pin : Opening) (contents : List Content) (commands : List Command) (atomic : Bool) (outcomes : List Outcome) → (pushes : Pushes d e pin contents commands atomic (Settled outcomes))
-    → Runs {E = E} a a d e (ask (Push pin.place contents commands atomic)) (Ok pushes.0)
+    → Runs {E = E} a a d e (ask (Push pin.place contents commands atomic)) (Ok (record { before = pushes.0; entry = record { caller = d.caller; event = Pushed pin.place contents commands atomic outcomes } }))
 runs_pushed a d e pin contents commands atomic outcomes pushes = runs_made a d e pushes.0 (record { caller = d.caller; event = Pushed pin.place contents commands atomic outcomes }) pushes.1

@@ -34,7 +34,7 @@ module _ {E A B : Type 0} (k : A → Interaction E B) where
       inr (p.0, p.1 ++ read', p.2, ap (λ (l : List ℕ). l ++ read') p.3 ∙ append_assoc p.0 p.1 read', p.4, trace_bind left left' x out (f (record { used = _; found = p.2 })) p.1 written own read' written' own' p.5 q)
   trace_bind left left' x out (asks request f) read written own read' written' own' (inl p) q = absurd p.0
   trace_bind left left' x out (asks request f) read written own read' written' own' (inr p) q =
-      inr (p.0, p.1 ++ own', ap (λ (l : List OwnEntry). l ++ own') p.2, p.3, trace_bind left left' x out (f p.0.before) read written p.1 read' written' own' p.4 q)
+      inr (p.0, p.1 ++ own', ap (λ (l : List OwnEntry). l ++ own') p.2, p.3, trace_bind left left' x out (f p.0) read written p.1 read' written' own' p.4 q)
 
   -- the first was left without a value
   pub trace_halts : (left : Option (List ℕ)) (halt : Halt E) (t : Interaction E A) (read written : List ℕ) (own : List OwnEntry) → IsTrace left (Err halt) t read written own → IsTrace left (Err halt) (t >>= k) read written own
@@ -61,4 +61,4 @@ module _ {E A B : Type 0} (k : A → Interaction E B) where
   trace_halts left (Failed Reading) (asks request f) read written own (inl p) = absurd p.0
   trace_halts left (Failed Writing) (asks request f) read written own (inl p) = absurd p.0
   trace_halts left (Failed Memory) (asks request f) read written own (inl p) = inl p
-  trace_halts left halt (asks request f) read written own (inr p) = inr (p.0, p.1, p.2, p.3, trace_halts left halt (f p.0.before) read written p.1 p.4)
+  trace_halts left halt (asks request f) read written own (inr p) = inr (p.0, p.1, p.2, p.3, trace_halts left halt (f p.0) read written p.1 p.4)

@@ -1,10 +1,8 @@
--- A session's turn at a hub that nobody else asks: the log before each entry is the one that the session itself led to.
+-- A session's turn at a hub that nobody else asks, by what that hub answers: the log before each entry is the one that the session itself led to.
 use Rattle.std.specs.Prelude.{◌≡◌, ℕ, List, [], ◌∷◌, ◌++◌, drop}
 use Rattle.hub_core.specs.declared.entry.Entry.{Entry}
-use Rattle.hub_core.specs.Name.{Name}
-use Rattle.hub_core.specs.History.{history}
 use Rattle.interaction_tree.specs.Wanted.{front_of, by_front}
-use Rattle.interaction_tree.specs.Requests.{Request, answered, OwnEntry, asked}
+use Rattle.interaction_tree.specs.Requests.{Request, Answers, OwnEntry, asked}
 use Rattle.interaction_tree.specs.Interaction.{Interaction, gives, ends, writes, reads, asks}
 use Rattle.interaction_tree.specs.Turns.{Stop, Gave, Ended}
 
@@ -16,20 +14,20 @@ pub record TurnAlone (E A : Type 0) : Type 0 where
   pub log : List Entry
 
 -- the entry that the only caller's request brings about
-abbrev pub answered_entry : Name → List Entry → Request → Entry
-answered_entry admin log request = record { caller = 0; event = answered (history admin log) request }
+abbrev pub answered_entry : Answers → List Entry → Request → Entry
+answered_entry answers log request = record { caller = 0; event = answers log request }
 
--- By the admin from whose setup the log is legal, a whole input, and the log before.
-unfoldable pub turn_alone : {E A : Type 0} → Name → Interaction E A → List ℕ → List Entry → TurnAlone E A
-turn_alone admin (gives a) input log = record { bytes = []; stop = Gave a; log = log }
-turn_alone admin (ends e) input log = record { bytes = []; stop = Ended e; log = log }
-turn_alone admin (writes bytes t) input log = let rest = turn_alone admin t input log in record rest { bytes = bytes ++ rest.bytes }
-turn_alone admin (reads wanted cut f) input log = by_front (front_of wanted input)
+-- By what the hub answers, a whole input, and the log before.
+unfoldable pub turn_alone : {E A : Type 0} → Answers → Interaction E A → List ℕ → List Entry → TurnAlone E A
+turn_alone answers (gives a) input log = record { bytes = []; stop = Gave a; log = log }
+turn_alone answers (ends e) input log = record { bytes = []; stop = Ended e; log = log }
+turn_alone answers (writes bytes t) input log = let rest = turn_alone answers t input log in record rest { bytes = bytes ++ rest.bytes }
+turn_alone answers (reads wanted cut f) input log = by_front (front_of wanted input)
     (λ fault. record { bytes = (cut fault).bytes; stop = Ended (cut fault).end; log = log })
-    (λ used found. turn_alone admin (f (record { used = used; found = found })) (drop used input) log)
-turn_alone admin (asks request f) input log = turn_alone admin (f log) input (log ++ answered_entry admin log request ∷ [])
+    (λ used found. turn_alone answers (f (record { used = used; found = found })) (drop used input) log)
+turn_alone answers (asks request f) input log = let entry = answered_entry answers log request in turn_alone answers (f (record { before = log; entry = entry })) input (log ++ entry ∷ [])
 
 -- These own entries stand one behind the other, from one log to another, and the session is the only caller.
-abbrev pub IsAlone : Name → List Entry → List OwnEntry → List Entry → Type 0
-IsAlone admin log [] log' = log' ≡ log
-IsAlone admin log (one ∷ own) log' = (one.before ≡ log) × (one.entry ≡ answered_entry admin log (asked one)) × IsAlone admin (log ++ one.entry ∷ []) own log'
+abbrev pub IsAlone : Answers → List Entry → List OwnEntry → List Entry → Type 0
+IsAlone answers log [] log' = log' ≡ log
+IsAlone answers log (one ∷ own) log' = (one.before ≡ log) × (one.entry ≡ answered_entry answers log (asked one)) × IsAlone answers (log ++ one.entry ∷ []) own log'

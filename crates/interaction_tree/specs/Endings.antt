@@ -3,7 +3,7 @@ use Rattle.std.specs.Prelude.{◌≡◌, ⊤, ℕ, ◌+◌, List, length, IsTrue
 use Rattle.std.specs.Io.KnownBytes.{Consumes, Appends, IsAtEnd}
 use Rattle.base_types.specs.Counts.{HasRisen}
 use Rattle.pktline_core.specs.LinkState.{LinkState}
-use Rattle.interaction_tree.specs.Requests.{OwnEntry, asked, log_before}
+use Rattle.interaction_tree.specs.Requests.{OwnEntry, asked}
 use Rattle.interaction_tree.specs.Interaction.{Interaction}
 use Rattle.interaction_tree.specs.Turns.{Extent, Closed, Open, turn_over, turn, due}
 use Rattle.interaction_tree.specs.Turns as stop
@@ -23,11 +23,11 @@ IsExtent left Open = ⊤
 pub record EndsAsDue {E A : Type 0} (link link' : LinkState) (own : List OwnEntry) (t : Interaction E A) (end : E) : Type 0 where
   pub input : List ℕ
   pub told : IsInput link.left input
-  pub read : Consumes link.left link'.left (turn t input (map log_before own)).used
-  pub counted : link'.given ≡ link.given + length (turn t input (map log_before own)).used
-  pub entries : map asked own ≡ (turn t input (map log_before own)).requests
-  pub written : Appends link.written link'.written (turn t input (map log_before own)).bytes
-  pub end_is : (turn t input (map log_before own)).stop ≡ stop.Ended end
+  pub read : Consumes link.left link'.left (turn t input own).used
+  pub counted : link'.given ≡ link.given + length (turn t input own).used
+  pub entries : map asked own ≡ (turn t input own).requests
+  pub written : Appends link.written link'.written (turn t input own).bytes
+  pub end_is : (turn t input own).stop ≡ stop.Ended end
 
 -- After a part of the input a read failed where more is wanted, and all of that part is used. What was written is due of it, and the own entries
 -- are the ones due by it.
@@ -35,10 +35,10 @@ pub record FailsReading {E A : Type 0} (link link' : LinkState) (own : List OwnE
   pub part : List ℕ
   pub read : Consumes link.left link'.left part
   pub counted : link'.given ≡ link.given + length part
-  pub used : (due t part (map log_before own)).used ≡ part
-  pub waits : (due t part (map log_before own)).stop ≡ stop.Waiting
-  pub entries : map asked own ≡ (due t part (map log_before own)).requests
-  pub written : Appends link.written link'.written (due t part (map log_before own)).bytes
+  pub used : (due t part own).used ≡ part
+  pub waits : (due t part own).stop ≡ stop.Waiting
+  pub entries : map asked own ≡ (due t part own).requests
+  pub written : Appends link.written link'.written (due t part own).bytes
   pub risen : HasRisen link.read_faults link'.read_faults
   pub may_fail : IsTrue link.may_fail
 
@@ -51,11 +51,11 @@ pub record FailsWriting {E A : Type 0} (link link' : LinkState) (own : List OwnE
   pub is_extent : IsExtent link'.left extent
   pub read : Consumes link.left link'.left part
   pub counted : link'.given ≡ link.given + length part
-  pub used : (turn_over extent t part (map log_before own)).used ≡ part
-  pub entries : map asked own ≡ (due t part (map log_before own)).requests
+  pub used : (turn_over extent t part own).used ≡ part
+  pub entries : map asked own ≡ (due t part own).requests
   pub written : Appends link.written link'.written bytes
-  pub short : FallsShort bytes (turn_over extent t part (map log_before own)).bytes
-  pub before : (front : List ℕ) → FallsShort front part → Begins (due t front (map log_before own)).bytes bytes
+  pub short : FallsShort bytes (turn_over extent t part own).bytes
+  pub before : (front : List ℕ) → FallsShort front part → Begins (due t front own).bytes bytes
   pub risen : HasRisen link.write_faults link'.write_faults
   pub may_fail : IsTrue link.may_fail
 
@@ -68,11 +68,11 @@ pub record LacksMemory {E A : Type 0} (link link' : LinkState) (own : List OwnEn
   pub is_extent : IsExtent link'.left extent
   pub read : Consumes link.left link'.left part
   pub counted : link'.given ≡ link.given + length part
-  pub used : (turn_over extent t part (map log_before own)).used ≡ part
-  pub entries : Begins (map asked own) (due t part (map log_before own)).requests
+  pub used : (turn_over extent t part own).used ≡ part
+  pub entries : Begins (map asked own) (due t part own).requests
   pub written : Appends link.written link'.written bytes
-  pub begins : Begins bytes (turn_over extent t part (map log_before own)).bytes
-  pub before : (front : List ℕ) → FallsShort front part → Begins (due t front (map log_before own)).bytes bytes
+  pub begins : Begins bytes (turn_over extent t part own).bytes
+  pub before : (front : List ℕ) → FallsShort front part → Begins (due t front own).bytes bytes
 
 -- a session took its turn, with these entries of its own: what holds, by its end
 abbrev pub TakesTurn : {E A : Type 0} → LinkState → LinkState → List OwnEntry → Interaction E A → Halt E → Type 0

@@ -1,8 +1,7 @@
 -- What a session does, as an interaction tree: what it writes, reads and asks, one step after the other, each by the replies before it.
 use Rattle.std.specs.Prelude.{ℕ, List}
-use Rattle.hub_core.specs.declared.entry.Entry.{Entry}
 use Rattle.interaction_tree.specs.Wanted.{Wanted, Fault, Reply}
-use Rattle.interaction_tree.specs.Requests.{Request}
+use Rattle.interaction_tree.specs.Requests.{Request, OwnEntry}
 
 -- how an input is taken that ends inside what is wanted: these bytes are still due, and this is the end
 pub record CutOff (E : Type 0) : Type 0 where
@@ -19,8 +18,8 @@ pub data Interaction (E A : Type 0) : Type 0 where
   writes : List ℕ → Interaction E A → Interaction E A
   -- this is read, and the reply decides what follows; an input that ends inside it ends the interaction, as its fault says
   reads : (wanted : Wanted) → (Fault wanted → CutOff E) → (Reply wanted → Interaction E A) → Interaction E A
-  -- an entry is made; the log just before it decides its answer, and what follows
-  asks : Request → (List Entry → Interaction E A) → Interaction E A
+  -- an entry is made; with the answer that it records, and the log just before it, it decides what follows
+  asks : Request → (OwnEntry → Interaction E A) → Interaction E A
 
 -- one interaction, and then another that its value decides
 infixl 10 ◌>>=◌
@@ -29,7 +28,7 @@ unfoldable pub ◌>>=◌ : {E A B : Type 0} → Interaction E A → (A → Inter
 (ends e) >>= k = ends e
 (writes bytes t) >>= k = writes bytes (t >>= k)
 (reads wanted cut f) >>= k = reads wanted cut (λ reply. f reply >>= k)
-(asks request f) >>= k = asks request (λ before. f before >>= k)
+(asks request f) >>= k = asks request (λ own. f own >>= k)
 
 -- these bytes alone
 unfoldable pub write : {E : Type 0} → List ℕ → Interaction E (Unit {0})
@@ -40,8 +39,8 @@ unfoldable pub read : {E : Type 0} → (wanted : Wanted) → (Fault wanted → C
 read wanted cut = reads wanted cut (λ reply. gives reply)
 
 -- this entry alone
-unfoldable pub ask : {E : Type 0} → Request → Interaction E (List Entry)
-ask request = asks request (λ before. gives before)
+unfoldable pub ask : {E : Type 0} → Request → Interaction E OwnEntry
+ask request = asks request (λ own. gives own)
 
 -- how an input that ends is taken, with another end
 abbrev pub cut_as : {E F : Type 0} → (E → F) → CutOff E → CutOff F
@@ -53,4 +52,4 @@ ending_as end_as (gives a) = gives a
 ending_as end_as (ends e) = ends (end_as e)
 ending_as end_as (writes bytes t) = writes bytes (ending_as end_as t)
 ending_as end_as (reads wanted cut f) = reads wanted (λ fault. cut_as end_as (cut fault)) (λ reply. ending_as end_as (f reply))
-ending_as end_as (asks request f) = asks request (λ before. ending_as end_as (f before))
+ending_as end_as (asks request f) = asks request (λ own. ending_as end_as (f own))

@@ -16,12 +16,9 @@ use Rattle.raw_pack.specs.Packs.{pack_front}
 use Rattle.raw_pack.specs.Reading.{ReadsFront}
 use Rattle.raw_pack.specs.declared.fault.PackFault.{PackFault}
 use Rattle.hub_core.specs.declared.entry.Entry.{Entry}
-use Rattle.hub_core.specs.declared.entry.Event.{Event}
-use Rattle.hub_core.specs.Name.{Name}
-use Rattle.hub_core.specs.History.{History, IsDue}
 use Rattle.hub_core.specs.Desk.{DeskView, IsOfAnother, IsSound, MakesEntry}
 use Rattle.interaction_tree.specs.Wanted.{Wanted, Packet, Pack, Value, Fault, front_of, Reply, shown}
-use Rattle.interaction_tree.specs.Requests.{request_of, answered, OwnEntry, asked, log_before, own_in}
+use Rattle.interaction_tree.specs.Requests.{Request, request_of, Answers, Agrees, AsLogged, OwnEntry, asked, own_in}
 use Rattle.interaction_tree.specs.Interaction.{CutOff, Interaction, gives, ends, writes, reads, ◌>>=◌, write, read, ask, ending_as}
 use Rattle.interaction_tree.specs.Turns.{Extent, Ended, turn_over, turn, and_then, turn_as}
 use Rattle.interaction_tree.specs.Alone.{turn_alone, IsAlone}
@@ -53,20 +50,24 @@ EntriesGrow = (old new : DeskView) (own : List OwnEntry) → IsSound old → Mak
 abbrev pub OthersAreNotOwn : Type 0
 OthersAreNotOwn = (caller place : ℕ) (log others : List Entry) → place ≤ length log → AllByRecursion (IsOfAnother caller) others → own_in caller place (log ++ others) ≡ own_in caller place log
 
--- an event that is due is the one that its request brings about
-abbrev pub DueIsAnswered : Type 0
-DueIsAnswered = (h : History) (event : Event) → IsDue h event → event ≡ answered h (request_of event)
+-- For every log there are answers that agree with it, and are for what is asked.
+abbrev pub LogsHaveAnswers : Type 0
+LogsHaveAnswers = (log : List Entry) → (answers : Answers) × Agrees answers log × ((before : List Entry) (request : Request) → request_of (answers before request) ≡ request)
 
--- At the desk of a hub's only caller each entry stands right behind the one before.
+-- Answers that agree with a log agree with each beginning of it.
+abbrev pub BeginningsAgree : Type 0
+BeginningsAgree = (answers : Answers) (log more : List Entry) → Agrees answers (log ++ more) → Agrees answers log
+
+-- At the desk of a hub's only caller each entry stands right behind the one before, by whatever answers agree with what was seen.
 abbrev pub OnlyCallersAreAlone : Type 0
-OnlyCallersAreAlone = (old new : DeskView) (own : List OwnEntry) → IsTrue old.alone → MakesAll old new own → IsAlone old.admin old.seen own new.seen
+OnlyCallersAreAlone = (old new : DeskView) (own : List OwnEntry) → IsTrue old.alone → MakesAll old new own → AsLogged new.seen (λ answers. IsAlone answers old.seen own new.seen)
 
--- Where a session is its hub's only caller, its turn is the one that the log gives, and the log afterwards is that one's.
+-- Where a session is its hub's only caller, its turn is the one that the log at the start and the answers give, and the log afterwards is that one's.
 abbrev pub AloneAsLogged : Type 0 → Type 0 → Type 0
 AloneAsLogged E A =
-    (admin : Name) (end : E) (t : Interaction E A) (input : List ℕ) (own : List OwnEntry) (log log' : List Entry) → IsAlone admin log own log'
-    → map asked own ≡ (turn t input (map log_before own)).requests → (turn t input (map log_before own)).stop ≡ Ended end
-    → turn_alone admin t input log ≡ record { bytes = (turn t input (map log_before own)).bytes; stop = Ended end; log = log' }
+    (answers : Answers) (end : E) (t : Interaction E A) (input : List ℕ) (own : List OwnEntry) (log log' : List Entry) → IsAlone answers log own log'
+    → map asked own ≡ (turn t input own).requests → (turn t input own).stop ≡ Ended end
+    → turn_alone answers t input log ≡ record { bytes = (turn t input own).bytes; stop = Ended end; log = log' }
 
 -- II. How code runs an interaction
 
@@ -107,7 +108,7 @@ CutOffsRun E A =
 -- an entry that is made
 abbrev pub EntriesRun : Type 0 → Type 0
 EntriesRun E =
-    (link : LinkState) (old new : DeskView) (before : List Entry) (entry : Entry) → MakesEntry old new before entry → Runs {E = E} link link old new (ask (request_of entry.event)) (Ok before)
+    (link : LinkState) (old new : DeskView) (before : List Entry) (entry : Entry) → MakesEntry old new before entry → Runs {E = E} link link old new (ask (request_of entry.event)) (Ok (record { before = before; entry = entry }))
 
 -- the reader of packets, where nothing is due when the input ends
 abbrev pub PacketsRun : Type 0 → Type 0
@@ -139,18 +140,18 @@ OrdersCompose E A B =
 -- IV. Turns
 
 -- The turn of one interaction and then another is the turn of the first and, where that gave its value, then the turn of the second over what the
--- first left of the input and of the logs.
+-- first left of the input and of the entries.
 abbrev pub TurnsCompose : Type 0 → Type 0 → Type 0 → Type 0
 TurnsCompose E A B =
-    (extent : Extent) (t : Interaction E A) (k : A → Interaction E B) (input : List ℕ) (logs : List (List Entry))
-    → turn_over extent (t >>= k) input logs ≡ and_then (turn_over extent t input logs) (λ value used requests. turn_over extent (k value) (drop (length used) input) (drop (length requests) logs))
+    (extent : Extent) (t : Interaction E A) (k : A → Interaction E B) (input : List ℕ) (own : List OwnEntry)
+    → turn_over extent (t >>= k) input own ≡ and_then (turn_over extent t input own) (λ value used requests. turn_over extent (k value) (drop (length used) input) (drop (length requests) own))
 
 -- V. Other ends
 
 -- With other ends its turns are the same but for the end.
 abbrev pub TurnsEndAs : Type 0 → Type 0 → Type 0 → Type 0
 TurnsEndAs E F A =
-    (end_as : E → F) (extent : Extent) (t : Interaction E A) (input : List ℕ) (logs : List (List Entry)) → turn_over extent (ending_as end_as t) input logs ≡ turn_as end_as (turn_over extent t input logs)
+    (end_as : E → F) (extent : Extent) (t : Interaction E A) (input : List ℕ) (own : List OwnEntry) → turn_over extent (ending_as end_as t) input own ≡ turn_as end_as (turn_over extent t input own)
 
 -- Code that runs it runs it with other ends.
 abbrev pub RunsEndAs : Type 0 → Type 0 → Type 0 → Type 0

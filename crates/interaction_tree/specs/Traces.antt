@@ -76,4 +76,4 @@ IsTrace left out (reads wanted cut f) read written own =
     × IsTrace left out (f (record { used = length first; found = found })) more written own)
 IsTrace left out (asks request f) read written own =
     (StandsStill left out (asks request f) read written × (own ≡ []))
-    ⊎ ((one : OwnEntry) × (more : List OwnEntry) × (own ≡ one ∷ more) × (asked one ≡ request) × IsTrace left out (f one.before) read written more)
+    ⊎ ((one : OwnEntry) × (more : List OwnEntry) × (own ≡ one ∷ more) × (asked one ≡ request) × IsTrace left out (f one) read written more)

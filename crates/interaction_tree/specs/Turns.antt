@@ -1,8 +1,7 @@
--- A session's turn: what is due of an interaction by its input and by the logs before its entries.
+-- A session's turn: what is due of an interaction, by its input and by the session's own entries.
 use Rattle.std.specs.Prelude.{ℕ, List, [], ◌∷◌, ◌++◌, take, drop}
-use Rattle.hub_core.specs.declared.entry.Entry.{Entry}
 use Rattle.interaction_tree.specs.Wanted.{front_of, by_front}
-use Rattle.interaction_tree.specs.Requests.{Request}
+use Rattle.interaction_tree.specs.Requests.{Request, OwnEntry}
 use Rattle.interaction_tree.specs.Interaction.{CutOff, Interaction, gives, ends, writes, reads, asks}
 
 -- whether an input ends with its last byte, or may go on
@@ -47,16 +46,16 @@ abbrev pub cut_off : {E A : Type 0} → Extent → List ℕ → CutOff E → Tur
 cut_off Closed input cut = record { used = input; requests = []; bytes = cut.bytes; stop = Ended cut.end }
 cut_off Open input cut = record { used = input; requests = []; bytes = []; stop = Waiting }
 
--- What is due by an input and the logs just before the session's entries, in their order. An entry without its log is unanswered.
-unfoldable pub turn_over : {E A : Type 0} → Extent → Interaction E A → List ℕ → List (List Entry) → Turn E A
-turn_over extent (gives a) input logs = at_once (Gave a)
-turn_over extent (ends e) input logs = at_once (Ended e)
-turn_over extent (writes bytes t) input logs = after_writing bytes (turn_over extent t input logs)
-turn_over extent (reads wanted cut f) input logs = by_front (front_of wanted input)
+-- What is due by an input and the session's own entries, in their order. A request whose entry isn't there is unanswered.
+unfoldable pub turn_over : {E A : Type 0} → Extent → Interaction E A → List ℕ → List OwnEntry → Turn E A
+turn_over extent (gives a) input own = at_once (Gave a)
+turn_over extent (ends e) input own = at_once (Ended e)
+turn_over extent (writes bytes t) input own = after_writing bytes (turn_over extent t input own)
+turn_over extent (reads wanted cut f) input own = by_front (front_of wanted input)
     (λ fault. cut_off extent input (cut fault))
-    (λ used found. after_reading (take used input) (turn_over extent (f (record { used = used; found = found })) (drop used input) logs))
+    (λ used found. after_reading (take used input) (turn_over extent (f (record { used = used; found = found })) (drop used input) own))
 turn_over extent (asks request f) input [] = after_asking request (at_once Unanswered)
-turn_over extent (asks request f) input (before ∷ logs) = after_asking request (turn_over extent (f before) input logs)
+turn_over extent (asks request f) input (one ∷ own) = after_asking request (turn_over extent (f one) input own)
 
 -- what stands behind a turn that stopped so
 abbrev pub by_stop : {E A B : Type 0} → Stop E A → (A → Turn E B) → Turn E B
@@ -70,12 +69,12 @@ abbrev pub behind : {E A : Type 0} → List ℕ → List Request → List ℕ �
 behind used requests bytes t = record { used = used ++ t.used; requests = requests ++ t.requests; bytes = bytes ++ t.bytes; stop = t.stop }
 
 -- the turn over a whole input
-abbrev pub turn : {E A : Type 0} → Interaction E A → List ℕ → List (List Entry) → Turn E A
-turn t input logs = turn_over Closed t input logs
+abbrev pub turn : {E A : Type 0} → Interaction E A → List ℕ → List OwnEntry → Turn E A
+turn t input own = turn_over Closed t input own
 
 -- what is due after a part of an input that isn't taken for its end
-abbrev pub due : {E A : Type 0} → Interaction E A → List ℕ → List (List Entry) → Turn E A
-due t part logs = turn_over Open t part logs
+abbrev pub due : {E A : Type 0} → Interaction E A → List ℕ → List OwnEntry → Turn E A
+due t part own = turn_over Open t part own
 
 -- a turn, and behind it the one that its value decides, which begins behind what the first used and asked
 abbrev pub and_then : {E A B : Type 0} → Turn E A → (A → List ℕ → List Request → Turn E B) → Turn E B

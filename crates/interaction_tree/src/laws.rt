@@ -1,5 +1,5 @@
 // Laws of interactions, which hold of every protocol.
-ghost use Rattle.interaction_tree.specs.Laws.{AloneAsLogged, BothEndAs, CutOffsRun, DueIsAnswered, EndsOrLacks, EntriesGrow, EntriesRun, HaltsCompose, NothingRuns, OnlyCallersAreAlone, OrdersCompose, OrdersEndAs, OthersAreNotOwn, PacketsRun, PacksRun, ReadingsRun, RefusedPacksRun, RunsCompose, RunsEndAs, RunsTakeTurns, TurnsCompose, TurnsEndAs, WritesRun};
+ghost use Rattle.interaction_tree.specs.Laws.{AloneAsLogged, BeginningsAgree, BothEndAs, CutOffsRun, EndsOrLacks, EntriesGrow, EntriesRun, HaltsCompose, LogsHaveAnswers, NothingRuns, OnlyCallersAreAlone, OrdersCompose, OrdersEndAs, OthersAreNotOwn, PacketsRun, PacksRun, ReadingsRun, RefusedPacksRun, RunsCompose, RunsEndAs, RunsTakeTurns, TurnsCompose, TurnsEndAs, WritesRun};
 
 /// What follows of code that ran an interaction; a call does nothing.
 pub fn turns_hold<E, A>()
@@ -7,7 +7,8 @@ pub fn turns_hold<E, A>()
     ensures sure { EndsOrLacks E A }
     ensures grow { EntriesGrow }
     ensures others { OthersAreNotOwn }
-    ensures answered { DueIsAnswered }
+    ensures answers { LogsHaveAnswers }
+    ensures begun { BeginningsAgree }
     ensures only { OnlyCallersAreAlone }
     ensures alone { AloneAsLogged E A }
 {}

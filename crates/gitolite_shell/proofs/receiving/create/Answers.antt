@@ -8,20 +8,20 @@ pub returns-in_err-commands-clause-runs : goal.returns-in_err-commands-clause-ru
 unfolding creating
 returns-in_err-commands-clause-runs g c =
     let p = err_from_is_err_and c.from_residual.result c.from_residual.ensures.1 in
-    exits _ _ _ _ _ (λ commands. taking_pack commands >>= λ pack. pushing _ c.args.pin commands pack) c.take_commands.result _ _ _ c.in_err-commands.was p.1 p.2 (c.take_commands.ensures.runs _)
+    exits _ _ _ _ _ (λ commands. taking_pack commands >>= λ pack. pushing c.args.pin commands pack) c.take_commands.result _ _ _ c.in_err-commands.was p.1 p.2 (c.take_commands.ensures.runs _)
 
 pub returns-in_err-pack-clause-runs : goal.returns-in_err-pack-clause-runs
 unfolding creating
 returns-in_err-pack-clause-runs g c =
     let p = err_from_is_err_and c.from_residual-in_err-pack.result c.from_residual-in_err-pack.ensures.1 in
-    goes _ _ _ _ _ (λ commands. taking_pack commands >>= λ pack. pushing _ c.args.pin commands pack) c.take_commands.result _ _ c.in_ok-commands.commands _ c.in_ok-commands.was (c.take_commands.ensures.runs _)
-    (exits _ _ _ _ _ (λ pack. pushing _ c.args.pin c.in_ok-commands.commands pack) c.take_pack.result _ _ _ c.in_err-pack.was p.1 p.2 (c.take_pack.ensures.runs _))
+    goes _ _ _ _ _ (λ commands. taking_pack commands >>= λ pack. pushing c.args.pin commands pack) c.take_commands.result _ _ c.in_ok-commands.commands _ c.in_ok-commands.was (c.take_commands.ensures.runs _)
+    (exits _ _ _ _ _ (λ pack. pushing c.args.pin c.in_ok-commands.commands pack) c.take_pack.result _ _ _ c.in_err-pack.was p.1 p.2 (c.take_pack.ensures.runs _))
 
 pub returns-clause-runs : goal.returns-clause-runs
 unfolding creating
 returns-clause-runs g c =
-    goes _ _ _ _ _ (λ commands. taking_pack commands >>= λ pack. pushing _ c.args.pin commands pack) c.take_commands.result _ _ c.in_ok-commands.commands _ c.in_ok-commands.was (c.take_commands.ensures.runs _)
-    (goes _ _ _ _ _ (λ pack. pushing _ c.args.pin c.in_ok-commands.commands pack) c.take_pack.result _ _ c.in_ok-pack.pack _ c.in_ok-pack.was (c.take_pack.ensures.runs _) c.push.ensures.runs)
+    goes _ _ _ _ _ (λ commands. taking_pack commands >>= λ pack. pushing c.args.pin commands pack) c.take_commands.result _ _ c.in_ok-commands.commands _ c.in_ok-commands.was (c.take_commands.ensures.runs _)
+    (goes _ _ _ _ _ (λ pack. pushing c.args.pin c.in_ok-commands.commands pack) c.take_pack.result _ _ c.in_ok-pack.pack _ c.in_ok-pack.was (c.take_pack.ensures.runs _) c.push.ensures.runs)
 
 pub returns-in_err-commands-clause-goes : goal.returns-in_err-commands-clause-goes
 returns-in_err-commands-clause-goes g c = g.met.K.Desk.stays c.args.desk.now

@@ -12,7 +12,7 @@ returns-in_err-advertise-clause-runs g c =
 pub returns-clause-runs : goal.returns-clause-runs
 unfolding receiving
 returns-clause-runs g c =
-    goes _ _ _ _ _ (λ u. commanding _ c.args.pin) c.advertise.result _ _ c.in_ok-advertise.field-0 _ c.in_ok-advertise.was (rw c.repo.ensures.repo at (c.advertise.ensures.runs (g.K.Desk.view c.args.desk.now))) c.receive_command.ensures.runs
+    goes _ _ _ _ _ (λ u. commanding c.args.pin) c.advertise.result _ _ c.in_ok-advertise.field-0 _ c.in_ok-advertise.was (rw c.repo.ensures.repo at (c.advertise.ensures.runs (g.K.Desk.view c.args.desk.now))) c.receive_command.ensures.runs
 
 pub returns-in_err-advertise-clause-goes : goal.returns-in_err-advertise-clause-goes
 returns-in_err-advertise-clause-goes g c = g.met.K.Desk.stays c.args.desk.now

@@ -1,6 +1,4 @@
 use Rattle.interaction_tree.proofs.RunLemmas.{runs_memory}
-use Rattle.std.proofs.Common.{ap}
-use Rattle.hub_core.specs.Desk.{DeskView}
 use Rattle.hub_core.proofs.DeskLemmas.{legal_after}
 use Rattle.hub_core.proofs.ShortNames.{pinned_short}
 use Rattle.gitolite_shell.proofs.StepLemmas.{refused}
@@ -27,18 +25,3 @@ returns-in-Granted-clause-names g c = pinned_short _ _ (legal_after _ _ _ _ c.in
 
 pub returns-in-Created-clause-names : goal.returns-in-Created-clause-names
 returns-in-Created-clause-names g c = pinned_short _ _ (legal_after _ _ _ _ c.in-Created.ensures.answers.1) c.in-Created.pin c.in-Created.ensures.answers.2.1.stands
-
-pub returns-in-Granted-clause-admin : goal.returns-in-Granted-clause-admin
-returns-in-Granted-clause-admin g c = ap (λ (d : DeskView). d.admin) c.in-Granted.ensures.answers.1.new_is
-
-pub returns-in-Created-clause-admin : goal.returns-in-Created-clause-admin
-returns-in-Created-clause-admin g c = ap (λ (d : DeskView). d.admin) c.in-Created.ensures.answers.1.new_is
-
-pub returns-in-Denied-clause-admin : goal.returns-in-Denied-clause-admin
-returns-in-Denied-clause-admin g c = ap (λ (d : DeskView). d.admin) c.in-Denied.ensures.answers.1.new_is
-
-pub returns-in-NoRepo-clause-admin : goal.returns-in-NoRepo-clause-admin
-returns-in-NoRepo-clause-admin g c = ap (λ (d : DeskView). d.admin) c.in-NoRepo.ensures.answers.1.new_is
-
-pub returns-in-NoMemory-clause-admin : goal.returns-in-NoMemory-clause-admin
-returns-in-NoMemory-clause-admin g c = ap (λ (d : DeskView). d.admin) c.in-NoMemory.ensures.answers.1

@@ -12,7 +12,7 @@ returns-in_err-pin-clause-runs g c =
 pub returns-clause-runs : goal.returns-clause-runs
 unfolding serving
 returns-clause-runs g c =
-    goes _ _ _ _ _ (λ opening. receiving _ opening) c.enter.result _ _ c.in_ok-pin.pin _ c.in_ok-pin.was c.enter.ensures.runs (rw c.in_ok-pin.ensures.admin at c.receive.ensures.runs)
+    goes _ _ _ _ _ (λ opening. receiving opening) c.enter.result _ _ c.in_ok-pin.pin _ c.in_ok-pin.was c.enter.ensures.runs c.receive.ensures.runs
 
 pub returns-clause-goes : goal.returns-clause-goes
 returns-clause-goes g c = g.met.K.Desk.composes _ _ _ c.enter.ensures.goes c.receive.ensures.goes
