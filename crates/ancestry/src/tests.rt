@@ -1,48 +1,111 @@
+ghost use Rattle.std.specs.Prelude.{IfOk};
+ghost use Rattle.ancestry.specs.Known.{AreFound, AreKnown};
+
 use super::*;
 use crate::seen;
 use crate::verdict::Verdict;
 use git_object::{Kind, Object, ObjectId, ObjectList};
 use ref_store::{Added, Lens, Repo};
 use std::alloc::Global;
+use std::process::Abort;
 use std::test::Fail;
 
-pub(crate) fn object(alloc: Global, kind: Kind, body: &[u8]) -> Result<Object, Fail> {
+fn object(alloc: Global, kind: Kind, body: &[u8]) -> Result<Object, Fail> {
     if body.len() > 1000 {
         return Err(Fail::from("a short body"));
     }
-    Ok(Object::parse(alloc, kind, body).map_err(|_| "a body of its form")?)
+    match Object::parse(alloc, kind, body) {
+        Ok(object) => Ok(object),
+        Err(_) => Err(Fail::from("a body of its form")),
+    }
 }
 
-// A tree of entries, each a mode and a name beside an id.
-pub(crate) fn tree(alloc: Global, entries: &[(&str, ObjectId)]) -> Result<Object, Fail> {
+// Puts an object into a list, and gives its name.
+pub(crate) fn put(
+    alloc: Global,
+    objects: &mut ObjectList,
+    kind: Kind,
+    body: &[u8],
+) -> Result<ObjectId, Fail> {
+    let object = object(alloc, kind, body)?;
+    let name = object.name();
+    objects.push(object)?;
+    Ok(name)
+}
+
+fn add_entry(body: &mut Vec<u8>, entry: &str, id: ObjectId) -> Result<(), NoMemory> {
+    body.extend_from_slice(entry.as_bytes())?;
+    body.push(0)?;
+    body.extend_from_slice(&id.bytes)?;
+    Ok(())
+}
+
+fn add_line(body: &mut Vec<u8>, word: &str, id: ObjectId) -> Result<(), NoMemory> {
+    body.extend_from_slice(word.as_bytes())?;
+    body.extend_from_slice(&id.hex())?;
+    body.push(b'\n')?;
+    Ok(())
+}
+
+fn tree_body(alloc: Global, entries: &[(&str, ObjectId)]) -> Result<Vec<u8>, NoMemory> {
     let mut body = Vec::new(alloc);
     for (entry, id) in entries {
-        body.extend_from_slice(entry.as_bytes())?;
-        body.push(0)?;
-        body.extend_from_slice(&id.bytes)?;
+        add_entry(&mut body, entry, *id)?;
     }
-    object(alloc, Kind::Tree, &body)
+    Ok(body)
 }
 
-pub(crate) fn commit(alloc: Global, tree: ObjectId, parents: &[ObjectId]) -> Result<Object, Fail> {
-    let mut body = b"tree ".to_vec(alloc)?;
-    body.extend_from_slice(&tree.hex())?;
-    body.push(b'\n')?;
+// Puts a tree of entries, each a mode and a name beside an id.
+pub(crate) fn put_tree(
+    alloc: Global,
+    objects: &mut ObjectList,
+    entries: &[(&str, ObjectId)],
+) -> Result<ObjectId, Fail> {
+    let body = tree_body(alloc, entries)?;
+    put(alloc, objects, Kind::Tree, &body)
+}
+
+fn commit_body(alloc: Global, tree: ObjectId, parents: &[ObjectId]) -> Result<Vec<u8>, NoMemory> {
+    let mut body = Vec::new(alloc);
+    add_line(&mut body, "tree ", tree)?;
     for parent in parents {
-        body.extend_from_slice(b"parent ")?;
-        body.extend_from_slice(&parent.hex())?;
-        body.push(b'\n')?;
+        add_line(&mut body, "parent ", *parent)?;
     }
-    object(alloc, Kind::Commit, &body)
+    Ok(body)
 }
 
-pub(crate) fn tag(alloc: Global, target: ObjectId, kind: Kind) -> Result<Object, Fail> {
-    let mut body = b"object ".to_vec(alloc)?;
-    body.extend_from_slice(&target.hex())?;
-    body.extend_from_slice(b"\ntype ")?;
+pub(crate) fn put_commit(
+    alloc: Global,
+    objects: &mut ObjectList,
+    tree: ObjectId,
+    parents: &[ObjectId],
+) -> Result<ObjectId, Fail> {
+    let body = commit_body(alloc, tree, parents)?;
+    put(alloc, objects, Kind::Commit, &body)
+}
+
+fn add_type(body: &mut Vec<u8>, kind: Kind) -> Result<(), NoMemory> {
+    body.extend_from_slice(b"type ")?;
     body.extend_from_slice(kind.word())?;
     body.push(b'\n')?;
-    object(alloc, Kind::Tag, &body)
+    Ok(())
+}
+
+fn tag_body(alloc: Global, target: ObjectId, kind: Kind) -> Result<Vec<u8>, NoMemory> {
+    let mut body = Vec::new(alloc);
+    add_line(&mut body, "object ", target)?;
+    add_type(&mut body, kind)?;
+    Ok(body)
+}
+
+pub(crate) fn put_tag(
+    alloc: Global,
+    objects: &mut ObjectList,
+    target: ObjectId,
+    kind: Kind,
+) -> Result<ObjectId, Fail> {
+    let body = tag_body(alloc, target, kind)?;
+    put(alloc, objects, Kind::Tag, &body)
 }
 
 // A name that no object has.
@@ -70,20 +133,95 @@ fn told_plainly(alloc: Global, lens: &Lens, id: ObjectId, kind: Option<Kind>) ->
     }
 }
 
-// The first row of the table of which something else is told: twice by one walker, by a walker of its own, or by a plain walk.
-fn told_otherwise(
+// An id, the kind that is wanted, and what is told.
+type Row = (ObjectId, Option<Kind>, Wholeness);
+
+// Whether what a row says is told: twice by one walker, by a walker of its own, and by a plain walk.
+fn is_told(alloc: Global, lens: &Lens, walks: &mut Walks<'_>, row: Row) -> bool {
+    let (id, kind, told) = row;
+    let by_one = walks.whole(id, kind) == told && walks.whole(id, kind) == told;
+    if !by_one || whole(alloc, lens, id, kind) != told {
+        return false;
+    }
+    told_plainly(alloc, lens, id, kind) == told
+}
+
+fn first_not_told(
     alloc: Global,
     lens: &Lens,
-    rows: &[(ObjectId, Option<Kind>, Wholeness)],
+    walks: &mut Walks<'_>,
+    rows: &[Row],
 ) -> Option<usize> {
-    let mut walks = Walks::new(alloc, lens);
     for i in 0..rows.len() {
-        let (id, kind, told) = rows[i];
-        let by_one = walks.whole(id, kind) == told && walks.whole(id, kind) == told;
-        if !by_one || whole(alloc, lens, id, kind) != told {
+        if !is_told(alloc, lens, walks, rows[i]) {
             return Some(i);
         }
-        if told_plainly(alloc, lens, id, kind) != told {
+    }
+    None
+}
+
+// The first row of the table of which something else is told.
+fn told_otherwise(alloc: Global, lens: &Lens, rows: &[Row]) -> Option<usize> {
+    let mut walks = Walks::new(alloc, lens);
+    first_not_told(alloc, lens, &mut walks, rows)
+}
+
+// The same in this repository with this pack.
+fn told_otherwise_in(
+    alloc: Global,
+    repo: &Repo,
+    pack: &ObjectList,
+    rows: &[Row],
+) -> Result<Option<usize>, Fail> {
+    let lens = Lens::new(alloc, repo, pack)?;
+    Ok(told_otherwise(alloc, &lens, rows))
+}
+
+fn told_otherwise_over(
+    alloc: Global,
+    stored: &ObjectList,
+    pack: &ObjectList,
+    rows: &[Row],
+) -> Result<Option<usize>, Fail> {
+    let repo = repo_of(alloc, stored)?;
+    told_otherwise_in(alloc, &repo, pack, rows)
+}
+
+fn told_otherwise_alone(
+    alloc: Global,
+    pack: &ObjectList,
+    rows: &[Row],
+) -> Result<Option<usize>, Fail> {
+    let repo = Repo::empty(alloc)?;
+    told_otherwise_in(alloc, &repo, pack, rows)
+}
+
+// What is found out from an id that is whole.
+fn found_from(alloc: Global, lens: &Lens, known: ObjectId) -> Result<Findings, Fail>
+    ensures { IfOk result (AreFound lens.now) }
+{
+    let mut earlier = Walks::new(alloc, lens);
+    let Wholeness::Whole = earlier.whole(known, None) else {
+        return Err(Fail::from("an id that is whole"));
+    };
+    Ok(earlier.into_findings())
+}
+
+fn known_from(alloc: Global, lens: &Lens, known: ObjectId) -> Result<Known, Fail>
+    ensures { IfOk result (AreKnown lens.now) }
+{
+    let findings = found_from(alloc, lens, known)?;
+    let nothing = Known::nothing(alloc);
+    match nothing.with(alloc, findings) {
+        Ok(known) => Ok(known),
+        Err(_) => Err(Fail::from("memory")),
+    }
+}
+
+fn first_not_told_once(walks: &mut Walks<'_>, rows: &[Row]) -> Option<usize> {
+    for i in 0..rows.len() {
+        let (id, kind, told) = rows[i];
+        if walks.whole(id, kind) != told {
             return Some(i);
         }
     }
@@ -95,31 +233,48 @@ fn knowing_told_otherwise(
     alloc: Global,
     lens: &Lens,
     known: ObjectId,
-    rows: &[(ObjectId, Option<Kind>, Wholeness)],
+    rows: &[Row],
 ) -> Result<Option<usize>, Fail> {
-    let mut earlier = Walks::new(alloc, lens);
-    let Wholeness::Whole = earlier.whole(known, None) else {
-        return Err(Fail::from("an id that is whole"));
-    };
-    let known = Known::nothing(alloc);
-    let known = known
-        .with(alloc, earlier.into_findings())
-        .map_err(|_| "memory")?;
+    let known = known_from(alloc, lens, known)?;
     let mut walks = Walks::knowing(alloc, lens, known);
-    for i in 0..rows.len() {
-        let (id, kind, told) = rows[i];
-        if walks.whole(id, kind) != told {
-            return Ok(Some(i));
-        }
-    }
-    Ok(None)
+    Ok(first_not_told_once(&mut walks, rows))
 }
 
-// Puts an object into a list, and gives its name.
-pub(crate) fn put(objects: &mut ObjectList, object: Object) -> Result<ObjectId, Fail> {
-    let name = object.name();
-    objects.push(object)?;
-    Ok(name)
+fn knowing_told_otherwise_in(
+    alloc: Global,
+    repo: &Repo,
+    pack: &ObjectList,
+    known: ObjectId,
+    rows: &[Row],
+) -> Result<Option<usize>, Fail> {
+    let lens = Lens::new(alloc, repo, pack)?;
+    knowing_told_otherwise(alloc, &lens, known, rows)
+}
+
+fn knowing_told_otherwise_over(
+    alloc: Global,
+    stored: &ObjectList,
+    pack: &ObjectList,
+    known: ObjectId,
+    rows: &[Row],
+) -> Result<Option<usize>, Fail> {
+    let repo = repo_of(alloc, stored)?;
+    knowing_told_otherwise_in(alloc, &repo, pack, known, rows)
+}
+
+fn add_chain(
+    alloc: Global,
+    objects: &mut ObjectList,
+    names: &mut Vec<ObjectId>,
+    first: ObjectId,
+    tree: ObjectId,
+) -> Result<(), Fail> {
+    let mut last = first;
+    for _ in 1..200 {
+        last = put_commit(alloc, objects, tree, &[last])?;
+        names.push(last)?;
+    }
+    Ok(())
 }
 
 // The names of a first commit with a tree of its own and of commits onto it, each the parent of the next.
@@ -129,31 +284,35 @@ fn chain(
     first_tree: ObjectId,
     tree: ObjectId,
 ) -> Result<Vec<ObjectId>, Fail> {
-    let mut last = put(objects, commit(alloc, first_tree, &[])?)?;
-    let mut names = Vec::new(alloc);
-    names.push(last)?;
-    for _ in 1..200 {
-        last = put(objects, commit(alloc, tree, &[last])?)?;
-        names.push(last)?;
-    }
+    let first = put_commit(alloc, objects, first_tree, &[])?;
+    let mut names = vec![in alloc; first]?;
+    add_chain(alloc, objects, &mut names, first, tree)?;
     Ok(names)
 }
 
 // Some of what is met stands in the repository, and some in the pack.
-#[test]
-fn what_is_missing(rt: HostRuntime) -> Result<(), Fail> {
-    let alloc = rt.alloc();
-    let mut stored = ObjectList::new(alloc);
-    let blob = put(&mut stored, object(alloc, Kind::Blob, b"x")?)?;
-    let files = put(&mut stored, tree(alloc, &[("100664 a", blob)])?)?;
-    let submodule = put(&mut stored, tree(alloc, &[("160000 a", absent(7))])?)?;
-    let mut pack = ObjectList::new(alloc);
-    let first = put(&mut pack, commit(alloc, files, &[])?)?;
-    let lacks_two = tree(alloc, &[("100644 a", absent(9)), ("100644 b", absent(5))])?;
-    let lacks_two = put(&mut pack, lacks_two)?;
-    let second = put(&mut stored, commit(alloc, lacks_two, &[first])?)?;
-    let repo = repo_of(alloc, &stored)?;
-    let lens = Lens::new(alloc, &repo, &pack)?;
+fn put_missing(
+    alloc: Global,
+    stored: &mut ObjectList,
+    pack: &mut ObjectList,
+    files: ObjectId,
+) -> Result<[ObjectId; 3], Fail> {
+    let first = put_commit(alloc, pack, files, &[])?;
+    let lacks_two = [("100644 a", absent(9)), ("100644 b", absent(5))];
+    let lacks_two = put_tree(alloc, pack, &lacks_two)?;
+    let second = put_commit(alloc, stored, lacks_two, &[first])?;
+    Ok([first, lacks_two, second])
+}
+
+fn missing_otherwise(
+    alloc: Global,
+    stored: &mut ObjectList,
+    pack: &mut ObjectList,
+) -> Result<Option<usize>, Fail> {
+    let blob = put(alloc, stored, Kind::Blob, b"x")?;
+    let files = put_tree(alloc, stored, &[("100664 a", blob)])?;
+    let submodule = put_tree(alloc, stored, &[("160000 a", absent(7))])?;
+    let [first, lacks_two, second] = put_missing(alloc, stored, pack, files)?;
     let rows = [
         (first, Some(Kind::Commit), Wholeness::Whole),
         (first, None, Wholeness::Whole),
@@ -163,27 +322,45 @@ fn what_is_missing(rt: HostRuntime) -> Result<(), Fail> {
         (submodule, Some(Kind::Tree), Wholeness::Whole),
         (absent(3), None, Wholeness::Missing(absent(3))),
     ];
-    assert_eq!(rt; told_otherwise(alloc, &lens, &rows), None);
-    Ok(())
+    told_otherwise_over(alloc, stored, pack, &rows)
 }
 
 #[test]
-fn what_is_of_a_wrong_kind(rt: HostRuntime) -> Result<(), Fail> {
-    let alloc = rt.alloc();
-    let mut stored = ObjectList::new(alloc);
-    let blob = put(&mut stored, object(alloc, Kind::Blob, b"x")?)?;
-    let files = put(&mut stored, tree(alloc, &[("100644 a", blob)])?)?;
-    let blob_as_tree = put(&mut stored, tree(alloc, &[("40000 a", blob)])?)?;
-    let both = tree(alloc, &[("100644 a", files), ("40000 b", blob)])?;
-    let both = put(&mut stored, both)?;
-    let mut pack = ObjectList::new(alloc);
-    let tree_as_blob = put(&mut pack, tree(alloc, &[("100644 a", files)])?)?;
-    let lacks_one = tree(alloc, &[("40000 a", blob), ("100644 b", absent(7))])?;
-    let lacks_one = put(&mut pack, lacks_one)?;
-    let tag_of_tree = put(&mut pack, tag(alloc, files, Kind::Commit)?)?;
+fn what_is_missing(rt: HostRuntime) -> Result<(), Fail> {
+    let mut stored = ObjectList::new(rt.alloc());
+    let mut pack = ObjectList::new(rt.alloc());
+    let otherwise = missing_otherwise(rt.alloc(), &mut stored, &mut pack)?;
+    assert_eq!(rt; otherwise, None);
+    Ok(())
+}
+
+// A tree of both under wrong kinds, one with a wrong kind and a missing name, and a tag of a wrong kind.
+fn put_wrong_kinds(
+    alloc: Global,
+    stored: &mut ObjectList,
+    pack: &mut ObjectList,
+    blob: ObjectId,
+    files: ObjectId,
+) -> Result<[ObjectId; 3], Fail> {
+    let both = [("100644 a", files), ("40000 b", blob)];
+    let both = put_tree(alloc, stored, &both)?;
+    let lacks_one = [("40000 a", blob), ("100644 b", absent(7))];
+    let lacks_one = put_tree(alloc, pack, &lacks_one)?;
+    let tag_of_tree = put_tag(alloc, pack, files, Kind::Commit)?;
+    Ok([both, lacks_one, tag_of_tree])
+}
+
+fn wrong_kind_otherwise(
+    alloc: Global,
+    stored: &mut ObjectList,
+    pack: &mut ObjectList,
+) -> Result<Option<usize>, Fail> {
+    let blob = put(alloc, stored, Kind::Blob, b"x")?;
+    let files = put_tree(alloc, stored, &[("100644 a", blob)])?;
+    let blob_as_tree = put_tree(alloc, stored, &[("40000 a", blob)])?;
+    let tree_as_blob = put_tree(alloc, pack, &[("100644 a", files)])?;
+    let [both, lacks_one, tag_of_tree] = put_wrong_kinds(alloc, stored, pack, blob, files)?;
     let least = if blob < files { blob } else { files };
-    let repo = repo_of(alloc, &stored)?;
-    let lens = Lens::new(alloc, &repo, &pack)?;
     let rows = [
         (files, Some(Kind::Commit), Wholeness::WrongKind(files)),
         (blob_as_tree, None, Wholeness::WrongKind(blob)),
@@ -192,116 +369,196 @@ fn what_is_of_a_wrong_kind(rt: HostRuntime) -> Result<(), Fail> {
         (lacks_one, None, Wholeness::Missing(absent(7))),
         (tag_of_tree, Some(Kind::Tag), Wholeness::WrongKind(files)),
     ];
-    assert_eq!(rt; told_otherwise(alloc, &lens, &rows), None);
-    Ok(())
+    told_otherwise_over(alloc, stored, pack, &rows)
 }
 
 #[test]
-fn what_lies_behind_a_failed_walk(rt: HostRuntime) -> Result<(), Fail> {
-    let alloc = rt.alloc();
-    let mut pack = ObjectList::new(alloc);
-    let blob = put(&mut pack, object(alloc, Kind::Blob, b"x")?)?;
-    let wrong = put(&mut pack, tree(alloc, &[("40000 a", blob)])?)?;
-    let lacks = put(&mut pack, tree(alloc, &[("100644 a", absent(5))])?)?;
-    let inner = put(
-        &mut pack,
-        tree(alloc, &[("40000 a", wrong), ("40000 b", lacks)])?,
-    )?;
-    let outer = put(
-        &mut pack,
-        tree(alloc, &[("40000 a", inner), ("100644 b", absent(3))])?,
-    )?;
-    let repo = Repo::empty(alloc)?;
-    let lens = Lens::new(alloc, &repo, &pack)?;
+fn what_is_of_a_wrong_kind(rt: HostRuntime) -> Result<(), Fail> {
+    let mut stored = ObjectList::new(rt.alloc());
+    let mut pack = ObjectList::new(rt.alloc());
+    let otherwise = wrong_kind_otherwise(rt.alloc(), &mut stored, &mut pack)?;
+    assert_eq!(rt; otherwise, None);
+    Ok(())
+}
+
+fn failed_walk_otherwise(alloc: Global, pack: &mut ObjectList) -> Result<Option<usize>, Fail> {
+    let blob = put(alloc, pack, Kind::Blob, b"x")?;
+    let wrong = put_tree(alloc, pack, &[("40000 a", blob)])?;
+    let lacks = put_tree(alloc, pack, &[("100644 a", absent(5))])?;
+    let inner = put_tree(alloc, pack, &[("40000 a", wrong), ("40000 b", lacks)])?;
+    let outer = put_tree(alloc, pack, &[("40000 a", inner), ("100644 b", absent(3))])?;
     let rows = [
         (outer, None, Wholeness::Missing(absent(3))),
         (inner, None, Wholeness::Missing(absent(5))),
         (wrong, None, Wholeness::WrongKind(blob)),
         (blob, Some(Kind::Blob), Wholeness::Whole),
     ];
-    assert_eq!(rt; told_otherwise(alloc, &lens, &rows), None);
+    told_otherwise_alone(alloc, pack, &rows)
+}
+
+#[test]
+fn what_lies_behind_a_failed_walk(rt: HostRuntime) -> Result<(), Fail> {
+    let mut pack = ObjectList::new(rt.alloc());
+    let otherwise = failed_walk_otherwise(rt.alloc(), &mut pack)?;
+    assert_eq!(rt; otherwise, None);
     Ok(())
+}
+
+// The last of a thousand tags, of which the first is one of a blob, and each other one of that before.
+fn put_tags(alloc: Global, pack: &mut ObjectList) -> Result<ObjectId, Fail> {
+    let mut target = put(alloc, pack, Kind::Blob, b"")?;
+    let mut kind = Kind::Blob;
+    for _ in 0..1000 {
+        target = put_tag(alloc, pack, target, kind)?;
+        kind = Kind::Tag;
+    }
+    Ok(target)
+}
+
+fn deep_tags_otherwise(alloc: Global, pack: &mut ObjectList) -> Result<Option<usize>, Fail> {
+    let last = put_tags(alloc, pack)?;
+    let rows = [
+        (last, Some(Kind::Tag), Wholeness::Whole),
+        (last, Some(Kind::Commit), Wholeness::WrongKind(last)),
+    ];
+    told_otherwise_alone(alloc, pack, &rows)
 }
 
 #[test]
 fn tags_of_tags_a_thousand_deep(rt: HostRuntime) -> Result<(), Fail> {
-    let alloc = rt.alloc();
-    let blob = object(alloc, Kind::Blob, b"")?;
-    let mut target = (blob.name(), Kind::Blob);
-    let mut pack = ObjectList::new(alloc);
-    pack.push(blob)?;
-    for _ in 0..1000 {
-        let tag = tag(alloc, target.0, target.1)?;
-        target = (tag.name(), Kind::Tag);
-        pack.push(tag)?;
-    }
-    let repo = Repo::empty(alloc)?;
-    let lens = Lens::new(alloc, &repo, &pack)?;
-    let rows = [
-        (target.0, Some(Kind::Tag), Wholeness::Whole),
-        (target.0, Some(Kind::Commit), Wholeness::WrongKind(target.0)),
-    ];
-    assert_eq!(rt; told_otherwise(alloc, &lens, &rows), None);
+    let mut pack = ObjectList::new(rt.alloc());
+    let otherwise = deep_tags_otherwise(rt.alloc(), &mut pack)?;
+    assert_eq!(rt; otherwise, None);
     Ok(())
 }
 
-#[test]
-fn each_commit_of_a_chain_is_asked_for(rt: HostRuntime) -> Result<(), Fail> {
-    let alloc = rt.alloc();
-    let mut pack = ObjectList::new(alloc);
-    let empty = put(&mut pack, tree(alloc, &[])?)?;
-    let whole = chain(alloc, &mut pack, empty, empty)?;
-    let lacks_tree = chain(alloc, &mut pack, absent(7), empty)?;
-    let repo = Repo::empty(alloc)?;
-    let lens = Lens::new(alloc, &repo, &pack)?;
+// Whether this is told of a commit.
+fn is_told_of(walks: &mut Walks<'_>, commit: ObjectId, told: Wholeness) -> bool {
+    walks.whole(commit, Some(Kind::Commit)) == told
+}
+
+// Asks a walker for each commit of a chain that is whole.
+fn ask_for_whole(rt: &impl Abort, walks: &mut Walks<'_>, names: &[ObjectId]) {
+    for name in names {
+        assert!(rt; is_told_of(walks, *name, Wholeness::Whole));
+    }
+}
+
+// Asks it for each commit of one that lacks a tree. The last is asked for first, and so fails for what lies behind all others.
+fn ask_for_lacking(rt: &impl Abort, walks: &mut Walks<'_>, names: &[ObjectId]) {
+    for name in names.iter().rev() {
+        assert!(rt; is_told_of(walks, *name, Wholeness::Missing(absent(7))));
+    }
+}
+
+fn ask_in(
+    rt: &impl Abort,
+    alloc: Global,
+    pack: &ObjectList,
+    whole: &[ObjectId],
+    lacks_tree: &[ObjectId],
+    empty: ObjectId,
+) -> Result<(), Fail> {
+    let lens = lens_alone(alloc, pack)?;
     let mut walks = Walks::new(alloc, &lens);
-    for name in &whole {
-        assert!(rt; walks.whole(*name, Some(Kind::Commit)) == Wholeness::Whole);
-    }
-    // The last is asked for first, and so fails for what lies behind all others.
-    for name in lacks_tree.iter().rev() {
-        assert!(rt; walks.whole(*name, Some(Kind::Commit)) == Wholeness::Missing(absent(7)));
-    }
+    ask_for_whole(rt, &mut walks, whole);
+    ask_for_lacking(rt, &mut walks, lacks_tree);
     assert!(rt; walks.whole(empty, Some(Kind::Tree)) == Wholeness::Whole);
     Ok(())
 }
 
-#[test]
-fn all_that_a_settled_id_leads_to_is_settled(rt: HostRuntime) -> Result<(), Fail> {
-    let alloc = rt.alloc();
-    let mut pack = ObjectList::new(alloc);
-    let empty = put(&mut pack, tree(alloc, &[])?)?;
-    let names = chain(alloc, &mut pack, absent(7), empty)?;
-    let parent = names.last().copied().unwrap_or(empty);
-    let last = put(&mut pack, commit(alloc, absent(5), &[parent])?)?;
+// The objects of a pack alone.
+fn lens_alone(alloc: Global, pack: &ObjectList) -> Result<Lens, Fail> {
     let repo = Repo::empty(alloc)?;
-    let lens = Lens::new(alloc, &repo, &pack)?;
-    let mut walks = Walks::new(alloc, &lens);
-    assert!(rt; walks.whole(last, None) == Wholeness::Missing(absent(5)));
-    for name in &names {
-        assert!(rt; walks.settled(*name) == Some(Verdict::Missing(absent(7))));
-    }
-    assert!(rt; walks.settled(empty) == Some(Verdict::Whole));
-    Ok(())
+    Ok(Lens::new(alloc, &repo, pack)?)
+}
+
+fn ask_for_chains(rt: &impl Abort, alloc: Global, pack: &mut ObjectList) -> Result<(), Fail> {
+    let empty = put_tree(alloc, pack, &[])?;
+    let whole = chain(alloc, pack, empty, empty)?;
+    let lacks_tree = chain(alloc, pack, absent(7), empty)?;
+    ask_in(
+        rt,
+        alloc,
+        pack,
+        whole.as_slice(),
+        lacks_tree.as_slice(),
+        empty,
+    )
 }
 
 #[test]
-fn a_push_onto_a_known_chain(rt: HostRuntime) -> Result<(), Fail> {
-    let alloc = rt.alloc();
-    let mut stored = ObjectList::new(alloc);
-    let empty = put(&mut stored, tree(alloc, &[])?)?;
-    let mut last = put(&mut stored, commit(alloc, empty, &[])?)?;
+fn each_commit_of_a_chain_is_asked_for(rt: HostRuntime) -> Result<(), Fail> {
+    let mut pack = ObjectList::new(rt.alloc());
+    ask_for_chains(&rt, rt.alloc(), &mut pack)
+}
+
+// Whether what is told of all that an id leads to is settled, and is this.
+fn is_settled(walks: &Walks<'_>, id: ObjectId, verdict: Verdict) -> bool {
+    walks.settled(id) == Some(verdict)
+}
+
+fn check_settled(rt: &impl Abort, walks: &Walks<'_>, names: &[ObjectId], empty: ObjectId) {
+    for name in names {
+        assert!(rt; is_settled(walks, *name, Verdict::Missing(absent(7))));
+    }
+    assert!(rt; is_settled(walks, empty, Verdict::Whole));
+}
+
+fn check_settled_in(
+    rt: &impl Abort,
+    alloc: Global,
+    pack: &ObjectList,
+    last: ObjectId,
+    names: &[ObjectId],
+    empty: ObjectId,
+) -> Result<(), Fail> {
+    let lens = lens_alone(alloc, pack)?;
+    let mut walks = Walks::new(alloc, &lens);
+    assert!(rt; walks.whole(last, None) == Wholeness::Missing(absent(5)));
+    check_settled(rt, &walks, names, empty);
+    Ok(())
+}
+
+fn check_settled_chain(rt: &impl Abort, alloc: Global, pack: &mut ObjectList) -> Result<(), Fail> {
+    let empty = put_tree(alloc, pack, &[])?;
+    let names = chain(alloc, pack, absent(7), empty)?;
+    let parent = names.last().copied().unwrap_or(empty);
+    let last = put_commit(alloc, pack, absent(5), &[parent])?;
+    check_settled_in(rt, alloc, pack, last, names.as_slice(), empty)
+}
+
+#[test]
+fn all_that_a_settled_id_leads_to_is_settled(rt: HostRuntime) -> Result<(), Fail> {
+    let mut pack = ObjectList::new(rt.alloc());
+    check_settled_chain(&rt, rt.alloc(), &mut pack)
+}
+
+// The last two commits of a chain.
+fn put_known_chain(
+    alloc: Global,
+    stored: &mut ObjectList,
+    empty: ObjectId,
+) -> Result<[ObjectId; 2], Fail> {
+    let mut last = put_commit(alloc, stored, empty, &[])?;
     let mut known = last;
     for _ in 1..200 {
         known = last;
-        last = put(&mut stored, commit(alloc, empty, &[last])?)?;
+        last = put_commit(alloc, stored, empty, &[last])?;
     }
-    let mut pack = ObjectList::new(alloc);
-    let onto = put(&mut pack, commit(alloc, empty, &[last])?)?;
-    let lacks_tree = put(&mut pack, commit(alloc, absent(7), &[last])?)?;
-    let commit_as_tree = put(&mut pack, commit(alloc, known, &[last])?)?;
-    let repo = repo_of(alloc, &stored)?;
-    let lens = Lens::new(alloc, &repo, &pack)?;
+    Ok([known, last])
+}
+
+fn push_otherwise(
+    alloc: Global,
+    stored: &mut ObjectList,
+    pack: &mut ObjectList,
+) -> Result<Option<usize>, Fail> {
+    let empty = put_tree(alloc, stored, &[])?;
+    let [known, last] = put_known_chain(alloc, stored, empty)?;
+    let onto = put_commit(alloc, pack, empty, &[last])?;
+    let lacks_tree = put_commit(alloc, pack, absent(7), &[last])?;
+    let commit_as_tree = put_commit(alloc, pack, known, &[last])?;
     let rows = [
         (onto, Some(Kind::Commit), Wholeness::Whole),
         (lacks_tree, None, Wholeness::Missing(absent(7))),
@@ -310,27 +567,41 @@ fn a_push_onto_a_known_chain(rt: HostRuntime) -> Result<(), Fail> {
         (known, Some(Kind::Tag), Wholeness::WrongKind(known)),
         (onto, None, Wholeness::Whole),
     ];
-    assert_eq!(rt; knowing_told_otherwise(alloc, &lens, known, &rows)?, None);
-    Ok(())
+    knowing_told_otherwise_over(alloc, stored, pack, known, &rows)
 }
 
 #[test]
-fn links_to_a_known_tree(rt: HostRuntime) -> Result<(), Fail> {
-    let alloc = rt.alloc();
-    let mut stored = ObjectList::new(alloc);
-    let blob = put(&mut stored, object(alloc, Kind::Blob, b"x")?)?;
-    let known = put(&mut stored, tree(alloc, &[("100644 a", blob)])?)?;
-    let mut pack = ObjectList::new(alloc);
-    let as_tree = put(&mut pack, tree(alloc, &[("40000 a", known)])?)?;
-    let as_blob = put(&mut pack, tree(alloc, &[("100644 a", known)])?)?;
-    let repo = repo_of(alloc, &stored)?;
-    let lens = Lens::new(alloc, &repo, &pack)?;
+fn a_push_onto_a_known_chain(rt: HostRuntime) -> Result<(), Fail> {
+    let mut stored = ObjectList::new(rt.alloc());
+    let mut pack = ObjectList::new(rt.alloc());
+    let otherwise = push_otherwise(rt.alloc(), &mut stored, &mut pack)?;
+    assert_eq!(rt; otherwise, None);
+    Ok(())
+}
+
+fn links_otherwise(
+    alloc: Global,
+    stored: &mut ObjectList,
+    pack: &mut ObjectList,
+) -> Result<Option<usize>, Fail> {
+    let blob = put(alloc, stored, Kind::Blob, b"x")?;
+    let known = put_tree(alloc, stored, &[("100644 a", blob)])?;
+    let as_tree = put_tree(alloc, pack, &[("40000 a", known)])?;
+    let as_blob = put_tree(alloc, pack, &[("100644 a", known)])?;
     let rows = [
         (as_blob, None, Wholeness::WrongKind(known)),
         (as_tree, None, Wholeness::Whole),
         (as_blob, None, Wholeness::WrongKind(known)),
         (known, Some(Kind::Blob), Wholeness::WrongKind(known)),
     ];
-    assert_eq!(rt; knowing_told_otherwise(alloc, &lens, known, &rows)?, None);
+    knowing_told_otherwise_over(alloc, stored, pack, known, &rows)
+}
+
+#[test]
+fn links_to_a_known_tree(rt: HostRuntime) -> Result<(), Fail> {
+    let mut stored = ObjectList::new(rt.alloc());
+    let mut pack = ObjectList::new(rt.alloc());
+    let otherwise = links_otherwise(rt.alloc(), &mut stored, &mut pack)?;
+    assert_eq!(rt; otherwise, None);
     Ok(())
 }

@@ -1,10 +1,11 @@
 //! Which rules may cover a repository, which do, what a refex matches, and where an option is in force.
 
-use crate::tests::{files, realistic};
+use crate::tests::{compiled, files, push_number, realistic};
 use crate::{Policy, RepoName, RepoWord, UserName};
 use base_types::NoMemory;
 use refex::MAX_NAME;
 use std::alloc::Global;
+use std::process::Abort;
 use std::test::Fail;
 
 static MIXED: &str =
@@ -23,11 +24,9 @@ fn user(alloc: Global, name: &str) -> Result<Option<UserName>, NoMemory> {
     UserName::parse(alloc, name.as_bytes())
 }
 
-fn compiled(alloc: Global, row: &str) -> Result<Policy, Fail> {
-    match Policy::compile(alloc, &files(alloc, row)?) {
-        Ok(policy) => Ok(policy),
-        Err(_) => Err(Fail::from("refused")),
-    }
+fn compiled_row(alloc: Global, row: &str) -> Result<Policy, Fail> {
+    let files = files(alloc, row)?;
+    compiled(alloc, &files)
 }
 
 // Whether the word is one of those that the index gives for the name.
@@ -39,7 +38,7 @@ fn may_cover(word: &RepoWord, name: &RepoName) -> bool {
 }
 
 // The numbers of the rules that may cover a name, by a walk over the flat list.
-fn found_by_walk(alloc: Global, policy: &Policy, name: &RepoName) -> Result<Vec<u32>, Fail> {
+fn found_by_walk(alloc: Global, policy: &Policy, name: &RepoName) -> Result<Vec<u32>, NoMemory> {
     let mut numbers = Vec::new(alloc);
     for rule in policy.rules() {
         if may_cover(&rule.repo, name) {
@@ -50,7 +49,7 @@ fn found_by_walk(alloc: Global, policy: &Policy, name: &RepoName) -> Result<Vec<
 }
 
 // The same by the index.
-fn found_by_index(alloc: Global, policy: &Policy, name: &RepoName) -> Result<Vec<u32>, Fail> {
+fn found_by_index(alloc: Global, policy: &Policy, name: &RepoName) -> Result<Vec<u32>, NoMemory> {
     let mut numbers = Vec::new(alloc);
     for rule in policy.rules_for(name) {
         numbers.push(rule.seq)?;
@@ -58,21 +57,41 @@ fn found_by_index(alloc: Global, policy: &Policy, name: &RepoName) -> Result<Vec
     Ok(numbers)
 }
 
-#[test]
-fn the_index_gives_what_the_flat_list_has(rt: HostRuntime) -> Result<(), Fail> {
-    let policy = compiled(rt.alloc(), MIXED)?;
+// Asserts that both are the same.
+fn check_index(
+    rt: &impl Abort,
+    alloc: Global,
+    policy: &Policy,
+    name: &RepoName,
+) -> Result<(), Fail> {
+    let found = found_by_index(alloc, policy, name)?;
+    let due = found_by_walk(alloc, policy, name)?;
+    assert_eq!(rt; found.as_slice(), due.as_slice());
+    Ok(())
+}
+
+fn check_index_at(rt: &impl Abort, alloc: Global, policy: &Policy, name: &str) -> Result<(), Fail> {
+    let name = repo(alloc, name)?;
+    check_index(rt, alloc, policy, &name)
+}
+
+fn check_index_of(rt: &impl Abort, alloc: Global, policy: &Policy) -> Result<(), Fail> {
     for name in &REPOS {
-        let name = repo(rt.alloc(), name)?;
-        let found = found_by_index(rt.alloc(), &policy, &name)?;
-        let due = found_by_walk(rt.alloc(), &policy, &name)?;
-        assert_eq!(rt; found.as_slice(), due.as_slice());
+        check_index_at(rt, alloc, policy, name)?;
     }
     Ok(())
 }
 
-fn push_numbers(alloc: Global, out: &mut Vec<u8>, numbers: &[u32]) -> Result<(), Fail> {
+#[test]
+fn the_index_gives_what_the_flat_list_has(rt: HostRuntime) -> Result<(), Fail> {
+    let policy = compiled_row(rt.alloc(), MIXED)?;
+    check_index_of(&rt, rt.alloc(), &policy)
+}
+
+fn push_numbers(alloc: Global, out: &mut Vec<u8>, numbers: &[u32]) -> Result<(), NoMemory> {
     for number in numbers {
-        out.extend_from_slice(format!(in alloc; "{number} ")?.as_bytes())?;
+        push_number(alloc, out, *number)?;
+        out.push(b' ')?;
     }
     out.push(b'/')?;
     Ok(())
@@ -108,21 +127,45 @@ static NUMBERS: [(&str, &str, &str); 6] = [
     ),
 ];
 
-// The numbers of the rules that may cover a name, and of each kind of word.
-fn printed_for(alloc: Global, policy: &Policy, name: &RepoName) -> Result<Vec<u8>, Fail> {
-    let mut out = Vec::new(alloc);
+// The numbers of the rules that may cover a name.
+fn push_found(
+    alloc: Global,
+    out: &mut Vec<u8>,
+    policy: &Policy,
+    name: &RepoName,
+) -> Result<(), NoMemory> {
     let found = found_by_index(alloc, policy, name)?;
-    push_numbers(alloc, &mut out, found.as_slice())?;
-    push_numbers(alloc, &mut out, policy.plain_numbers(name))?;
-    push_numbers(alloc, &mut out, policy.all_numbers())?;
-    push_numbers(alloc, &mut out, policy.pattern_numbers())?;
+    push_numbers(alloc, out, found.as_slice())
+}
+
+// The numbers of each kind of word.
+fn push_kinds(
+    alloc: Global,
+    out: &mut Vec<u8>,
+    policy: &Policy,
+    name: &RepoName,
+) -> Result<(), NoMemory> {
+    push_numbers(alloc, out, policy.plain_numbers(name))?;
+    push_numbers(alloc, out, policy.all_numbers())?;
+    push_numbers(alloc, out, policy.pattern_numbers())
+}
+
+// Both, one after the other.
+fn printed_for(alloc: Global, policy: &Policy, name: &RepoName) -> Result<Vec<u8>, NoMemory> {
+    let mut out = Vec::new(alloc);
+    push_found(alloc, &mut out, policy, name)?;
+    push_kinds(alloc, &mut out, policy, name)?;
     Ok(out)
 }
 
-fn printed_of(alloc: Global, conf: &str, name: &str) -> Result<Vec<u8>, Fail> {
-    let policy = compiled(alloc, conf)?;
+fn printed_at(alloc: Global, policy: &Policy, name: &str) -> Result<Vec<u8>, Fail> {
     let name = repo(alloc, name)?;
-    printed_for(alloc, &policy, &name)
+    Ok(printed_for(alloc, policy, &name)?)
+}
+
+fn printed_of(alloc: Global, conf: &str, name: &str) -> Result<Vec<u8>, Fail> {
+    let policy = compiled_row(alloc, conf)?;
+    printed_at(alloc, &policy, name)
 }
 
 #[test]
@@ -141,14 +184,18 @@ static IN_REALISTIC: [(&str, &str); 3] = [
     ("nobody", "////"),
 ];
 
-#[test]
-fn numbers_of_a_realistic_conf(rt: HostRuntime) -> Result<(), Fail> {
-    let policy = realistic(rt.alloc())?;
+fn check_numbers(rt: &impl Abort, alloc: Global, policy: &Policy) -> Result<(), Fail> {
     for (name, due) in &IN_REALISTIC {
-        let out = printed_for(rt.alloc(), &policy, &repo(rt.alloc(), name)?)?;
+        let out = printed_at(alloc, policy, name)?;
         assert_eq!(rt; out.as_slice(), due.as_bytes());
     }
     Ok(())
+}
+
+#[test]
+fn numbers_of_a_realistic_conf(rt: HostRuntime) -> Result<(), Fail> {
+    let policy = realistic(rt.alloc())?;
+    check_numbers(&rt, rt.alloc(), &policy)
 }
 
 // A conf of one rule, a repository, its creator or nothing, and whether the rule covers it.
@@ -202,10 +249,20 @@ fn first_covers(
     Ok(policy.covers_repo(1, name, creator))
 }
 
-fn is_covered(alloc: Global, conf: &str, name: &str, creator: &str) -> Result<bool, Fail> {
-    let policy = compiled(alloc, conf)?;
+fn first_covers_name(
+    alloc: Global,
+    policy: &Policy,
+    name: &str,
+    creator: &str,
+) -> Result<bool, Fail> {
+    let name = repo(alloc, name)?;
     let creator = user(alloc, creator)?;
-    first_covers(&policy, &repo(alloc, name)?, creator.as_ref())
+    first_covers(policy, &name, creator.as_ref())
+}
+
+fn is_covered(alloc: Global, conf: &str, name: &str, creator: &str) -> Result<bool, Fail> {
+    let policy = compiled_row(alloc, conf)?;
+    first_covers_name(alloc, &policy, name, creator)
 }
 
 #[test]
@@ -286,7 +343,8 @@ fn first_matches(policy: &Policy, name: &[u8], user: &[u8]) -> Result<bool, Fail
 }
 
 fn is_matched(alloc: Global, conf: &str, name: &str, user: &str) -> Result<bool, Fail> {
-    first_matches(&compiled(alloc, conf)?, name.as_bytes(), user.as_bytes())
+    let policy = compiled_row(alloc, conf)?;
+    first_matches(&policy, name.as_bytes(), user.as_bytes())
 }
 
 #[test]
@@ -346,10 +404,15 @@ static DENYING: [(&str, &str, &str, bool); 10] = [
     ),
 ];
 
-fn denies(alloc: Global, conf: &str, name: &str, creator: &str) -> Result<bool, Fail> {
-    let policy = compiled(alloc, conf)?;
+fn denies_in(alloc: Global, policy: &Policy, name: &str, creator: &str) -> Result<bool, Fail> {
+    let name = repo(alloc, name)?;
     let creator = user(alloc, creator)?;
-    Ok(policy.deny_rules(&repo(alloc, name)?, creator.as_ref()))
+    Ok(policy.deny_rules(&name, creator.as_ref()))
+}
+
+fn denies(alloc: Global, conf: &str, name: &str, creator: &str) -> Result<bool, Fail> {
+    let policy = compiled_row(alloc, conf)?;
+    denies_in(alloc, &policy, name, creator)
 }
 
 #[test]

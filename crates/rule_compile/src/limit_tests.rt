@@ -20,35 +20,65 @@ fn add_words(alloc: Global, text: &mut Vec<u8>, letter: &str, count: u32) -> Res
     Ok(())
 }
 
+fn add_line(
+    alloc: Global,
+    text: &mut Vec<u8>,
+    repos: u32,
+    refexes: u32,
+    users: u32,
+) -> Result<(), NoMemory> {
+    add_words(alloc, text, "r", repos)?;
+    text.extend_from_slice(b"\nRW")?;
+    add_words(alloc, text, "x", refexes)?;
+    text.extend_from_slice(b" =")?;
+    add_words(alloc, text, "u", users)
+}
+
 fn conf_text(alloc: Global, repos: u32, refexes: u32, users: u32) -> Result<Text, NoMemory> {
     let mut text = b"repo".to_vec(alloc)?;
-    add_words(alloc, &mut text, "r", repos)?;
-    text.extend_from_slice(b"\nRW")?;
-    add_words(alloc, &mut text, "x", refexes)?;
-    text.extend_from_slice(b" =")?;
-    add_words(alloc, &mut text, "u", users)?;
+    add_line(alloc, &mut text, repos, refexes, users)?;
     Ok(Text::from(text))
 }
 
-fn rules_of(alloc: Global, repos: u32, refexes: u32, users: u32) -> Result<Option<usize>, Fail> {
+fn conf_of(alloc: Global, repos: u32, refexes: u32, users: u32) -> Result<FileList, NoMemory> {
     let mut files = FileList::new(alloc);
-    files.push(ConfFile {
-        name: Text::of(alloc, b"gitolite.conf")?,
-        text: conf_text(alloc, repos, refexes, users)?,
-    })?;
-    match Policy::compile(alloc, &files) {
-        Ok(policy) => Ok(Some(policy.rules().len())),
-        Err(
-            PolicyFault::Rules(
-                RuleFault {
-                    kind: RuleKind::TooManyRules,
-                    line: 2,
-                    ..
-                },
-            ),
-        ) => Ok(None),
-        Err(_) => Err(Fail::from("another fault")),
+    let name = Text::of(alloc, b"gitolite.conf")?;
+    let text = conf_text(alloc, repos, refexes, users)?;
+    files.push(ConfFile { name, text })?;
+    Ok(files)
+}
+
+// Whether there are too many rules.
+fn is_too_many(fault: &PolicyFault) -> bool {
+    match fault {
+        PolicyFault::Rules(
+            RuleFault {
+                kind: RuleKind::TooManyRules,
+                line: 2,
+                ..
+            },
+        ) => true,
+        _ => false,
     }
+}
+
+fn no_rules(fault: &PolicyFault) -> Result<Option<usize>, Fail> {
+    if is_too_many(fault) {
+        return Ok(None);
+    }
+    Err(Fail::from("another fault"))
+}
+
+fn rules_in(alloc: Global, files: &FileList) -> Result<Option<usize>, Fail> {
+    match Policy::compile(alloc, files) {
+        Ok(policy) => Ok(Some(policy.rules().len())),
+        Err(fault) => no_rules(&fault),
+    }
+}
+
+fn rules_of(alloc: Global, repos: u32, refexes: u32, users: u32) -> Result<Option<usize>, Fail> {
+    let files = conf_of(alloc, repos, refexes, users)?;
+    rules_in(alloc, &files)
 }
 
 #[test]

@@ -2,9 +2,11 @@
 
 use crate::{
     ConfFile, FileList, Policy, PolicyFault, RepoName, RepoWord, Rule, Text, UserName, UserWord,
+    WarningList,
 };
 use base_types::NoMemory;
 use std::alloc::Global;
+use std::process::Abort;
 use std::test::Fail;
 
 // Files of a conf, as `NAME:TEXT` with `%` between two and `;` for a line feed; and its rules, as `REPO PERM REFEX USER
@@ -206,17 +208,25 @@ fn spelled(alloc: Global, text: &str) -> Result<Text, NoMemory> {
     Ok(Text::from(out))
 }
 
-pub(crate) fn files(alloc: Global, row: &str) -> Result<FileList, Fail> {
-    let mut list = FileList::new(alloc);
+fn file(alloc: Global, name: &str, text: &str) -> Result<ConfFile, NoMemory> {
+    let name = spelled(alloc, name)?;
+    let text = spelled(alloc, text)?;
+    Ok(ConfFile { name, text })
+}
+
+fn add_files(alloc: Global, list: &mut FileList, row: &str) -> Result<(), Fail> {
     for part in row.split("%") {
         let Some((name, text)) = part.split_once(":") else {
             return Err(Fail::from("no name"));
         };
-        list.push(ConfFile {
-            name: spelled(alloc, name)?,
-            text: spelled(alloc, text)?,
-        })?;
+        list.push(file(alloc, name, text)?)?;
     }
+    Ok(())
+}
+
+pub(crate) fn files(alloc: Global, row: &str) -> Result<FileList, Fail> {
+    let mut list = FileList::new(alloc);
+    add_files(alloc, &mut list, row)?;
     Ok(list)
 }
 
@@ -251,41 +261,92 @@ fn push_user(out: &mut Vec<u8>, word: &UserWord) -> Result<(), NoMemory> {
     Ok(())
 }
 
-fn push_rule(alloc: Global, out: &mut Vec<u8>, rule: &Rule) -> Result<(), Fail> {
-    out.extend_from_slice(format!(in alloc; "{} ", rule.seq)?.as_bytes())?;
-    push_repo(out, &rule.repo)?;
-    out.push(b' ')?;
-    out.extend_from_slice(rule.perm.text())?;
-    out.push(b' ')?;
-    out.extend_from_slice(rule.refex.bytes())?;
-    out.push(b' ')?;
-    push_user(out, &rule.user)?;
-    out.extend_from_slice(format!(in alloc; " {},", rule.line)?.as_bytes())?;
+pub(crate) fn push_number(alloc: Global, out: &mut Vec<u8>, number: u32) -> Result<(), NoMemory> {
+    out.extend_from_slice(format!(in alloc; "{number}")?.as_bytes())?;
     Ok(())
 }
 
-fn print(alloc: Global, policy: &Policy) -> Result<Vec<u8>, Fail> {
-    let mut out = Vec::new(alloc);
-    for rule in policy.rules() {
-        push_rule(alloc, &mut out, rule)?;
+// A word with a space behind it.
+fn push_word(out: &mut Vec<u8>, word: &[u8]) -> Result<(), NoMemory> {
+    out.extend_from_slice(word)?;
+    out.push(b' ')?;
+    Ok(())
+}
+
+// The words of a rule, and a space behind each.
+fn push_words(out: &mut Vec<u8>, rule: &Rule) -> Result<(), NoMemory> {
+    push_repo(out, &rule.repo)?;
+    out.push(b' ')?;
+    push_word(out, rule.perm.text())?;
+    push_word(out, rule.refex.bytes())
+}
+
+// The users of a rule, and its line.
+fn push_end(alloc: Global, out: &mut Vec<u8>, rule: &Rule) -> Result<(), NoMemory> {
+    push_user(out, &rule.user)?;
+    out.push(b' ')?;
+    push_number(alloc, out, rule.line)
+}
+
+fn push_rule(alloc: Global, out: &mut Vec<u8>, rule: &Rule) -> Result<(), NoMemory> {
+    push_number(alloc, out, rule.seq)?;
+    out.push(b' ')?;
+    push_words(out, rule)?;
+    push_end(alloc, out, rule)
+}
+
+fn push_rules(alloc: Global, out: &mut Vec<u8>, rules: &[Rule]) -> Result<(), NoMemory> {
+    for rule in rules {
+        push_rule(alloc, out, rule)?;
+        out.push(b',')?;
     }
-    out.extend_from_slice(b" /")?;
-    for repo in policy.plain_repos() {
+    Ok(())
+}
+
+fn push_plain(out: &mut Vec<u8>, repos: &[RepoName]) -> Result<(), NoMemory> {
+    for repo in repos {
         out.push(b' ')?;
         out.extend_from_slice(repo.bytes())?;
     }
-    out.extend_from_slice(b" / ")?;
-    for warning in policy.warnings().as_slice() {
+    Ok(())
+}
+
+fn push_warnings(alloc: Global, out: &mut Vec<u8>, warnings: &WarningList) -> Result<(), NoMemory> {
+    for warning in warnings.as_slice() {
         out.extend_from_slice(warning.text(alloc)?.bytes())?;
     }
+    Ok(())
+}
+
+fn push_policy(alloc: Global, out: &mut Vec<u8>, policy: &Policy) -> Result<(), NoMemory> {
+    push_rules(alloc, out, policy.rules())?;
+    out.extend_from_slice(b" /")?;
+    push_plain(out, policy.plain_repos())?;
+    out.extend_from_slice(b" / ")?;
+    push_warnings(alloc, out, policy.warnings())
+}
+
+fn print(alloc: Global, policy: &Policy) -> Result<Vec<u8>, NoMemory> {
+    let mut out = Vec::new(alloc);
+    push_policy(alloc, &mut out, policy)?;
     Ok(out)
 }
 
-fn outcome(alloc: Global, row: &str) -> Result<Vec<u8>, Fail> {
-    match Policy::compile(alloc, &files(alloc, row)?) {
+fn print_fault(alloc: Global, fault: &PolicyFault) -> Result<Vec<u8>, NoMemory> {
+    let fault = fault.clone()?;
+    Ok(fault.text(alloc)?.into_bytes())
+}
+
+fn outcome_of(alloc: Global, files: &FileList) -> Result<Vec<u8>, NoMemory> {
+    match Policy::compile(alloc, files) {
         Ok(policy) => print(alloc, &policy),
-        Err(fault) => Ok(fault.clone()?.text(alloc)?.into_bytes()),
+        Err(fault) => print_fault(alloc, &fault),
     }
+}
+
+fn outcome(alloc: Global, row: &str) -> Result<Vec<u8>, Fail> {
+    let files = files(alloc, row)?;
+    Ok(outcome_of(alloc, &files)?)
 }
 
 #[test]
@@ -323,31 +384,60 @@ static NUMBERS: [(u32, u32, u32); 13] = [
     (27, 37, 36),
 ];
 
-pub(crate) fn realistic(alloc: Global) -> Result<Policy, Fail> {
-    let mut list = FileList::new(alloc);
-    list.push(ConfFile {
-        name: Text::of(alloc, b"gitolite.conf")?,
-        text: spelled(alloc, REALISTIC)?,
-    })?;
-    match Policy::compile(alloc, &list) {
+pub(crate) fn compiled(alloc: Global, files: &FileList) -> Result<Policy, Fail> {
+    match Policy::compile(alloc, files) {
         Ok(policy) => Ok(policy),
         Err(_) => Err(Fail::from("refused")),
     }
 }
 
-#[test]
-fn a_realistic_conf_is_numbered_by_lines(rt: HostRuntime) -> Result<(), Fail> {
-    let policy = realistic(rt.alloc())?;
+fn realistic_files(alloc: Global) -> Result<FileList, NoMemory> {
+    let mut list = FileList::new(alloc);
+    let name = Text::of(alloc, b"gitolite.conf")?;
+    let text = spelled(alloc, REALISTIC)?;
+    list.push(ConfFile { name, text })?;
+    Ok(list)
+}
+
+pub(crate) fn realistic(alloc: Global) -> Result<Policy, Fail> {
+    let files = realistic_files(alloc)?;
+    compiled(alloc, &files)
+}
+
+// The line of a rule.
+fn line_of(policy: &Policy, seq: u32) -> Result<u32, Fail> {
+    match policy.rule(seq) {
+        Some(rule) => Ok(rule.line),
+        None => Err(Fail::from("no rule")),
+    }
+}
+
+// Asserts that these rules are of a line.
+fn check_line(
+    rt: &impl Abort,
+    policy: &Policy,
+    line: u32,
+    first: u32,
+    last: u32,
+) -> Result<(), Fail> {
+    for seq in first..last.saturating_add(1) {
+        assert_eq!(rt; line_of(policy, seq)?, line);
+    }
+    Ok(())
+}
+
+fn check_numbers(rt: &impl Abort, policy: &Policy) -> Result<(), Fail> {
     assert_eq!(rt; policy.rules().len(), 36);
     assert_eq!(rt; policy.plain_repos().len(), 12);
     for (line, first, last) in &NUMBERS {
-        for seq in *first..*last + 1 {
-            let Some(rule) = policy.rule(seq) else {
-                return Err(Fail::from("no rule"));
-            };
-            assert_eq!(rt; rule.line, *line);
-        }
+        check_line(rt, policy, *line, *first, *last)?;
     }
     assert!(rt; policy.rule(0).is_none() && policy.rule(37).is_none());
     Ok(())
+}
+
+#[test]
+fn a_realistic_conf_is_numbered_by_lines(rt: HostRuntime) -> Result<(), Fail> {
+    let policy = realistic(rt.alloc())?;
+    check_numbers(&rt, &policy)
 }
