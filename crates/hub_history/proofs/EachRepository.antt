@@ -13,7 +13,6 @@ use Rattle.ref_store.specs.Objects.{with_pack}
 use Rattle.ref_store.specs.Refs.{Name}
 use Rattle.ref_store.specs.declared.command.Command.{Command}
 use Rattle.rule_compile.specs.Patterns.{AreTrue, Patterns}
-use Rattle.wild_perms.specs.declared.role.RoleEntry.{RoleEntry}
 use Rattle.hub_history.specs.declared.outcome.Outcome.{Outcome}
 use Rattle.hub_history.specs.declared.entry.Entry.{Entry}
 use Rattle.hub_history.specs.declared.entry.EnterKept.{EnterKept}
@@ -70,13 +69,13 @@ module _ (P : Repository → Type 0) where
   each-opening state user repo (Denied verdict) new each = each
   each-opening state user repo NoRepo new each = each
 
-  -- it says nothing of roles
-  abbrev pub IsWithoutRoles : Type 0
-  IsWithoutRoles = (repository : Repository) (roles : List RoleEntry) → P repository → P (record repository { roles = roles })
+  -- a change of roles keeps it
+  abbrev pub IsKeptByRoles : Type 0
+  IsKeptByRoles = (repository : Repository) (asked : PermChange) → P repository → P (record repository { roles = roles_after repository.roles asked })
 
-  pub each-given : IsWithoutRoles → (state : State) (repo : Name) (asked : PermChange) (answer : PermsKept) → P (empty_repository None) → Each state.repositories → Each (changed state (given_by state repo asked answer)).repositories
+  pub each-given : IsKeptByRoles → (state : State) (repo : Name) (asked : PermChange) (answer : PermsKept) → P (empty_repository None) → Each state.repositories → Each (changed state (given_by state repo asked answer)).repositories
   each-given free state repo asked Changed new each =
-      each-insert state.repositories repo _ (free (repository_at state repo) (roles_after (repository_at state repo).roles asked) (each_at state repo new each)) each
+      each-insert state.repositories repo _ (free (repository_at state repo) asked (each_at state repo new each)) each
   each-given free state repo asked AlreadySo new each = each
   each-given free state repo asked NotWild new each = each
   each-given free state repo asked NotCreator new each = each
@@ -105,7 +104,7 @@ module _ (P : Repository → Type 0) where
       → AreWithinLimits commands → JudgesAll ps pinned pack commands judged → P now → list_any is_done (outcomes_in now pack commands atomic judged) ≡ true
       → P (record now { objects = with_pack now.objects pack; refs = refs_left now.refs commands (outcomes_in now pack commands atomic judged) })
 
-  each-after : ((creator : Option Name) → P (empty_repository creator)) → IsWithoutRoles → IsKept → (ps : Patterns) (h : History) (event : Event) → IsDue ps h event → Each h.state.repositories → Each (after h event).state.repositories
+  each-after : ((creator : Option Name) → P (empty_repository creator)) → IsKeptByRoles → IsKept → (ps : Patterns) (h : History) (event : Event) → IsDue ps h event → Each h.state.repositories → Each (after h event).state.repositories
   each-after new free keeps ps h (Entered user repo want answer) due each = each-opening h.state user repo answer (new (Some user)) each
   each-after new free keeps ps h (Pushed place pack commands atomic outcomes made) due each = by_opening (opening_at h place) due
     where
@@ -120,7 +119,7 @@ module _ (P : Repository → Type 0) where
   each-after new free keeps ps h (Looked user) due each = each
 
   -- what an empty repository has and each push keeps, each repository has that a legal log leads to
-  pub each_replayed : (ps : Patterns) → AreTrue ps → ((creator : Option Name) → P (empty_repository creator)) → IsWithoutRoles → IsKept → (admin : Name) (log : List Entry) → IsLegal admin log → Each (replay admin log).repositories
+  pub each_replayed : (ps : Patterns) → AreTrue ps → ((creator : Option Name) → P (empty_repository creator)) → IsKeptByRoles → IsKept → (admin : Name) (log : List Entry) → IsLegal admin log → Each (replay admin log).repositories
   each_replayed ps ok new free keeps admin log legal =
       history-keeps ps (λ (h : History). Each h.state.repositories) (each-after new free keeps ps) (new_history admin) log (legal ps ok) (each-start admin (new None))
 

@@ -1,17 +1,19 @@
-mod HistoryLemmas
-mod OpeningLemmas
+pub mod HistoryLemmas
+pub mod OpeningLemmas
 mod EachRepository
-mod PushLemmas
-mod JudgeLemmas
+pub mod PushLemmas
+pub mod JudgeLemmas
 mod ShortNames
 mod ObjectLemmas
 mod RefsApart
-mod CollisionLemmas
-mod GrownObjects
-mod WholeRefs
-mod GrowthLemmas
-mod WholeLogs
-mod MovedRefs
-mod MovedLogs
+pub mod CollisionLemmas
+pub mod GrownObjects
+pub mod WholeRefs
+pub mod GrowthLemmas
+pub mod WholeLogs
+pub mod MovedRefs
+pub mod MovedLogs
 mod AnswerLemmas
 mod ConfLemmas
+pub mod RoleSets
+mod RoleLemmas

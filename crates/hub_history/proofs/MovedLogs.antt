@@ -46,21 +46,21 @@ use Rattle.hub_history.proofs.MovedRefs.{changed_by, done_among, done_by_refs, d
 
 -- ---- names
 
-same_key : (q k : Name) → eq_by_cmp (slice_cmp nat_cmp) q k ≡ true → q ≡ k
+pub same_key : (q k : Name) → eq_by_cmp (slice_cmp nat_cmp) q k ≡ true → q ≡ k
 same_key q k same = (bytes_decides q k).0 (texts_ties q k ∙ same)
 
-key_itself : (k : Name) → eq_by_cmp (slice_cmp nat_cmp) k k ≡ true
+pub key_itself : (k : Name) → eq_by_cmp (slice_cmp nat_cmp) k k ≡ true
 key_itself k = sym (texts_ties k k) ∙ (bytes_decides k k).1 refl
 
 -- ---- a repository in its place
 
-abbrev found_in : ByName Repository → Name → Repository
+abbrev pub found_in : ByName Repository → Name → Repository
 found_in known name = unwrap_or (get known name) (empty_repository None)
 
-insert_here : (known : ByName Repository) (k : Name) (r : Repository) → found_in (insert known k r) k ≡ r
+pub insert_here : (known : ByName Repository) (k : Name) (r : Repository) → found_in (insert known k r) k ≡ r
 insert_here known k r = ap (λ (o : Option Repository). unwrap_or o (empty_repository None)) (get-insert nat_list_cmp_total known k r k ∙ ap (λ (b : Bool). cond b (Some r) (get known k)) (key_itself k))
 
-insert_apart : (known : ByName Repository) (k q : Name) (r : Repository) → eq_by_cmp (slice_cmp nat_cmp) q k ≡ false → found_in (insert known k r) q ≡ found_in known q
+pub insert_apart : (known : ByName Repository) (k q : Name) (r : Repository) → eq_by_cmp (slice_cmp nat_cmp) q k ≡ false → found_in (insert known k r) q ≡ found_in known q
 insert_apart known k q r apart = ap (λ (o : Option Repository). unwrap_or o (empty_repository None)) (get-insert nat_list_cmp_total known k r q ∙ ap (λ (b : Bool). cond b (Some r) (get known q)) apart)
 
 -- an empty repository that is put where none is changes what is found nowhere
@@ -71,7 +71,7 @@ insert_empty known later k q none rest = by_name (eq_by_cmp (slice_cmp nat_cmp) 
     by_name false apart = insert_apart later k q (empty_repository None) apart ∙ rest
     by_name true same = let here : q ≡ k = same_key q k same in ap (found_in (insert later k (empty_repository None))) here ∙ insert_here later k (empty_repository None) ∙ sym none ∙ ap (found_in known) (sym here)
 
-made_none : (state : State) (made : List Name) → AreLacking state made → (q : Name) → found_in (placed_in state.repositories (made_empty made)) q ≡ found_in state.repositories q
+pub made_none : (state : State) (made : List Name) → AreLacking state made → (q : Name) → found_in (placed_in state.repositories (made_empty made)) q ≡ found_in state.repositories q
 made_none state [] lacking q = refl
 made_none state (n ∷ ns) lacking q =
     insert_empty state.repositories (placed_in state.repositories (made_empty ns)) n q (ap (λ (o : Option Repository). unwrap_or o (empty_repository None)) lacking.0) (made_none state ns lacking.1 q)
@@ -148,7 +148,7 @@ module _ (state : State) (pinned : Pinned) (pack : List Content) (cs : List Comm
       ∙ ap (λ (m : List Name). changed state (record { repositories = made_empty m; conf = None })) none_made
 
 -- where none is done no conf is put in force
-none_put : (pinned : Pinned) (pack : List Content) (cs : List Command) (os : List Outcome) → list_any is_done os ≡ false → conf_put pinned pack cs os ≡ None
+pub none_put : (pinned : Pinned) (pack : List Content) (cs : List Command) (os : List Outcome) → list_any is_done os ≡ false → conf_put pinned pack cs os ≡ None
 none_put pinned pack [] os none = refl
 none_put pinned pack (c ∷ cs) [] none = refl
 none_put pinned pack (c ∷ cs) (o ∷ os) none = by_done (is_done o) refl none (none_put pinned pack cs os)
@@ -167,7 +167,7 @@ none_put pinned pack (c ∷ cs) (o ∷ os) none = by_done (is_done o) refl none 
 pub behind : (admin : Name) (before : List Entry) (entry : Entry) → replay admin (before ++ entry ∷ []) ≡ step (history admin before) entry.event
 behind admin before entry = ap (λ (h : History). h.state) (history_from-append (new_history admin) before (entry ∷ []))
 
-due_last : (admin : Name) (before : List Entry) (entry : Entry) → IsLegal admin (before ++ entry ∷ []) → (ps : Patterns) → AreTrue ps → IsDue ps (history admin before) entry.event
+pub due_last : (admin : Name) (before : List Entry) (entry : Entry) → IsLegal admin (before ++ entry ∷ []) → (ps : Patterns) → AreTrue ps → IsDue ps (history admin before) entry.event
 due_last admin before entry legal ps ok = (legal_behind ps (new_history admin) before (entry ∷ []) (legal ps ok)).0
 
 -- a push that is due, by its opening
@@ -182,10 +182,10 @@ module _ (ps : Patterns) (ok : AreTrue ps) (admin : Name) (before : List Entry) 
       let due : IsDue ps (history admin before) (Pushed place pack cs atomic os made) = subst (IsDue ps (history admin before)) is_push (due_last admin before entry legal ps ok) in
       subst (λ (o : Option Pinned). IsDueAfter ps state o pack cs atomic os made) opening due
 
-  lacking_here : AreLacking state made
+  pub lacking_here : AreLacking state made
   lacking_here = makes_lacking ps state (conf_put pinned pack cs os) made due_here.makes
 
-  step_here : replay admin (before ++ entry ∷ []) ≡ changed state (push_change state pinned pack cs os made)
+  pub step_here : replay admin (before ++ entry ∷ []) ≡ changed state (push_change state pinned pack cs os made)
   step_here =
       behind admin before entry
       ∙ ap (step (history admin before)) is_push

@@ -37,7 +37,7 @@ none_beside first (Collided id ∷ os) = none_beside first os
 none_beside first (Full n ∷ os) = none_beside first os
 
 -- where one is still done, nothing was put beside a refusal
-done_together : (atomic : Bool) (os : List Outcome) → list_any is_done (together atomic os) ≡ true → together atomic os ≡ os
+pub done_together : (atomic : Bool) (os : List Outcome) → list_any is_done (together atomic os) ≡ true → together atomic os ≡ os
 done_together false os is = refl
 done_together true os is = by_position (position (λ o. not (is_done o)) os) is
   where

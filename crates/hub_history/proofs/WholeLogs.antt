@@ -15,9 +15,9 @@ use Rattle.hub_history.specs.declared.entry.Entry.{Entry}
 use Rattle.hub_history.specs.declared.entry.EnterKept.{EnterKept}
 use Rattle.hub_history.specs.declared.entry.Event.{Event}
 use Rattle.hub_history.specs.declared.entry.Event.TheVariants.{Entered, Pushed, Permitted, Looked}
-use Rattle.hub_history.specs.History.{History, IsDue, IsDueAfter, IsLegal, after, after_push, history, joined, new_history, opening_at, pinned_by, replay, step}
+use Rattle.hub_history.specs.History.{History, IsDue, IsDueAfter, IsLegal, Stands, after, after_push, history, joined, new_history, opening_at, pinned_by, replay, step}
 use Rattle.hub_history.specs.Laws.{OfEachRepository}
-use Rattle.hub_history.specs.Opening.{Pinned, pins}
+use Rattle.hub_history.specs.Opening.{Opening, Pinned, pins}
 use Rattle.hub_history.specs.Push.{HasWholeRefs, is_done, refs_left}
 use Rattle.hub_history.specs.State.{State, empty_repository, repository_at}
 use Rattle.hub_history.proofs.EachRepository.{Each, each-given, each-opening, each-push, each-start, each_at, each_pinned}
@@ -86,3 +86,11 @@ module _ (ps : Patterns) where
 
     pub refs_whole : OfEachRepository HasWholeRefs
     refs_whole admin log legal = (replayed_whole admin log legal, each_pinned HasWholeRefs replayed_whole (whole_empty None) admin log legal)
+
+    -- the same of a repository that may be absent
+    pub whole_at : (admin : Name) (log : List Entry) → IsLegal admin log → (name : Name) → HasWholeRefs (repository_at (replay admin log) name)
+    whole_at admin log legal name = each_at HasWholeRefs (replay admin log) name (whole_empty None) (replayed_whole admin log legal)
+
+    -- the objects that an opening pinned are the first of those that are there now
+    pub pinned_first : (admin : Name) (log : List Entry) → IsLegal admin log → (opening : Opening) → Stands opening admin log → Begins opening.pinned.repository.objects (repository_at (replay admin log) opening.pinned.repo).objects
+    pinned_first admin log legal opening stands = (kept_whole admin log legal).1 opening.place opening.pinned stands

@@ -1,9 +1,8 @@
 -- The rules in force: what the conf in force comes to.
-use Rattle.std.specs.Prelude.{◌≡◌, List, [], ◌∷◌, ◌++◌, codes, Option, None, Some, Result, Ok}
+use Rattle.std.specs.Prelude.{◌≡◌, List, Option, None, Some, Result, Ok}
 use Rattle.git_object.specs.Content.{Content}
 use Rattle.git_object.specs.declared.object_id.ObjectId.{ObjectId}
 use Rattle.ref_store.specs.Refs.{Name}
-use Rattle.conf_groups.specs.Splicing.{main_name}
 use Rattle.conf_groups.specs.declared.conf_file.ConfFile.{ConfFile}
 use Rattle.conf_groups.specs.declared.fault.ConfFault.{ConfFault}
 use Rattle.rule_compile.specs.Flat.{Flat, flat}
@@ -12,14 +11,8 @@ use Rattle.rule_compile.specs.declared.fault.PolicyFault.{PolicyFault}
 use Rattle.policy_swap.specs.Compile.{flat_of}
 use Rattle.policy_swap.specs.Conf.{TellsOfConf, conf_tree}
 use Rattle.policy_swap.specs.Laws.{IsOfConf}
+use Rattle.setup_conf.specs.Setup.{setup_files}
 use Rattle.hub_history.specs.State.{CommitAmong, Conf}
-
--- the main file of a new hub: the admin may do everything in `gitolite-admin`, everybody everything in `testing`
-abbrev pub setup_files : Name → List ConfFile
-setup_files admin = record {
-  name = main_name;
-  text = codes "repo gitolite-admin\n    RW+     =   " ++ (admin ++ codes "\n\nrepo testing\n    RW+     =   @all\n");
-} ∷ []
 
 -- what the conf at a commit comes to: rules, or the first fault
 abbrev pub ComesTo : Patterns → List Content → ObjectId → Result Flat PolicyFault → Type 0

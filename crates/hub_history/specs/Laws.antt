@@ -4,6 +4,7 @@ use Rattle.std.specs.List.{slice_get}
 use Rattle.std.specs.FinMap.{get}
 use Rattle.git_object.specs.Content.{Content}
 use Rattle.git_object.specs.declared.object_id.ObjectId.{ObjectId}
+use Rattle.conf_lex.specs.Names.{is_user_name}
 use Rattle.ancestry.specs.declared.facts.Facts.{Facts}
 use Rattle.ref_store.specs.Objects.{HasNamesOnce}
 use Rattle.ref_store.specs.Refs.{HasRefsApart, Name, value}
@@ -166,9 +167,9 @@ RepositoriesStay =
 abbrev pub HasRules : Patterns → State → Type 0
 HasRules patterns state = (rules : Flat) × AreInForce patterns state.conf rules
 
--- where the setup's conf comes to rules, so does the conf in force behind each legal log
+-- whoever the admin is, the conf in force behind each legal log comes to rules
 abbrev pub ConfStaysGood : Type 0
-ConfStaysGood = (admin : Name) (log : List Entry) → IsLegal admin log → (patterns : Patterns) → AreTrue patterns → HasRules patterns (start admin) → HasRules patterns (replay admin log)
+ConfStaysGood = (admin : Name) (log : List Entry) → is_user_name admin ≡ true → IsLegal admin log → (patterns : Patterns) → AreTrue patterns → HasRules patterns (replay admin log)
 
 -- it is another at an entry only where a command for the conf's branch is done there, and then it is the one at that command's new value
 abbrev pub ConfChangesAreDone : Type 0

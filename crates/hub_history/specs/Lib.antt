@@ -6,3 +6,4 @@ pub mod Collision
 pub mod Push
 pub mod History
 pub mod Laws
+pub mod RoleLaws

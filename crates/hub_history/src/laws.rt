@@ -1,5 +1,6 @@
 // What holds of the definitions themselves.
 ghost use Rattle.hub_history.specs.Laws.{BeginningIsLegal, ChangesAreDone, ConfChangesAreDone, ConfStaysGood, DoneIsLet, DoneMoves, LegalByPlaces, NamesStayOnce, NamesStayShort, ObjectsOnlyGrow, OneAnswer, OpeningStays, PinsAreOfOpenings, PinsOfItsPlace, RefsStayApart, RefsStayWhole, RefusedAtomicChangesNothing, RepositoriesStay, StaleIsStale, StateStays};
+ghost use Rattle.hub_history.specs.RoleLaws.{AnswersTellOfRoles, ChangesAreOfOneRole, CreatedIsNew, CreatorsOpened, NewIsEmpty, RolesChangeThere, RolesStaySets};
 
 use rule_compile::some_patterns_are_true;
 
@@ -24,6 +25,13 @@ pub fn hold_laws()
     ensures atomic { RefusedAtomicChangesNothing }
     ensures good { ConfStaysGood }
     ensures conf { ConfChangesAreDone }
+    ensures creators { CreatorsOpened }
+    ensures created { CreatedIsNew }
+    ensures empty { NewIsEmpty }
+    ensures sets { RolesStaySets }
+    ensures roles { AnswersTellOfRoles }
+    ensures role { ChangesAreOfOneRole }
+    ensures elsewhere { RolesChangeThere }
     ensures one { OneAnswer }
 {
     // called for its clause that some answers about patterns are true, which the proof cites
@@ -32,4 +40,6 @@ pub fn hold_laws()
     update_check::hold_laws();
     // called for its clause that a conf has one answer
     policy_swap::hold_laws();
+    // called for its clause that the setup's conf comes to rules
+    setup_conf::hold_laws();
 }

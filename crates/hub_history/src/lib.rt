@@ -2,7 +2,6 @@
 //!
 //! - `entry`: the log;
 //! - `outcome`: what the commands of a push are told;
-//! - `setup`: the conf of a new hub;
 //! - `laws`: laws of the definitions.
 //!
 //! The definitions are in plain words in `docs/HISTORY.md`.
@@ -11,16 +10,13 @@
 mod entry;
 mod laws;
 mod outcome;
-mod setup;
 
 pub use access_check::{Letter, Verdict, Want};
 pub use base_types::NoMemory;
-pub use conf_groups::FileList;
 pub use conf_lex::{RepoName, UserName};
 pub use entry::{EnterKept, Entry, EntryList, Event, PermChange, PermsKept, RepoList};
 pub use laws::hold_laws;
 pub use outcome::{Outcome, OutcomeList};
-pub use setup::setup_files;
 
 #[cfg(test)]
 mod tests;

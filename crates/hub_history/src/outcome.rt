@@ -1,9 +1,13 @@
 // Outcomes of commands.
+ghost use Rattle.std.specs.Prelude.{◌≡◌};
+ghost use Rattle.hub_history.specs.Push.{is_done, outcome_number};
+
 use access_check::{Letter, Verdict};
 use base_types::{ItemList, Text};
 use git_object::ObjectId;
 use ref_store::RefName;
 use rule_compile::PolicyFault;
+use std::alloc::AllocError;
 
 /// What became of a command.
 #[derive(Drop)]
@@ -46,3 +50,66 @@ pub enum Outcome {
 
 /// The outcomes of a push, in the order of its commands.
 pub type OutcomeList = ItemList<Outcome>;
+
+impl Clone for Outcome {
+    ghost is_clone = { λ outcome copy. copy ≡ outcome };
+
+    fn clone(&self) -> Result<Outcome, AllocError> {
+        Ok(match self {
+            Outcome::Done => Outcome::Done,
+            Outcome::BadName => Outcome::BadName,
+            Outcome::Twice => Outcome::Twice,
+            Outcome::NoChange => Outcome::NoChange,
+            Outcome::NotAdvertised(id) => Outcome::NotAdvertised(*id),
+            Outcome::Missing(id) => Outcome::Missing(*id),
+            Outcome::WrongKind(id) => Outcome::WrongKind(*id),
+            Outcome::Denied {
+                verdict,
+                letter,
+                name,
+            } => Outcome::Denied {
+                verdict: *verdict,
+                letter: *letter,
+                name: name.clone()?,
+            },
+            Outcome::ManyPaths => Outcome::ManyPaths,
+            Outcome::ConfRefused(fault) => Outcome::ConfRefused(fault.clone()?),
+            Outcome::Stale(id) => Outcome::Stale(*id),
+            Outcome::DirFile(name) => Outcome::DirFile(name.clone()?),
+            Outcome::AtomicOther(first) => Outcome::AtomicOther(*first),
+            Outcome::Collided(id) => Outcome::Collided(*id),
+            Outcome::Full(count) => Outcome::Full(*count),
+        })
+    }
+}
+
+impl Outcome {
+    pub fn is_done(&self) -> bool
+        ensures { result ≡ is_done self.now }
+    {
+        matches!(self, Outcome::Done)
+    }
+
+    /// The number by which the outcome is known, whatever it holds. A variant with a field can't bear it itself.
+    pub fn number(&self) -> u8
+        ensures { result ≡ outcome_number self.now }
+    {
+        match self {
+            Outcome::Done => 1,
+            Outcome::BadName => 2,
+            Outcome::Twice => 3,
+            Outcome::NoChange => 4,
+            Outcome::NotAdvertised(_) => 5,
+            Outcome::Missing(_) => 6,
+            Outcome::WrongKind(_) => 7,
+            Outcome::Denied { .. } => 8,
+            Outcome::ManyPaths => 9,
+            Outcome::ConfRefused(_) => 10,
+            Outcome::Stale(_) => 11,
+            Outcome::DirFile(_) => 12,
+            Outcome::AtomicOther(_) => 13,
+            Outcome::Collided(_) => 14,
+            Outcome::Full(_) => 17,
+        }
+    }
+}

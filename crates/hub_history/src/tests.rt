@@ -1,38 +1,32 @@
-//! The conf of a new hub comes to its two rules, whoever the admin is.
+//! Copies of outcomes and their numbers.
 
-use crate::{UserName, hold_laws, setup_files};
-use rule_compile::Policy;
+use crate::{Outcome, Verdict, hold_laws};
+use access_check::Letter;
+use base_types::Text;
+use git_object::ObjectId;
 use std::alloc::Global;
 use std::test::Fail;
 
-static ADMINS: [&str; 6] = [
-    "admin",
-    "a",
-    "9",
-    "all",
-    "A.b-c_d@e+f",
-    "a234567890123456789012345678901234567890123456789012345678901234",
-];
+fn denied(alloc: Global) -> Result<Outcome, Fail> {
+    Ok(Outcome::Denied {
+        verdict: Verdict::Fallthru,
+        letter: Letter::Create,
+        name: Text::of(alloc, b"refs/heads/topic")?,
+    })
+}
 
-// How many rules and repositories the conf of a new hub has.
-fn count(alloc: Global, admin: &str) -> Result<(usize, usize), Fail> {
-    let Ok(Some(admin)) = UserName::parse(alloc, admin.as_bytes()) else {
-        return Err(Fail::from("a user's name"));
-    };
-    let files = setup_files(alloc, &admin)?;
-    match Policy::compile(alloc, &files) {
-        Ok(policy) => Ok((policy.rules().len(), policy.plain_repos().len())),
-        Err(_) => Err(Fail::from("refused")),
-    }
+// The numbers of an outcome and of its copy.
+fn numbers(outcome: &Outcome) -> Result<(u8, u8), Fail> {
+    Ok((outcome.number(), outcome.clone()?.number()))
 }
 
 #[test]
-fn a_new_hub_has_two_rules(rt: HostRuntime) -> Result<(), Fail> {
+fn a_copy_has_the_same_number(rt: HostRuntime) -> Result<(), Fail> {
     hold_laws();
-    for admin in &ADMINS {
-        if count(rt.alloc(), admin)? != (2, 2) {
-            return Err(Fail::from(*admin));
-        }
-    }
+    let denied = denied(rt.alloc())?;
+    assert_eq!(rt; numbers(&denied)?, (8, 8));
+    assert_eq!(rt; numbers(&Outcome::Full(4_294_967_296))?, (17, 17));
+    assert_eq!(rt; numbers(&Outcome::Stale(ObjectId::zero()))?, (11, 11));
+    assert!(rt; Outcome::Done.is_done() && !denied.is_done());
     Ok(())
 }

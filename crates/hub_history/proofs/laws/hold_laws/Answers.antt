@@ -1,5 +1,6 @@
-use Rattle.std.proofs.Common.{ap, ◌++◌}
+use Rattle.std.proofs.Common.{ap, sym, ◌++◌}
 use Rattle.std.proofs.lemmas.List.{take-append-le}
+use Rattle.setup_conf.specs.Setup.{setup_flat}
 use Rattle.hub_history.specs.History.{replay}
 use Rattle.hub_history.proofs.HistoryLemmas.{beginning_legal, due_behind, legal_by_places, opening_at-place, stands_kept}
 use Rattle.hub_history.proofs.OpeningLemmas.{pinned_at}
@@ -8,6 +9,7 @@ use Rattle.hub_history.proofs.ConfLemmas.{conf_changes, stays_good}
 use Rattle.hub_history.proofs.GrowthLemmas.{log_grows, objects_follow, stays_there}
 use Rattle.hub_history.proofs.WholeLogs.{refs_whole}
 use Rattle.hub_history.proofs.MovedLogs.{changes_are_done, done_let, done_moves, refused_atomic, stale_is}
+use Rattle.hub_history.proofs.RoleLemmas.{answers_tell, change_of_one, created_is_new, creators_opened, new_is_empty, roles_change_there, roles_sets}
 use Rattle.hub_history.proofs.ObjectLemmas.{names_once}
 use Rattle.hub_history.proofs.RefsApart.{refs_apart}
 use Rattle.hub_history.proofs.ShortNames.{names_short}
@@ -71,10 +73,31 @@ returns-clause-atomic c = λ admin before caller place pack commands outcomes ma
     refused_atomic c.some_patterns_are_true.ensures.0 c.some_patterns_are_true.ensures.1 admin before caller place pack commands outcomes made index outcome legal at refused
 
 pub returns-clause-good : goal.returns-clause-good
-returns-clause-good c = λ admin log legal patterns true_ps good. stays_good patterns true_ps admin log legal good
+returns-clause-good c = λ admin log named legal patterns true_ps. stays_good patterns true_ps admin log legal (setup_flat admin, sym (c.hold_laws-3.ensures.rules patterns true_ps admin named))
 
 pub returns-clause-conf : goal.returns-clause-conf
 returns-clause-conf c = λ admin before entry differs. conf_changes admin before entry differs
+
+pub returns-clause-creators : goal.returns-clause-creators
+returns-clause-creators c = λ admin before entry repo legal differs. creators_opened c.some_patterns_are_true.ensures.0 c.some_patterns_are_true.ensures.1 admin before entry legal repo differs
+
+pub returns-clause-created : goal.returns-clause-created
+returns-clause-created c = λ admin before entry user repo want legal is. created_is_new c.some_patterns_are_true.ensures.0 c.some_patterns_are_true.ensures.1 admin before entry legal user repo want is
+
+pub returns-clause-empty : goal.returns-clause-empty
+returns-clause-empty c = λ admin before entry repo is legal lacks there. new_is_empty c.some_patterns_are_true.ensures.0 c.some_patterns_are_true.ensures.1 admin before entry legal repo is lacks there
+
+pub returns-clause-sets : goal.returns-clause-sets
+returns-clause-sets c = roles_sets c.some_patterns_are_true.ensures.0 c.some_patterns_are_true.ensures.1
+
+pub returns-clause-roles : goal.returns-clause-roles
+returns-clause-roles c = λ admin before entry asker repo asked answer legal is. answers_tell c.some_patterns_are_true.ensures.0 c.some_patterns_are_true.ensures.1 admin before entry legal asker repo asked answer is
+
+pub returns-clause-role : goal.returns-clause-role
+returns-clause-role c = λ admin before entry asker repo asked legal is held. change_of_one c.some_patterns_are_true.ensures.0 c.some_patterns_are_true.ensures.1 admin before entry legal asker repo asked is held
+
+pub returns-clause-elsewhere : goal.returns-clause-elsewhere
+returns-clause-elsewhere c = λ admin before entry repo legal differs. roles_change_there c.some_patterns_are_true.ensures.0 c.some_patterns_are_true.ensures.1 admin before entry legal repo differs
 
 pub returns-clause-one : goal.returns-clause-one
 returns-clause-one c = one_answer c.hold_laws-2.ensures.one c.hold_laws.ensures.one

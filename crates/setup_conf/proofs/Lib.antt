@@ -1,0 +1,5 @@
+mod NameLemmas
+mod StatementLemmas
+mod SplicedLemmas
+mod RefexLemmas
+mod CompiledLemmas
