@@ -1,0 +1,4 @@
+mod ListLemmas
+mod CountingLemmas
+mod PreparedLemmas
+mod RowLemmas

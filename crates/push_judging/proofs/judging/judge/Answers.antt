@@ -1,0 +1,19 @@
+use Rattle.std.proofs.Common.{◌≡◌, List, ◌++◌, ◌∙◌, ap, subst}
+use Rattle.ref_store.specs.Store.{Store}
+use Rattle.ref_store.specs.declared.command.Command.{Command}
+use Rattle.hub_history.specs.Push.{JudgesAll}
+use Rattle.push_judging.specs.Judged.{confs_of}
+use Rattle.push_judging.proofs.judging.judge.Goals as goal
+
+pub returns : goal.returns
+returns c =
+    let pinned = c.args.pin.now.pinned in
+    let pack = c.args.pack.now in
+    let all = c.in_ok-outcomes.field-0 in
+    let commands : c.as_slice.result.now ≡ c.args.commands.now = c.as_slice.ensures in
+    record {
+      outcomes = λ ps ok. subst (λ (cs : List Command). JudgesAll ps pinned pack cs all.outcomes.items) commands (c.in_ok-outcomes.ensures.outcomes ps ok);
+      confs = c.in_ok-outcomes.ensures.confs ∙ ap (λ (cs : List Command). confs_of pinned pack cs all.outcomes.items) commands;
+      before = ap (λ p. p.before) c.new-pack.ensures ∙ ap (λ (s : Store). s.objects) (c.in_ok-copy.ensures ∙ c.repo-3.ensures.repo);
+      objects = ap (λ p. p.objects) c.new-pack.ensures ∙ c.in_ok-lens.ensures ∙ ap (λ (s : Store). s.objects ++ pack) c.repo.ensures.repo;
+    }

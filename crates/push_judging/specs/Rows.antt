@@ -1,0 +1,49 @@
+-- What is said of one command by an opening, row by row.
+use Rattle.std.specs.Prelude.{◌≡◌, Bool, true, false, List, ◌++◌, Option}
+use Rattle.git_object.specs.Content.{Content}
+use Rattle.conf_groups.specs.declared.fault.ConfKind.{ConfKind}
+use Rattle.conf_groups.specs.declared.fault.ConfKind.TheVariants as kind
+use Rattle.ref_store.specs.declared.command.Command.{Command}
+use Rattle.rule_compile.specs.Flat.{Flat}
+use Rattle.rule_compile.specs.Patterns.{AreTrue, Patterns}
+use Rattle.rule_compile.specs.declared.fault.PolicyFault.{PolicyFault}
+use Rattle.rule_compile.specs.declared.fault.PolicyFault.TheVariants.{Splicing, Rules}
+use Rattle.access_check.specs.Users.{asked}
+use Rattle.update_check.specs.Check.{CheckView, asked_by}
+use Rattle.update_check.specs.Rules.{RulesSay}
+use Rattle.update_check.specs.Table.{End, First}
+use Rattle.update_check.specs.declared.refusal.Refusal.{Refusal}
+use Rattle.hub_history.specs.declared.outcome.Outcome.{Outcome}
+use Rattle.hub_history.specs.Conf.{AreInForce}
+use Rattle.hub_history.specs.Opening.{Pinned}
+use Rattle.hub_history.specs.Push.{ByConf, ByRules, by_command, by_new_value, outcome_of}
+use Rattle.hub_history.specs.State.{wild_of}
+
+-- a check by the rules that were in force at an opening, for who opened the repository
+pub record IsCheckOf (pinned : Pinned) (check : CheckView) : Type 0 where
+  pub rules : (patterns : Patterns) → AreTrue patterns → (rules : Flat) × AreInForce patterns pinned.conf rules × (check.rules ≡ rules.rules)
+  pub asks : asked_by check ≡ asked (wild_of pinned.repository) pinned.repo pinned.user
+
+-- what a check says of a command, as an outcome
+abbrev pub SaysByRules : Patterns → CheckView → List Content → Command → Option Outcome → Type 0
+SaysByRules patterns check objects command said = (refused : Option Refusal) × RulesSay patterns check.rules (asked_by check) objects command refused × (said ≡ outcome_of refused)
+
+-- the rows in their order, where it is known whether several commands are for the ref
+abbrev pub Tells : Patterns → Pinned → List Content → Bool → Command → Option Outcome → Type 0
+Tells patterns pinned pack twice command found =
+    First (λ said. said ≡ by_command pinned twice command)
+    (First (λ said. said ≡ by_new_value (pinned.repository.objects ++ pack) command)
+    (First (ByRules patterns pinned (pinned.repository.objects ++ pack) command)
+    (First (ByConf patterns pinned (pinned.repository.objects ++ pack) command)
+    End))) found
+
+-- ---- out of memory
+
+abbrev pub is_memory : ConfKind → Bool
+is_memory kind.NoMemory = true
+is_memory other = false
+
+-- the fault is that memory ran out
+abbrev pub is_no_memory : PolicyFault → Bool
+is_no_memory (Splicing e) = is_memory e.kind
+is_no_memory (Rules e) = false

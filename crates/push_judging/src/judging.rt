@@ -1,0 +1,213 @@
+// All commands of a push.
+ghost use Rattle.std.specs.Prelude.{◌≡◌, ◌++◌, IfOk, false};
+ghost use Rattle.std.specs.FinMap as map;
+ghost use Rattle.std.specs.Option.{option_map_or};
+ghost use Rattle.ancestry.specs.Known.{AreFound, AreKnown};
+ghost use Rattle.rule_compile.specs.Patterns.{AreTrue, Patterns};
+ghost use Rattle.vref.specs.Facts.{AreFacts};
+ghost use Rattle.hub_history.specs.Push.{JudgesAll};
+ghost use Rattle.hub_state.specs.Prepared.{IsPrepared};
+ghost use Rattle.push_judging.specs.Counting.{Counts};
+ghost use Rattle.push_judging.specs.Judged.{IsJudgement, conf_of, confs_of};
+ghost use Rattle.push_judging.specs.Rows.{IsCheckOf, Tells};
+
+use crate::rows::{Told, by_command, by_conf, by_new_value, by_rules};
+use ancestry::{Facts, Findings, Known, Walks};
+use base_types::{NameMap, NoMemory};
+use git_object::ObjectList;
+use hub_state::{ConfInForce, Outcome, Pin, PreparedPack};
+use ref_store::{Command, CommandList, Compared, FreshObjects, Lens, Repo};
+use std::alloc::Global;
+use std::marker::Model;
+use update_check::UpdateCheck;
+use vref::facts_of_all;
+
+/// What each command of a push is told by its opening, the pack and the commands alone, if anything; the conf that each would put in force, if it would; and what was found out of the pack on the way.
+#[derive(Drop)]
+pub struct Judged {
+    outcomes: Vec<Option<Outcome>>,
+    confs: Vec<Option<ConfInForce>>,
+    pack: PreparedPack,
+}
+
+impl Model for Judged {
+    ghost use Rattle.push_judging.specs.Judged.{Judgement};
+
+    ghost Value = { Judgement };
+
+    ghost view = { λ j. record { outcomes = j.outcomes.items; confs = j.confs.items; before = j.pack.before; objects = j.pack.objects } };
+}
+
+impl Judged {
+    pub fn outcomes(&self) -> &[Option<Outcome>]
+        ensures { result.now ≡ self.now.outcomes }
+    {
+        &self.outcomes
+    }
+
+    /// The outcomes, the confs, and what was found out of the pack.
+    pub fn into_parts(self) -> (Vec<Option<Outcome>>, Vec<Option<ConfInForce>>, PreparedPack)
+        ensures outcomes { result.0.items ≡ self.outcomes }
+        ensures confs { result.1.items ≡ self.confs }
+        ensures pack { result.2 ≡ record { before = self.before; objects = self.objects } }
+    {
+        let Judged {
+            outcomes,
+            confs,
+            pack,
+        } = self;
+        (outcomes, confs, pack)
+    }
+}
+
+/// Judges each command of a push. The hub isn't looked at, so nothing needs to be held meanwhile.
+///
+/// It costs the pack, and the objects that new values lead to before they come to what an earlier push found to be whole. Each of those objects is visited once, whatever the number of commands and whatever they are told; only where links lead in a circle does each command walk by itself, along all that it meets. The facts of all changes cost what `vref::facts_of_all` does, and what the rules say of one costs what `UpdateCheck::refusal` does. A command for the conf's branch costs the conf at its new value.
+pub fn judge(
+    alloc: Global,
+    pin: &Pin,
+    pack: &ObjectList,
+    commands: &CommandList,
+) -> Result<Judged, NoMemory>
+    ensures { IfOk result (IsJudgement pin.now.pinned pack.now commands.now) }
+{
+    let lens = Lens::new(alloc, pin.repo(), pack)?;
+    let AllTold {
+        outcomes,
+        confs,
+        findings,
+    } = tell_all(alloc, pin, &lens, pack, commands.as_slice())?;
+    let fresh = fresh_in(pin.repo(), &lens, pack, &outcomes)?;
+    let pack = PreparedPack::new(pin.repo().copy()?, lens, findings, fresh);
+    Ok(Judged {
+        outcomes,
+        confs,
+        pack,
+    })
+}
+
+// What all commands are told, and what walks found out.
+#[derive(Drop)]
+struct AllTold {
+    outcomes: Vec<Option<Outcome>>,
+    confs: Vec<Option<ConfInForce>>,
+    findings: Findings,
+}
+
+fn tell_all(
+    alloc: Global,
+    pin: &Pin,
+    lens: &Lens,
+    pack: &ObjectList,
+    commands: &[Command],
+) -> Result<AllTold, NoMemory>
+    requires { lens.now ≡ pin.now.pinned.repository.objects ++ pack.now }
+    ensures outcomes { IfOk result (λ all. (ps : Patterns) → AreTrue ps → JudgesAll ps pin.now.pinned pack.now commands.now all.outcomes.items) }
+    ensures confs { IfOk result (λ all. all.confs.items ≡ confs_of pin.now.pinned pack.now commands.now all.outcomes.items) }
+    ensures found { IfOk result (λ all. AreFound lens.now all.findings) }
+{
+    let mut walks = Walks::knowing(alloc, lens, known_with(alloc, pin, pack)?);
+    let names = names_of(alloc, commands)?;
+    let facts = facts_of_all(alloc, lens, commands)?;
+    let check = UpdateCheck::new(pin.policy(), pin.wild(), pin.repo_name(), pin.user());
+    let mut outcomes = Vec::with_capacity(alloc, commands.len())?;
+    let mut confs = Vec::with_capacity(alloc, commands.len())?;
+    for k in 0..commands.len() {
+        let command = &commands[k];
+        let twice = is_named_twice(&names, command);
+        let Told { outcome, conf } = tell(
+            alloc, pin, lens, pack, &check, &mut walks, &facts[k], twice, command,
+        )?;
+        outcomes.push(outcome)?;
+        confs.push(conf)?;
+    }
+    let findings = walks.into_findings();
+    Ok(AllTold {
+        outcomes,
+        confs,
+        findings,
+    })
+}
+
+// What one command is told.
+fn tell(
+    alloc: Global,
+    pin: &Pin,
+    lens: &Lens,
+    pack: &ObjectList,
+    check: &UpdateCheck<'_>,
+    walks: &mut Walks<'_>,
+    facts: &Facts,
+    twice: bool,
+    command: &Command,
+) -> Result<Told, NoMemory>
+    requires lens { lens.now ≡ pin.now.pinned.repository.objects ++ pack.now }
+    requires walks { walks.old ≡ lens.now }
+    requires check { IsCheckOf pin.now.pinned check.now }
+    requires facts { AreFacts lens.now command.now.name command.now.old command.now.new facts.now }
+    ensures said { IfOk result (λ told. (ps : Patterns) → AreTrue ps → Tells ps pin.now.pinned pack.now twice command.now told.outcome) }
+    ensures conf { IfOk result (λ told. told.conf ≡ conf_of pin.now.pinned pack.now command.now told.outcome) }
+    ensures walks { walks.new ≡ walks.old }
+{
+    if let Some(outcome) = by_command(pin, twice, command) {
+        return Ok(Told::refused(outcome));
+    }
+    if let Some(outcome) = by_new_value(walks, command)? {
+        return Ok(Told::refused(outcome));
+    }
+    if let Some(outcome) = by_rules(alloc, check, lens, facts, command)? {
+        return Ok(Told::refused(outcome));
+    }
+    by_conf(alloc, pin, lens, pack, command)
+}
+
+// What a pack adds to a repository, with the segments that it has then, where some command isn't refused.
+fn fresh_in(
+    repo: &Repo,
+    lens: &Lens,
+    pack: &ObjectList,
+    outcomes: &[Option<Outcome>],
+) -> Result<Option<FreshObjects>, NoMemory>
+    requires { lens.now ≡ repo.now.objects ++ pack.now }
+    ensures { IfOk result (IsPrepared repo.now.objects lens.now) }
+{
+    if outcomes.iter().all(|outcome| outcome.is_some()) {
+        return Ok(None);
+    }
+    match repo.compare_in(lens, pack) {
+        Compared::Fresh(fresh) => Ok(Some(repo.prepare(fresh)?)),
+        Compared::Collision { .. } | Compared::Full(_) => Ok(None),
+        Compared::NoMemory => Err(NoMemory),
+    }
+}
+
+// What is known of the opening's objects with those of a pack behind them.
+fn known_with(alloc: Global, pin: &Pin, pack: &ObjectList) -> Result<Known, NoMemory>
+    ensures { IfOk result (AreKnown (pin.now.pinned.repository.objects ++ pack.now)) }
+{
+    if pack.is_empty() {
+        return Ok(pin.known().clone()?);
+    }
+    pin.known().grown(alloc)
+}
+
+// The refs of the commands, each with whether there are several commands for it.
+fn names_of(alloc: Global, commands: &[Command]) -> Result<NameMap<bool>, NoMemory>
+    ensures { IfOk result (λ names. Counts names commands.now) }
+{
+    let mut names = NameMap::new(alloc);
+    for command in commands {
+        let again = names.get(&command.name).is_some();
+        names.insert(command.name.clone()?, again)?;
+    }
+    Ok(names)
+}
+
+fn is_named_twice(names: &NameMap<bool>, command: &Command) -> bool
+    ensures { result ≡ option_map_or (λ twice. twice) (map.get names.now command.now.name) false }
+{
+    match names.get(&command.name) {
+        Some(twice) => *twice,
+        None => false,
+    }
+}

@@ -1,0 +1,4 @@
+mod ListLemmas
+mod CollisionLemmas
+mod PushLemmas
+mod RunningLemmas

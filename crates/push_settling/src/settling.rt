@@ -1,0 +1,301 @@
+// The outcomes of a push by what is there just before it, and the repository that it leaves.
+ghost use Rattle.std.specs.Prelude.{◌≡◌, ◌+◌, ◌++◌, ◌<◌, ◌≤◌, ◌^◌, [], IfOk, IfSome, length, map, None, not, OnOk, Some, true};
+ghost use Rattle.std.specs.List.{list_any, position};
+ghost use Rattle.ref_store.specs.RefName.{is_ref_name};
+ghost use Rattle.ref_store.specs.Objects.{HasNamesOnce, with_pack};
+ghost use Rattle.ancestry.specs.Known.{Extends};
+ghost use Rattle.hub_history.specs.Collision.{collision};
+ghost use Rattle.hub_history.specs.Push.{beside, by_refs, in_order, is_done, landed, landed_with, outcomes_in, refs_after, refs_left, together};
+ghost use Rattle.push_settling.specs.Running.{FitCommands, FitsCommand, IsReadyFor};
+ghost use Rattle.ref_store.specs.Store.{TellsOfComparing};
+
+use base_types::NoMemory;
+use git_object::ObjectList;
+use hub_state::{HostedRepo, Outcome, OutcomeList, PreparedPack};
+use ref_store::{Applied, Command, CommandList, Compared, FreshObjects, RefName, Repo};
+use std::alloc::Global;
+
+/// The outcomes of a push, and the repository that it leaves where a command is done. Where none is, and what was found out on the way is right
+/// for the repository as it is, that one with more known of it.
+#[derive(Drop)]
+pub struct Settled {
+    pub outcomes: OutcomeList,
+    pub next: Option<HostedRepo>,
+    pub same: Option<HostedRepo>,
+}
+
+/// Settles a push into a repository as it is just before. It costs the commands and, once a ref moves, the repository's refs; and where objects came
+/// since the push was judged, it compares the pack again, and adds what it lacks where a command is done.
+///
+/// Where no command is done no segment is built. What was found out on the way is kept where a command is done, and where the push brings no objects
+/// and none came since it was judged. That costs what was found out, and may join it with what was known.
+///
+/// `same` tells that the objects are those of the opening.
+pub fn settle(
+    alloc: Global,
+    now: &HostedRepo,
+    judged: &[Option<Outcome>],
+    mut prepared: PreparedPack,
+    pack: &ObjectList,
+    commands: &CommandList,
+    atomic: bool,
+    same: bool,
+) -> Result<Settled, NoMemory>
+    requires alike { length judged.now ≡ length commands.now }
+    requires few { length commands.now ≤ 10000 }
+    requires fit { FitCommands commands.now judged.now }
+    requires among { collision now.now.objects pack.now ≡ None → Extends prepared.objects (with_pack now.now.objects pack.now) }
+    requires behind { prepared.objects ≡ prepared.before ++ pack.now }
+    requires same { same ≡ true → prepared.before ≡ now.now.objects }
+    ensures outcomes { IfOk result (λ d. d.outcomes ≡ outcomes_in now.now pack.now commands.now atomic judged.now) }
+    ensures next { IfOk result (λ d. d.next ≡ landed now.now pack.now commands.now d.outcomes) }
+    ensures same { IfOk result (λ d. IfSome d.same (λ same. same ≡ now.now)) }
+{
+    // `count` is called for its clause that no two objects have one name, which the proof cites.
+    let _count = now.repo().count();
+    let unchanged = is_unchanged(same, pack);
+    match compared(now, &mut prepared, pack, same) {
+        Compared::Fresh(fresh) => settle_with(
+            alloc, now, judged, prepared, fresh, commands, atomic, unchanged,
+        ),
+        Compared::Collision { id, .. } => refuse_all(alloc, commands, &Outcome::Collided(id)),
+        Compared::Full(count) => refuse_all(alloc, commands, &Outcome::Full(count)),
+        Compared::NoMemory => Err(NoMemory),
+    }
+}
+
+// Whether a push brings no objects, and none came since its opening.
+fn is_unchanged(same: bool, pack: &ObjectList) -> bool
+    ensures { result ≡ true → (same ≡ true) × (pack.now ≡ []) }
+{
+    if !same {
+        return false;
+    }
+    pack.is_empty()
+}
+
+// The pack beside the repository: as it was compared when the push was judged, where the objects are still the same and that is at hand.
+fn compared(
+    now: &HostedRepo,
+    prepared: &mut PreparedPack,
+    pack: &ObjectList,
+    same: bool,
+) -> Compared
+    requires behind { prepared.old.objects ≡ prepared.old.before ++ pack.now }
+    requires same { same ≡ true → prepared.old.before ≡ now.now.objects }
+    ensures told { TellsOfComparing now.now.objects pack.now result }
+    ensures ready { IsReadyFor now.now.objects result }
+    ensures prepared { prepared.new ≡ prepared.old }
+{
+    if !same {
+        return now.repo().compare(pack);
+    }
+    match prepared.take_fresh() {
+        Some(fresh) => Compared::Fresh(fresh),
+        None => now.repo().compare(pack),
+    }
+}
+
+// Every command of a push has this outcome.
+fn refuse_all(alloc: Global, commands: &CommandList, outcome: &Outcome) -> Result<Settled, NoMemory>
+    ensures outcomes { IfOk result (λ d. d.outcomes ≡ map (λ c. outcome.now) commands.now) }
+    ensures next { IfOk result (λ d. d.next ≡ None) }
+    ensures same { IfOk result (λ d. d.same ≡ None) }
+{
+    Ok(Settled {
+        outcomes: alike(alloc, commands, outcome)?,
+        next: None,
+        same: None,
+    })
+}
+
+// Settles a push whose pack has these fresh objects.
+fn settle_with(
+    alloc: Global,
+    now: &HostedRepo,
+    judged: &[Option<Outcome>],
+    prepared: PreparedPack,
+    fresh: FreshObjects,
+    commands: &CommandList,
+    atomic: bool,
+    unchanged: bool,
+) -> Result<Settled, NoMemory>
+    requires alike { length judged.now ≡ length commands.now }
+    requires few { length commands.now ≤ 10000 }
+    requires fit { FitCommands commands.now judged.now }
+    requires names { HasNamesOnce (now.now.objects ++ fresh.objects) }
+    requires room { length now.now.objects + length fresh.objects ≤ 4294967295 }
+    requires ready { IfSome fresh.before (λ before. before ≡ now.now.objects) }
+    requires among { Extends prepared.objects (now.now.objects ++ fresh.objects) }
+    requires unchanged { unchanged ≡ true → prepared.objects ≡ now.now.objects }
+    ensures outcomes { IfOk result (λ d. d.outcomes ≡ together atomic (in_order now.now.refs commands.now judged.now)) }
+    ensures next { IfOk result (λ d. d.next ≡ landed_with now.now (now.now.objects ++ fresh.objects) commands.now d.outcomes) }
+    ensures same { IfOk result (λ d. IfSome d.same (λ same. same ≡ now.now)) }
+{
+    let mut repo = now.repo().copy()?;
+    let ran = run(alloc, &mut repo, judged, commands.as_slice())?;
+    let outcomes = together(alloc, atomic, ran)?;
+    if !any_done(&outcomes) {
+        let next = None;
+        let same = remember(alloc, now, prepared, unchanged)?;
+        return Ok(Settled {
+            outcomes,
+            next,
+            same,
+        });
+    }
+    let next = Some(land(alloc, now, repo, fresh, prepared)?);
+    let same = None;
+    Ok(Settled {
+        outcomes,
+        next,
+        same,
+    })
+}
+
+// The repository as it is, with what a push found out that was judged by its objects alone.
+fn remember(
+    alloc: Global,
+    now: &HostedRepo,
+    prepared: PreparedPack,
+    unchanged: bool,
+) -> Result<Option<HostedRepo>, NoMemory>
+    requires { unchanged ≡ true → prepared.objects ≡ now.now.objects }
+    ensures { IfOk result (λ same. IfSome same (λ same. same ≡ now.now)) }
+{
+    if !unchanged {
+        return Ok(None);
+    }
+    let known = now.known().with(alloc, prepared.into_findings())?;
+    let repo = now.repo().copy()?;
+    Ok(Some(now.with_repo(alloc, repo, known)?))
+}
+
+// The commands in order, over the refs as the earlier ones left them.
+fn run(
+    alloc: Global,
+    repo: &mut Repo,
+    judged: &[Option<Outcome>],
+    commands: &[Command],
+) -> Result<OutcomeList, NoMemory>
+    requires alike { length judged.now ≡ length commands.now }
+    requires fit { FitCommands commands.now judged.now }
+    ensures outcomes { IfOk result (λ os. os ≡ in_order repo.old.refs commands.now judged.now) }
+    ensures repo { OnOk result (repo.new ≡ record { objects = repo.old.objects; refs = refs_left repo.old.refs commands.now (in_order repo.old.refs commands.now judged.now) }) }
+{
+    let mut list = OutcomeList::new(alloc);
+    for i in 0..commands.len() {
+        let outcome = run_one(alloc, repo, &commands[i], &judged[i])?;
+        list.push(outcome)?;
+    }
+    Ok(list)
+}
+
+fn run_one(
+    alloc: Global,
+    repo: &mut Repo,
+    command: &Command,
+    judged: &Option<Outcome>,
+) -> Result<Outcome, NoMemory>
+    requires { FitsCommand command.now judged.now }
+    ensures outcome { IfOk result (λ o. o ≡ by_refs repo.old.refs command.now judged.now) }
+    ensures repo { OnOk result (repo.new ≡ record { objects = repo.old.objects; refs = refs_after repo.old.refs command.now (by_refs repo.old.refs command.now judged.now) }) }
+{
+    match judged {
+        Some(outcome) => Ok(outcome.clone()?),
+        None => move_one(alloc, repo, command),
+    }
+}
+
+fn move_one(alloc: Global, repo: &mut Repo, command: &Command) -> Result<Outcome, NoMemory>
+    requires { is_ref_name command.now.name ≡ true }
+    ensures outcome { IfOk result (λ o. o ≡ by_refs repo.old.refs command.now None) }
+    ensures repo { OnOk result (repo.new ≡ record { objects = repo.old.objects; refs = refs_after repo.old.refs command.now (by_refs repo.old.refs command.now None) }) }
+{
+    let Some(name) = RefName::parse(alloc, command.name.bytes())? else {
+        unreachable!()
+    };
+    match repo.apply(&name, command.old, command.new) {
+        Applied::Moved => Ok(Outcome::Done),
+        Applied::Stale(value) => Ok(Outcome::Stale(value)),
+        Applied::DirFile(other) => Ok(Outcome::DirFile(other)),
+        Applied::NoMemory => Err(NoMemory),
+    }
+}
+
+// In an atomic push that has a refusal, the other commands name the first.
+fn together(alloc: Global, atomic: bool, outcomes: OutcomeList) -> Result<OutcomeList, NoMemory>
+    requires { length outcomes < 2 ^ 32 }
+    ensures { IfOk result (λ l. l ≡ together atomic outcomes) }
+{
+    if !atomic {
+        return Ok(outcomes);
+    }
+    match first_refused(&outcomes) {
+        Some(first) => beside_first(alloc, first as u32, &outcomes),
+        None => Ok(outcomes),
+    }
+}
+
+fn first_refused(outcomes: &OutcomeList) -> Option<usize>
+    ensures first { result ≡ position (λ o. not (is_done o)) outcomes.now }
+    ensures within { IfSome result (λ i. i < length outcomes.now) }
+{
+    outcomes.as_slice().iter().position(|o| !o.is_done())
+}
+
+fn beside_first(alloc: Global, first: u32, outcomes: &OutcomeList) -> Result<OutcomeList, NoMemory>
+    ensures { IfOk result (λ l. l ≡ map (beside first) outcomes.now) }
+{
+    let mut list = OutcomeList::new(alloc);
+    for outcome in outcomes.as_slice() {
+        list.push(beside(first, outcome)?)?;
+    }
+    Ok(list)
+}
+
+fn beside(first: u32, outcome: &Outcome) -> Result<Outcome, NoMemory>
+    ensures { IfOk result (λ o. o ≡ beside first outcome.now) }
+{
+    if outcome.is_done() {
+        return Ok(Outcome::AtomicOther(first));
+    }
+    Ok(outcome.clone()?)
+}
+
+// One outcome for every command.
+fn alike(alloc: Global, commands: &CommandList, outcome: &Outcome) -> Result<OutcomeList, NoMemory>
+    ensures { IfOk result (λ os. os ≡ map (λ c. outcome.now) commands.now) }
+{
+    let mut list = OutcomeList::new(alloc);
+    for _ in commands.as_slice() {
+        list.push(outcome.clone()?)?;
+    }
+    Ok(list)
+}
+
+// The repository that is left where a command is done: with these refs, and with the fresh objects added.
+fn land(
+    alloc: Global,
+    now: &HostedRepo,
+    mut repo: Repo,
+    fresh: FreshObjects,
+    prepared: PreparedPack,
+) -> Result<HostedRepo, NoMemory>
+    requires objects { repo.objects ≡ now.now.objects }
+    requires names { HasNamesOnce (now.now.objects ++ fresh.objects) }
+    requires room { length now.now.objects + length fresh.objects ≤ 4294967295 }
+    requires ready { IfSome fresh.before (λ before. before ≡ now.now.objects) }
+    requires among { Extends prepared.objects (now.now.objects ++ fresh.objects) }
+    ensures { IfOk result (λ next. next ≡ record { objects = now.now.objects ++ fresh.objects; refs = repo.refs; creator = now.now.creator; roles = now.now.roles }) }
+{
+    repo.add(fresh)?;
+    let known = now.known().grown_with(alloc, prepared.into_findings())?;
+    now.with_repo(alloc, repo, known)
+}
+
+fn any_done(outcomes: &OutcomeList) -> bool
+    ensures { result ≡ list_any is_done outcomes.now }
+{
+    outcomes.as_slice().iter().any(|o| o.is_done())
+}
