@@ -1,7 +1,7 @@
 //! Copies of outcomes and their numbers.
 
 use crate::{Outcome, Verdict, hold_laws};
-use access_check::Letter;
+use access_check::{Base, Letter};
 use base_types::Text;
 use git_object::ObjectId;
 use std::alloc::Global;
@@ -10,7 +10,10 @@ use std::test::Fail;
 fn denied(alloc: Global) -> Result<Outcome, Fail> {
     Ok(Outcome::Denied {
         verdict: Verdict::Fallthru,
-        letter: Letter::Create,
+        letter: Letter {
+            base: Base::Create,
+            merge: false,
+        },
         name: Text::of(alloc, b"refs/heads/topic")?,
     })
 }
