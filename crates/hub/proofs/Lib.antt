@@ -1,0 +1,11 @@
+mod NameLemmas
+mod HubLemmas
+mod PinLemmas
+mod WholeLemmas
+mod PushLemmas
+mod DeskLemmas
+mod ChangeLemmas
+mod LookLemmas
+mod ConfLemmas
+mod OrderLemmas
+mod SettledLemmas

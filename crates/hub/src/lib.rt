@@ -1,0 +1,30 @@
+//! The hub: openings, pushes, changes of roles and listings, the log of their answers, and the state that the log leads to.
+//!
+//! - `table`: repositories by their names;
+//! - `answer`: what the calls answer;
+//! - `hub`: the hub, which keeps that its log is legal and that what it stores is the log's replay;
+//! - `openings`, `pushes`, `roles`, `looks`: its calls;
+//! - `desk`: a hub as one caller has it.
+#![tactic(auto)]
+
+mod answer;
+mod desk;
+mod hub;
+mod looks;
+mod openings;
+mod pushes;
+mod roles;
+mod table;
+
+pub use answer::{Entered, Looked, Permitted, Pushed};
+pub use desk::{Desk, LoneDesk};
+pub use hub::Hub;
+pub use hub_history::{
+    EnterKept, Entry, EntryList, Event, Letter, Outcome, OutcomeList, PermChange, PermsKept,
+    RepoList, RepoName, UserName, Verdict, Want,
+};
+pub use hub_state::{ConfInForce, HostedRepo, NoMemory, Pin};
+pub use push_judging::{Judged, judge};
+
+#[cfg(test)]
+mod tests;
