@@ -229,4 +229,5 @@ def main():
         CASES[name](sys.argv[1])
 
 
-main()
+if __name__ == "__main__":
+    main()

@@ -7,7 +7,7 @@ use Rattle.std.proofs.lemmas.List.{take-append-le, take-take}
 use Rattle.base_types.specs.Counts.{HasRisen}
 use Rattle.pktline_core.specs.Links.{IsLater}
 use Rattle.pktline_core.proofs.LinkLemmas.{risen_later}
-use Rattle.gitolite_shell.specs.ReadingFrames.{Takes}
+use Rattle.script_frames.specs.ReadingFrames.{Takes}
 use Rattle.pktline_core.specs.LinkState.{LinkState}
 use Rattle.conf_check.specs.Report.{IsPrinted}
 use Rattle.gitolite_shell.specs.RunningScripts.{StopsWriting, TellsOutput}

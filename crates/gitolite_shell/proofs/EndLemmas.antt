@@ -2,17 +2,17 @@
 use Rattle.std.proofs.Common.{inl, inr, List, Err, refl, subst}
 use Rattle.pktline_core.specs.LinkState.{LinkState}
 use Rattle.pktline_core.specs.Links.{IsLater}
-use Rattle.hub_core.specs.Desk.{DeskView, IsSound}
-use Rattle.hub_core.specs.Name.{Name}
+use Rattle.hub.specs.Desk.{DeskView, IsSound}
+use Rattle.ref_store.specs.Refs.{Name}
 use Rattle.interaction_tree.specs.Requests.{OwnEntry}
 use Rattle.interaction_tree.specs.Runs.{IsCaused, Runs}
 use Rattle.interaction_tree.specs.Endings.{TakesTurn}
 use Rattle.interaction_tree.specs.Growth.{GrowsBy, own_since}
 use Rattle.interaction_tree.proofs.EndingLemmas.{runs_turn}
 use Rattle.interaction_tree.proofs.DeskLemmas.{made_since, makes_grows}
-use Rattle.gitolite_shell.specs.declared.end.SessionEnd.{SessionEnd}
-use Rattle.gitolite_shell.specs.declared.end.SessionEnd.TheVariants.{Served, Denied, NoRepo, ReadFault, WriteFault, NoMemory, BadPack, NotBuilt}
-use Rattle.gitolite_shell.specs.End.{HasCause, IsSure, halt_of}
+use Rattle.session_core.specs.declared.end.SessionEnd.{SessionEnd}
+use Rattle.session_core.specs.declared.end.SessionEnd.TheVariants.{Served, Denied, NoRepo, BadCommand, BadUser, Malformed, TooLong, Truncated, ReadFault, WriteFault, NoMemory, BadPack, NotBuilt}
+use Rattle.session_core.specs.End.{HasCause, IsSure, halt_of}
 use Rattle.gitolite_shell.specs.Session.{session}
 use Rattle.gitolite_shell.proofs.OrderLemmas.{is_ordered}
 
@@ -22,6 +22,11 @@ has_cause a b Denied caused = tt
 has_cause a b NoRepo caused = tt
 has_cause a b (BadPack fault) caused = tt
 has_cause a b NotBuilt caused = tt
+has_cause a b BadCommand caused = tt
+has_cause a b BadUser caused = tt
+has_cause a b (Malformed offset) caused = tt
+has_cause a b (TooLong count) caused = tt
+has_cause a b Truncated caused = tt
 has_cause a b ReadFault caused = caused
 has_cause a b WriteFault caused = caused
 has_cause a b NoMemory caused = tt
@@ -32,6 +37,11 @@ is_sure a b Denied caused reads writes = inl refl
 is_sure a b NoRepo caused reads writes = inl refl
 is_sure a b (BadPack fault) caused reads writes = inl refl
 is_sure a b NotBuilt caused reads writes = inl refl
+is_sure a b BadCommand caused reads writes = inl refl
+is_sure a b BadUser caused reads writes = inl refl
+is_sure a b (Malformed offset) caused reads writes = inl refl
+is_sure a b (TooLong count) caused reads writes = inl refl
+is_sure a b Truncated caused reads writes = inl refl
 is_sure a b ReadFault caused reads writes = absurd (reads caused.0)
 is_sure a b WriteFault caused reads writes = absurd (writes caused.0)
 is_sure a b NoMemory caused reads writes = inr refl

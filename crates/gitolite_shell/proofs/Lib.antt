@@ -1,16 +1,7 @@
-mod FrameLemmas
-mod ReadingLemmas
 mod ScriptLemmas
 mod LoneLemmas
 mod ScriptRows
-mod StepLemmas
-mod OpeningLemmas
 mod OrderLemmas
+mod PermLemmas
 mod CheckLemmas
-mod CommandLemmas
-mod ReportLemmas
-mod PackLemmas
-mod PushLemmas
-mod TextLemmas
-mod AdvertisementLemmas
 mod EndLemmas

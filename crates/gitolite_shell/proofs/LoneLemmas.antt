@@ -4,10 +4,10 @@ use Rattle.std.specs.Prelude.{Result, Ok, Err, Some, None, OnOk, IfErr, IfSome}
 use Rattle.std.proofs.KnownBytes.{Appends-nil, Consumes-nil}
 use Rattle.base_types.specs.Counts.{HasRisen}
 use Rattle.pktline_core.specs.LinkState.{LinkState}
-use Rattle.hub_core.specs.declared.entry.Entry.{Entry}
-use Rattle.hub_core.specs.Desk.{DeskView, IsSound}
-use Rattle.hub_core.specs.History.{IsLegal}
-use Rattle.hub_core.specs.Name.{Name}
+use Rattle.hub_history.specs.declared.entry.Entry.{Entry}
+use Rattle.hub.specs.Desk.{DeskView, IsSound}
+use Rattle.hub_history.specs.History.{IsLegal}
+use Rattle.ref_store.specs.Refs.{Name}
 use Rattle.gitolite_shell.specs.Words.{is_check, script_admin}
 use Rattle.gitolite_shell.specs.Script.{sessions}
 use Rattle.gitolite_shell.specs.RunningScripts.{RunsScript, StopsScript}
@@ -17,7 +17,7 @@ use Rattle.gitolite_shell.specs.declared.script.ScriptFault.{ScriptFault}
 use Rattle.gitolite_shell.specs.declared.script.ScriptFault.TheVariants as fault
 use Rattle.gitolite_shell.specs.declared.status.Status.{Status}
 use Rattle.gitolite_shell.specs.declared.status.Status.TheVariants.{Done, Usage, InputFault, OutputFault, NoMemory, ConfRefused, BadScript}
-use Rattle.gitolite_shell.proofs.FrameLemmas.{begins_none}
+use Rattle.script_frames.proofs.FrameLemmas.{begins_none}
 
 module _ (source source' sink sink' : LinkState) (admin : Name) (log : List Entry) where
   ended : (result : Result (Unit {0}) ScriptFault)
@@ -87,7 +87,7 @@ module _ (words : List (List ℕ)) (source source' sink sink' : LinkState) (log 
 -- an empty log is legal
 pub legal_none : (admin : Option Name) (log : List Entry) → log ≡ [] → IfSome admin (λ a. IsLegal a log)
 legal_none None log none = tt
-legal_none (Some admin) log none = subst (IsLegal admin) (sym none) tt
+legal_none (Some admin) log none = subst (IsLegal admin) (sym none) (λ patterns ok. tt)
 
 -- what the desk of a new hub saw afterwards is legal
 pub legal_script : (asked : Option Name) (admin : Name) (desk desk' : DeskView) (log : List Entry) → asked ≡ Some admin → desk ≡ new_desk admin → desk'.admin ≡ desk.admin → IsSound desk' → log ≡ desk'.seen

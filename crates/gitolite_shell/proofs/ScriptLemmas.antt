@@ -10,9 +10,9 @@ use Rattle.base_types.specs.Counts.{HasRisen}
 use Rattle.pktline_core.specs.LinkState.{LinkState}
 use Rattle.pktline_core.specs.Links.{IsLater}
 use Rattle.pktline_core.proofs.LinkLemmas.{appends_more, risen_later}
-use Rattle.hub_core.specs.declared.entry.Entry.{Entry}
-use Rattle.hub_core.specs.Name.{Name}
-use Rattle.hub_core.specs.Desk.{DeskView}
+use Rattle.hub_history.specs.declared.entry.Entry.{Entry}
+use Rattle.ref_store.specs.Refs.{Name}
+use Rattle.hub.specs.Desk.{DeskView}
 use Rattle.interaction_tree.specs.Traces.{Failure, Failed, Begins, FallsShort}
 use Rattle.interaction_tree.specs.Turns as stop
 use Rattle.interaction_tree.specs.Alone.{TurnAlone}
@@ -22,18 +22,18 @@ use Rattle.interaction_tree.specs.Requests.{Answers, Agrees, OwnEntry}
 use Rattle.interaction_tree.proofs.DeskLemmas.{makes_alone}
 use Rattle.interaction_tree.proofs.AnswerLemmas.{agrees_front}
 use Rattle.interaction_tree.proofs.AloneLemmas.{alone_is, alone_begins, alone_grows}
-use Rattle.gitolite_shell.specs.declared.end.SessionEnd.{SessionEnd}
-use Rattle.gitolite_shell.specs.declared.end.SessionEnd.TheVariants as end
-use Rattle.gitolite_shell.specs.End.{halt_of, HasCause}
+use Rattle.session_core.specs.declared.end.SessionEnd.{SessionEnd}
+use Rattle.session_core.specs.declared.end.SessionEnd.TheVariants as end
+use Rattle.session_core.specs.End.{halt_of, HasCause}
 use Rattle.gitolite_shell.specs.Session.{session}
-use Rattle.gitolite_shell.specs.Frames.{head_text, frame_text, AreBodies, BeginsNoFrame}
-use Rattle.gitolite_shell.specs.ReadingFrames.{Takes, IsRest, TakesFrame, TakesNoFrame, GoesNoFurther}
+use Rattle.script_frames.specs.Frames.{head_text, frame_text, AreBodies, BeginsNoFrame}
+use Rattle.script_frames.specs.ReadingFrames.{Takes, IsRest, TakesFrame, TakesNoFrame, GoesNoFurther}
 use Rattle.gitolite_shell.specs.Script.{end_word, stop_word, reply_text, fault_text, served_alone, Printed, sessions, bad_offset, last_line, script}
 use Rattle.gitolite_shell.specs.RunningScripts.{Serves, Advances, AdvancesOne, FindsEnd, FindsBad, MayLackAfter, FailsAtRead, LacksAtRead, LacksSession, LacksServing, ServesPart, TellsPart, StopsAdvancing, RunsScript, StopsAtRead, StopsServing, StopsTelling, StopsAtWrite, StopsForMemory, StopsScript}
 use Rattle.gitolite_shell.specs.declared.script.ScriptFault.{ScriptFault}
 use Rattle.gitolite_shell.specs.declared.script.ScriptFault.TheVariants.{BadScript, InputFault, OutputFault, NoMemory}
-use Rattle.gitolite_shell.proofs.FrameLemmas.{begins_none}
-use Rattle.gitolite_shell.proofs.ReadingLemmas.{takes_more, no_rest}
+use Rattle.script_frames.proofs.FrameLemmas.{begins_none}
+use Rattle.script_frames.proofs.ReadingLemmas.{takes_more, no_rest}
 
 -- I. One session
 
@@ -95,6 +95,11 @@ only_memory a b own admin end.Denied failure cannot cause is turn = absurd cc
 only_memory a b own admin end.NoRepo failure cannot cause is turn = absurd cc
 only_memory a b own admin (end.BadPack fault) failure cannot cause is turn = absurd cc
 only_memory a b own admin end.NotBuilt failure cannot cause is turn = absurd cc
+only_memory a b own admin end.BadCommand failure cannot cause is turn = absurd cc
+only_memory a b own admin end.BadUser failure cannot cause is turn = absurd cc
+only_memory a b own admin (end.Malformed offset) failure cannot cause is turn = absurd cc
+only_memory a b own admin (end.TooLong count) failure cannot cause is turn = absurd cc
+only_memory a b own admin end.Truncated failure cannot cause is turn = absurd cc
 
 -- a session that was served, whose reply had no room
 pub serves_unsaid : (old new : DeskView) (number : ℕ) (body text : List ℕ) → Begins old.seen new.seen → Serves old new number body text → LacksSession old new body

@@ -1,18 +1,9 @@
 -- Rows of a script, worked out.
 use Rattle.std.proofs.Common.{◌≡◌, [], ◌∷◌, Some, None, refl, arith, codes}
 use Rattle.std.proofs.lemmas.Fmt.{decimal_digit}
-use Rattle.gitolite_shell.specs.declared.end.SessionEnd.TheVariants.{Served}
-use Rattle.gitolite_shell.specs.Frames.{head_text, frame_text}
-use Rattle.gitolite_shell.specs.Words.{script_admin}
+use Rattle.session_core.specs.declared.end.SessionEnd.TheVariants.{Served}
+use Rattle.gitolite_shell.specs.Words.{is_admin_name, script_admin}
 use Rattle.gitolite_shell.specs.Script.{end_word, reply_text, fault_text, bad_offset, last_line}
-
-a_frame : frame_text (codes "abcde") ≡ codes "session 5\nabcde\n"
-unfolding head_text frame_text
-a_frame = rw (decimal_digit 5 (omega arith)) refl
-
-an_empty_frame : frame_text [] ≡ codes "session 0\n\n"
-unfolding head_text frame_text
-an_empty_frame = rw (decimal_digit 0 (omega arith)) refl
 
 a_reply : reply_text 1 (end_word Served) (codes "0000") ≡ codes "session 1 served 4\n0000\n"
 unfolding reply_text
@@ -26,13 +17,15 @@ nothing_follows : last_line (bad_offset (codes "abcde" ∷ []) []) ≡ []
 nothing_follows = refl
 
 good_words : script_admin (codes "script" ∷ codes "--admin" ∷ codes "alice" ∷ []) ≡ Some (codes "alice")
+unfolding is_admin_name
 good_words = refl
 
 no_flag : script_admin (codes "script" ∷ codes "alice" ∷ []) ≡ None
 no_flag = refl
 
-a_capital : script_admin (codes "script" ∷ codes "--admin" ∷ codes "Alice" ∷ []) ≡ None
-a_capital = refl
+a_dash_first : script_admin (codes "script" ∷ codes "--admin" ∷ codes "-alice" ∷ []) ≡ None
+unfolding is_admin_name
+a_dash_first = refl
 
 a_word_more : script_admin (codes "script" ∷ codes "--admin" ∷ codes "alice" ∷ codes "bob" ∷ []) ≡ None
 a_word_more = refl

@@ -4,7 +4,7 @@ use Rattle.std.specs.Io.KnownBytes.{Appends, IsAtEnd}
 use Rattle.base_types.specs.Counts.{HasRisen}
 use Rattle.pktline_core.specs.LinkState.{LinkState}
 use Rattle.conf_check.specs.Report.{IsPrinted}
-use Rattle.gitolite_shell.specs.ReadingFrames.{Takes, FailsAfter}
+use Rattle.script_frames.specs.ReadingFrames.{Takes, FailsAfter}
 use Rattle.gitolite_shell.specs.RunningScripts.{WritesPart}
 use Rattle.gitolite_shell.specs.declared.check.ReadAllFault.{ReadAllFault}
 use Rattle.gitolite_shell.specs.declared.check.ReadAllFault.TheVariants as fault

@@ -3,10 +3,10 @@ use Rattle.std.specs.Prelude.{◌≡◌, ◌⊎◌, ℕ, Bool, true, false, IsTr
 use Rattle.std.specs.Io.KnownBytes.{Appends}
 use Rattle.base_types.specs.Counts.{HasRisen}
 use Rattle.pktline_core.specs.LinkState.{LinkState}
-use Rattle.hub_core.specs.declared.entry.Entry.{Entry}
-use Rattle.hub_core.specs.Name.{Name}
-use Rattle.hub_core.specs.Desk.{DeskView}
-use Rattle.hub_core.specs.History.{IsLegal}
+use Rattle.hub_history.specs.declared.entry.Entry.{Entry}
+use Rattle.ref_store.specs.Refs.{Name}
+use Rattle.hub.specs.Desk.{DeskView}
+use Rattle.hub_history.specs.History.{IsLegal}
 use Rattle.gitolite_shell.specs.Words.{is_check, script_admin, usage_line}
 use Rattle.gitolite_shell.specs.RunningScripts.{RunsScript, StopsAtRead, StopsAtWrite, StopsForMemory, WritesPart}
 use Rattle.gitolite_shell.specs.Check.{EndsCheck}

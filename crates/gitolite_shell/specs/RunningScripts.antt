@@ -4,14 +4,14 @@ use Rattle.std.specs.List.{flat_map}
 use Rattle.std.specs.Io.KnownBytes.{Appends, IsAtEnd}
 use Rattle.base_types.specs.Counts.{HasRisen}
 use Rattle.pktline_core.specs.LinkState.{LinkState}
-use Rattle.hub_core.specs.declared.entry.Entry.{Entry}
-use Rattle.hub_core.specs.Name.{Name}
-use Rattle.hub_core.specs.Desk.{DeskView}
+use Rattle.hub_history.specs.declared.entry.Entry.{Entry}
+use Rattle.ref_store.specs.Refs.{Name}
+use Rattle.hub.specs.Desk.{DeskView}
 use Rattle.interaction_tree.specs.Requests.{AsLogged}
 use Rattle.interaction_tree.specs.Traces.{Begins, FallsShort}
 use Rattle.interaction_tree.specs.Endings.{IsInput}
-use Rattle.gitolite_shell.specs.Frames.{frame_text, AreBodies, BeginsNoFrame, IsScript}
-use Rattle.gitolite_shell.specs.ReadingFrames.{Takes, IsRest, TakesFrame, TakesNoFrame, EndsInside, GoesNoFurther, WantsMore, FailsInFrame, LacksInFrame}
+use Rattle.script_frames.specs.Frames.{frame_text, AreBodies, BeginsNoFrame, IsScript}
+use Rattle.script_frames.specs.ReadingFrames.{Takes, IsRest, TakesFrame, TakesNoFrame, EndsInside, GoesNoFurther, WantsMore, FailsInFrame, LacksInFrame}
 use Rattle.gitolite_shell.specs.Script.{stop_word, reply_text, fault_text, served_alone, sessions, bad_offset, script}
 use Rattle.gitolite_shell.specs.declared.script.ScriptFault.{ScriptFault}
 use Rattle.gitolite_shell.specs.declared.script.ScriptFault.TheVariants.{BadScript, InputFault, OutputFault, NoMemory}

@@ -1,15 +1,15 @@
 -- A script: its sessions, one after the other on one log, and what is printed of them.
 use Rattle.std.specs.Prelude.{ℕ, ◌+◌, List, [], ◌∷◌, ◌++◌, length, Option, Some, None, codes, decimal}
 use Rattle.std.specs.List.{flat_map}
-use Rattle.hub_core.specs.declared.entry.Entry.{Entry}
-use Rattle.hub_core.specs.Name.{Name}
+use Rattle.hub_history.specs.declared.entry.Entry.{Entry}
+use Rattle.ref_store.specs.Refs.{Name}
 use Rattle.interaction_tree.specs.Requests.{Answers}
 use Rattle.interaction_tree.specs.Turns.{Stop, Gave, Ended, Unanswered, Waiting}
 use Rattle.interaction_tree.specs.Alone.{TurnAlone, turn_alone}
-use Rattle.gitolite_shell.specs.declared.end.SessionEnd.{SessionEnd}
-use Rattle.gitolite_shell.specs.declared.end.SessionEnd.TheVariants as end
+use Rattle.session_core.specs.declared.end.SessionEnd.{SessionEnd}
+use Rattle.session_core.specs.declared.end.SessionEnd.TheVariants as end
 use Rattle.gitolite_shell.specs.Session.{session}
-use Rattle.gitolite_shell.specs.Frames.{frame_text}
+use Rattle.script_frames.specs.Frames.{frame_text}
 
 -- I. What is printed
 
@@ -18,6 +18,11 @@ abbrev pub end_word : SessionEnd → List ℕ
 end_word end.Served = codes "served"
 end_word end.Denied = codes "denied"
 end_word end.NoRepo = codes "no-repo"
+end_word end.BadCommand = codes "bad-command"
+end_word end.BadUser = codes "bad-user"
+end_word (end.Malformed offset) = codes "malformed"
+end_word (end.TooLong count) = codes "too-long"
+end_word end.Truncated = codes "truncated"
 end_word (end.BadPack fault) = codes "bad-pack"
 end_word end.NotBuilt = codes "not-built"
 end_word end.ReadFault = []

@@ -1,13 +1,12 @@
 -- The words by which the program is called.
-use Rattle.std.specs.Prelude.{ℕ, Bool, false, ◌&&◌, nat_le, List, [], ◌∷◌, length, Option, Some, None, codes, if◌then◌else◌}
-use Rattle.std.specs.List.{list_all}
+use Rattle.std.specs.Prelude.{ℕ, Bool, false, ◌&&◌, List, [], ◌∷◌, Option, Some, None, codes, if◌then◌else◌}
 use Rattle.std.specs.Str.{bytes_eq}
-use Rattle.hub_core.specs.Name.{Name}
-use Rattle.gitolite_shell.specs.FirstPacket.{is_letter}
+use Rattle.conf_lex.specs.Names.{is_user_name}
+use Rattle.ref_store.specs.Refs.{Name}
 
--- 1 to 64 lower-case letters
-abbrev pub is_user_name : List ℕ → Bool
-is_user_name name = nat_le 1 (length name) && (nat_le (length name) 64 && list_all is_letter name)
+-- an admin may have each name that a user may have
+unfoldable pub is_admin_name : List ℕ → Bool
+is_admin_name name = is_user_name name
 
 -- `check` alone: a conf is checked
 abbrev pub is_check : List (List ℕ) → Bool
@@ -20,7 +19,7 @@ abbrev pub script_admin : List (List ℕ) → Option Name
 script_admin [] = None
 script_admin (verb ∷ []) = None
 script_admin (verb ∷ flag ∷ []) = None
-script_admin (verb ∷ flag ∷ name ∷ []) = if bytes_eq verb (codes "script") && (bytes_eq flag (codes "--admin") && is_user_name name) then Some name else None
+script_admin (verb ∷ flag ∷ name ∷ []) = if bytes_eq verb (codes "script") && (bytes_eq flag (codes "--admin") && is_admin_name name) then Some name else None
 script_admin (verb ∷ flag ∷ name ∷ more ∷ words) = None
 
 -- what is printed where the words are refused: all others

@@ -1,6 +1,7 @@
 // The program, run by one caller.
-ghost use Rattle.std.specs.Prelude.{◌≡◌, ◌⊎◌, IfOk, map, string_bytes};
-ghost use Rattle.hub_core.specs.LoneDesk.{desk_of};
+ghost use Rattle.std.specs.Prelude.{◌≡◌, ◌⊎◌, IfOk, map, string_bytes, true};
+ghost use Rattle.conf_lex.specs.Names.{is_user_name};
+ghost use Rattle.hub.specs.LoneDesk.{desk_of};
 ghost use Rattle.gitolite_shell.specs.Lone.{EndsRun, EndsSurely, EndsUsage, IsLegalRun, TellsStatus, new_desk};
 ghost use Rattle.gitolite_shell.specs.Status.{status_number};
 
@@ -8,8 +9,9 @@ use crate::check::run_check;
 use crate::script::{run_script, write_text};
 use crate::status::{Status, status_of};
 use crate::words::{USAGE, is_check, script_admin};
-use base_types::{NoMemory, Text};
-use hub_core::{Desk, EntryList, Hub, LoneDesk};
+use base_types::NoMemory;
+use conf_lex::UserName;
+use hub::{Desk, EntryList, Hub, LoneDesk};
 use pktline_core::{Sink, Source};
 use std::alloc::Global;
 
@@ -22,9 +24,12 @@ pub struct Ended {
 
 // The only desk of a new hub.
 fn new_desk(alloc: Global, admin: &str) -> Result<LoneDesk, NoMemory>
+    requires { is_user_name admin.now ≡ true }
     ensures { IfOk result (λ desk. desk_of desk ≡ new_desk admin.now) }
 {
-    let admin = Text::of(alloc, admin.as_bytes())?;
+    let Some(admin) = UserName::parse(alloc, admin.as_bytes())? else {
+        unreachable!()
+    };
     Ok(LoneDesk::new(Hub::start(alloc, &admin)?))
 }
 

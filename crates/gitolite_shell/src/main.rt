@@ -1,62 +1,39 @@
 //! The server: sessions, a script of them, and the program.
 //!
-//! - `end`: how a session ends;
-//! - `gate`: what stands between an opening and what follows;
-//! - `text`: the texts that a session writes;
-//! - `said`: packets that are written, and refusals;
-//! - `first_packet`, `create`: what a line says that a session reads;
-//! - `commands`, `reports`: the commands of a push, and what is reported of them;
-//! - `receiving`: what follows an opening;
-//! - `session`: a session;
-//! - `frames`: the frames of a script;
+//! - `perms`: changes and listings of roles;
+//! - `session`: a session, from its first packet to its end;
 //! - `script`: sessions one after the other, and what is printed of them;
 //! - `status`: how a run of the program ends;
 //! - `check`: a conf, and what is printed of it;
 //! - `words`: the words by which the program is called;
-//! - `lone`, `program`: the program run by one caller, and the program;
-//! - `door`, `memory_door`, `post`: where a worker's links come from, and where it stands;
-//! - `standard`: the standard input and output.
+//! - `lone`, `program`: the program run by one caller, and the program.
+//!
+//! The frames of a script are of the crate `script_frames`; doors, posts and the standard input and output are of
+//! `edge_links`.
 #![tactic(auto)]
 
 mod check;
 #[cfg(test)]
 mod check_tests;
-mod commands;
-mod create;
-mod door;
-#[cfg(test)]
-mod edge_tests;
-mod end;
-mod first_packet;
-mod frames;
-mod gate;
 mod lone;
 #[cfg(test)]
 mod lone_tests;
-mod memory_door;
-mod post;
+mod perms;
 mod program;
 #[cfg(test)]
 mod push_tests;
-mod receiving;
-mod reports;
-mod said;
 mod script;
 mod session;
 #[cfg(test)]
 mod session_tests;
-mod standard;
 mod status;
-mod text;
 mod words;
 
 use base_types::NoMemory;
-use gate::OpenGate;
-use memory_door::MemoryDoor;
+use edge_links::{MemoryDoor, Post, StdSink, StdSource};
 use pktline_core::MemoryLink;
-use post::Post;
 use program::shell_main;
-use standard::{StdSink, StdSource};
+use session_core::OpenGate;
 use std::alloc::Global;
 use std::io::BufReader;
 use std::process::ExitCode;

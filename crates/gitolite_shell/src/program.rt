@@ -2,11 +2,10 @@
 ghost use Rattle.std.specs.Prelude.{◌≡◌, map, string_bytes};
 ghost use Rattle.gitolite_shell.specs.Lone.{EndsRun, EndsSurely, IsLegalRun, TellsStatus};
 
-use crate::door::Door;
-use crate::gate::Gate;
 use crate::lone::{Ended, lone_main};
-use crate::post::Post;
+use edge_links::{Door, Post};
 use pktline_core::{Link, Sink, Source};
+use session_core::Gate;
 use std::alloc::Global;
 
 /// Runs the program as the words ask. No command that is built so far takes its sessions through a post.

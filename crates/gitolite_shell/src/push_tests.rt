@@ -1,12 +1,10 @@
 // Sessions that push several commands, or a pack that is refused. The shipped script has the rows of what each is told.
 ghost use Rattle.std.specs.Prelude.{◌≤◌};
 
-use crate::end::SessionEnd;
 use crate::session_tests::{EMPTY, OPENING, first_push, is_granted, new_desk, serve};
-use crate::text::status_line;
-use git_object::ObjectId;
-use hub_core::{Command, CommandList, NoMemory, Outcome, Text};
+use hub::NoMemory;
 use raw_pack::PackFault;
+use session_core::SessionEnd;
 use std::alloc::Global;
 use std::test::Fail;
 
@@ -100,53 +98,17 @@ fn many_creates(alloc: Global, further: u32) -> Result<Vec<u8>, NoMemory>
 }
 
 #[test]
-fn ten_thousand_commands_are_pushed_and_one_more_is_not_built(rt: HostRuntime) -> Result<(), Fail> {
+fn ten_thousand_commands_are_pushed_and_one_more_is_too_long(rt: HostRuntime) -> Result<(), Fail> {
     let alloc = rt.alloc();
     let last = b"0018ok refs/heads/19998\n0000".as_slice();
     for (further, due, text, entries) in [
         (9_999, SessionEnd::Served, last, 2),
-        (10_000, SessionEnd::NotBuilt, b"0011ERR not built", 1),
+        (10_000, SessionEnd::TooLong(10_001), b"0010ERR too long", 1),
     ] {
         let mut desk = new_desk(alloc)?;
         let (end, written) = serve(alloc, &mut desk, &many_creates(alloc, further)?, 65_520)?;
         assert!(rt; end == due && written.ends_with(text));
         assert_eq!(rt; desk.into_hub().into_log().len(), entries);
-    }
-    Ok(())
-}
-
-// What a lone session can't be told, but two at once, or a push that is atomic.
-#[test]
-fn a_command_is_told_why_it_is_not_done(rt: HostRuntime) -> Result<(), Fail> {
-    let alloc = rt.alloc();
-    let id = ObjectId::from_hex(b"1111111111111111111111111111111111111111").ok_or("an id")?;
-    let mut commands = CommandList::new(alloc);
-    commands.push(Command {
-        old: ObjectId::zero(),
-        new: id,
-        name: Text::of(alloc, b"refs/heads/a")?,
-    })?;
-    let command = commands.get(0).ok_or("a command")?;
-    for (outcome, line) in [
-        (
-            Outcome::Stale(id),
-            "ng refs/heads/a stale, it is 1111111111111111111111111111111111111111\n",
-        ),
-        (
-            Outcome::AtomicOther(0),
-            "ng refs/heads/a atomic push refused with refs/heads/a\n",
-        ),
-        (
-            Outcome::Collided(id),
-            "ng refs/heads/a name collision 1111111111111111111111111111111111111111\n",
-        ),
-        (
-            Outcome::Full(4_294_967_296),
-            "ng refs/heads/a repository would have 4294967296 objects\n",
-        ),
-    ] {
-        let text = status_line(alloc, &commands, command, &outcome)?;
-        assert_eq!(rt; text.as_slice(), line.as_bytes());
     }
     Ok(())
 }

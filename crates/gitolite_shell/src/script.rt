@@ -3,18 +3,17 @@ ghost use Rattle.std.specs.Prelude.{◌≡◌, IfOk, IfErr, IfSome, IfNone, IsTr
 ghost use Rattle.std.specs.Io.KnownBytes.{Appends};
 ghost use Rattle.pktline_core.specs.Links.{IsLater};
 ghost use Rattle.interaction_tree.specs.Traces.{Ended, Failed, Failure};
-ghost use Rattle.gitolite_shell.specs.End.{halt_of};
+ghost use Rattle.session_core.specs.End.{halt_of};
 ghost use Rattle.gitolite_shell.specs.Script.{end_word, fault_text, reply_text};
 ghost use Rattle.gitolite_shell.specs.RunningScripts.{AdvancesOne, FindsEnd, LacksSession, RunsScript, Serves, StopsAdvancing, StopsScript, StopsWriting, TellsInput, TellsOutput};
 
-use crate::end::SessionEnd;
-use crate::frames::{FrameFault, read_frame};
-use crate::gate::OpenGate;
 use crate::session::session;
 use base_types::NoMemory;
-use hub_core::Desk;
+use hub::Desk;
 use itoa::Buffer;
 use pktline_core::{MemoryLink, Sink, Source, WriteFault, write_all};
+use script_frames::{FrameFault, read_frame};
+use session_core::{OpenGate, SessionEnd};
 use std::alloc::Global;
 
 /// Why a script ended before its input did.
@@ -51,6 +50,11 @@ fn word(end: SessionEnd) -> Option<&'static str>
         SessionEnd::Served => Some("served"),
         SessionEnd::Denied => Some("denied"),
         SessionEnd::NoRepo => Some("no-repo"),
+        SessionEnd::BadCommand => Some("bad-command"),
+        SessionEnd::BadUser => Some("bad-user"),
+        SessionEnd::Malformed(_) => Some("malformed"),
+        SessionEnd::TooLong(_) => Some("too-long"),
+        SessionEnd::Truncated => Some("truncated"),
         SessionEnd::BadPack(_) => Some("bad-pack"),
         SessionEnd::NotBuilt => Some("not-built"),
         SessionEnd::ReadFault => None,

@@ -1,9 +1,9 @@
 // Sessions over a link of memory and the only desk of a new hub.
-use crate::end::SessionEnd;
-use crate::gate::{Gate, OpenGate};
 use crate::session::session;
-use hub_core::{EnterKept, EntryList, Event, Hub, LoneDesk, NoMemory, Outcome, Text};
+use conf_lex::UserName;
+use hub::{EnterKept, EntryList, Event, Hub, LoneDesk, NoMemory, Outcome};
 use pktline_core::MemoryLink;
+use session_core::{Gate, OpenGate, SessionEnd};
 use std::alloc::Global;
 use std::test::Fail;
 
@@ -43,7 +43,9 @@ pub fn first_push(alloc: Global) -> Result<Vec<u8>, NoMemory> {
 }
 
 pub fn new_desk(alloc: Global) -> Result<LoneDesk, NoMemory> {
-    let admin = Text::of(alloc, b"admin")?;
+    let Some(admin) = UserName::parse(alloc, b"admin")? else {
+        unreachable!()
+    };
     Ok(LoneDesk::new(Hub::start(alloc, &admin)?))
 }
 
@@ -68,7 +70,7 @@ pub fn is_answered(log: &EntryList, place: usize, due: EnterKept) -> bool {
     };
     match &entry.event {
         Event::Entered { answer, .. } => *answer == due,
-        Event::Pushed { .. } => false,
+        _ => false,
     }
 }
 
@@ -80,8 +82,8 @@ pub fn is_granted(log: &EntryList, place: usize) -> bool {
 pub fn told(log: &EntryList, place: usize) -> Option<&Outcome> {
     let entry = log.get(place)?;
     match &entry.event {
-        Event::Entered { .. } => None,
         Event::Pushed { outcomes, .. } => outcomes.get(0),
+        _ => None,
     }
 }
 
@@ -112,7 +114,7 @@ fn a_first_push_is_done_and_a_second_is_told(rt: HostRuntime) -> Result<(), Fail
     }
     let log = desk.into_hub().into_log();
     assert!(rt; log.len() == 4 && is_granted(&log, 0) && is_granted(&log, 2));
-    assert!(rt; told(&log, 1) == Some(&Outcome::Done));
+    assert!(rt; matches!(told(&log, 1), Some(Outcome::Done)));
     assert!(rt; matches!(told(&log, 3), Some(Outcome::NotAdvertised(_))));
     Ok(())
 }
@@ -172,12 +174,109 @@ fn the_gate_stands_behind_an_opening(rt: HostRuntime) -> Result<(), Fail> {
     let denied = b"002bcarol git-receive-pack 'gitolite-admin'".as_slice();
     for (input, due, calls, place) in [
         (denied, SessionEnd::Denied, 0, None),
-        (OPENING, SessionEnd::NotBuilt, 1, Some(1)),
+        (OPENING, SessionEnd::Truncated, 1, Some(1)),
     ] {
         let input = input.to_vec(alloc)?;
         let mut link = MemoryLink::new(input, 3, Vec::new(alloc), Vec::new(alloc));
         assert_eq!(rt; session(alloc, &mut link, &mut desk, &mut gate), due);
         assert!(rt; gate.calls == calls && gate.place == place);
+    }
+    Ok(())
+}
+
+const FORTY: &[u8] = b"1c73cda3964d5dd51bdaad94efd235c910cf59de";
+
+// Whether a first session over an opening and these bytes ends so, with this behind the advertisement.
+fn ends_behind_opening(
+    alloc: Global,
+    rest: &[u8],
+    due: SessionEnd,
+    reply: &[u8],
+) -> Result<bool, NoMemory> {
+    let mut input = OPENING.to_vec(alloc)?;
+    input.extend_from_slice(rest)?;
+    let mut desk = new_desk(alloc)?;
+    let (end, written) = serve(alloc, &mut desk, &input, 9)?;
+    let is_due = written.starts_with(EMPTY) && written.ends_with(reply);
+    Ok(end == due && is_due && written.len() == EMPTY.len() + reply.len())
+}
+
+#[test]
+fn what_leaves_the_form_has_its_end(rt: HostRuntime) -> Result<(), Fail> {
+    let alloc = rt.alloc();
+    let malformed = b"0017ERR malformed input".as_slice();
+    for (rest, due, reply) in [
+        ("0000", SessionEnd::Served, b"".as_slice()),
+        ("", SessionEnd::Truncated, b"".as_slice()),
+        ("00", SessionEnd::Truncated, b"".as_slice()),
+        ("0003", SessionEnd::Malformed(36), malformed),
+        ("0004", SessionEnd::Malformed(36), malformed),
+        ("0005\n", SessionEnd::Malformed(36), malformed),
+    ] {
+        assert!(rt;
+            ends_behind_opening(alloc, rest.as_bytes(), due, reply)?,
+            "{rest}"
+        );
+    }
+    let mut second = b"00720000000000000000000000000000000000000000 ".to_vec(alloc)?;
+    second.extend_from_slice(FORTY)?;
+    second.extend_from_slice(b" refs/heads/aaa\0report-status")?;
+    second.extend_from_slice(b"0005x")?;
+    let due = SessionEnd::Malformed(36 + 114);
+    assert!(rt; ends_behind_opening(alloc, &second, due, malformed)?);
+    Ok(())
+}
+
+#[test]
+fn a_first_packet_has_its_end(rt: HostRuntime) -> Result<(), Fail> {
+    let alloc = rt.alloc();
+    for (input, due, reply) in [
+        ("", SessionEnd::Truncated, ""),
+        ("0000", SessionEnd::BadCommand, "0013ERR bad command"),
+        ("0003", SessionEnd::Malformed(0), "0017ERR malformed input"),
+        (
+            "0025carol! git-receive-pack 'testing'",
+            SessionEnd::BadUser,
+            "0010ERR bad user",
+        ),
+        (
+            "001dcarol git-fetch 'testing'",
+            SessionEnd::BadCommand,
+            "0013ERR bad command",
+        ),
+        (
+            "0023carol git-receive-pack 'nothing",
+            SessionEnd::BadCommand,
+            "0013ERR bad command",
+        ),
+        (
+            "0023carol git-upload-pack 'testing'",
+            SessionEnd::NotBuilt,
+            "0011ERR not built",
+        ),
+        (
+            "0024carol git-receive-pack 'nothing'",
+            SessionEnd::Denied,
+            "002eERR W any nothing carol DENIED by fallthru",
+        ),
+        ("0020carol perms -l testing", SessionEnd::Truncated, ""),
+        (
+            "001acarol perms -l testing",
+            SessionEnd::Served,
+            "002aperms: not a wild repository of yours\n0000",
+        ),
+        (
+            "0026carol perms testing + OWNERS carol",
+            SessionEnd::Served,
+            "0018perms: no such role\n0000",
+        ),
+    ] {
+        let mut desk = new_desk(alloc)?;
+        let (end, written) = serve(alloc, &mut desk, input.as_bytes(), 65_520)?;
+        assert!(rt;
+            end == due && written.as_slice() == reply.as_bytes(),
+            "{input}"
+        );
     }
     Ok(())
 }

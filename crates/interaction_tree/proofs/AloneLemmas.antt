@@ -2,7 +2,7 @@
 use Rattle.std.proofs.Common.{◌≡◌, ℕ, List, [], ◌∷◌, ◌++◌, take, drop, map, Result, Ok, Err, refl, sym, ◌∙◌, ap, subst, append_assoc}
 use Rattle.std.proofs.lemmas.List.{append-nil, drop-append-le}
 use Rattle.base_types.specs.Fronts.{Front, Whole, Broken, Partial}
-use Rattle.hub_core.specs.declared.entry.Entry.{Entry}
+use Rattle.hub_history.specs.declared.entry.Entry.{Entry}
 use Rattle.interaction_tree.specs.Wanted.{Wanted, Value, Fault, front_of, Reply, shown, by_front}
 use Rattle.interaction_tree.specs.Requests.{Answers, OwnEntry, asked}
 use Rattle.interaction_tree.specs.Interaction.{CutOff, Interaction, gives, ends, writes, reads, asks}

@@ -6,9 +6,9 @@ use Rattle.std.proofs.Math.Seq.{drop-length, take-length}
 use Rattle.std.proofs.lemmas.List.{append-nil, drop-append-le, take-append-le}
 use Rattle.std.proofs.lemmas.Bool.Decides.{nat_tests}
 use Rattle.std.proofs.lemmas.List.Elements.{filter-append}
-use Rattle.hub_core.specs.declared.entry.Entry.{Entry}
-use Rattle.hub_core.specs.History.{IsLegal}
-use Rattle.hub_core.specs.Desk.{DeskView, IsOfAnother, IsSound, mine}
+use Rattle.hub_history.specs.declared.entry.Entry.{Entry}
+use Rattle.hub_history.specs.History.{IsLegal}
+use Rattle.hub.specs.Desk.{DeskView, IsOfAnother, IsSound, mine}
 use Rattle.interaction_tree.specs.Requests.{Answers, Agrees, OwnEntry, entry_of, asked, own_behind, own_in}
 use Rattle.interaction_tree.specs.Runs.{MakesAll}
 use Rattle.interaction_tree.specs.Growth.{GrowsBy, own_since}

@@ -4,7 +4,7 @@ use Rattle.std.specs.Bool.{⊤}
 use Rattle.std.specs.Io.KnownBytes.{IsAtEnd, Consumes}
 use Rattle.base_types.specs.Counts.{HasRisen}
 use Rattle.pktline_core.specs.LinkState.{LinkState}
-use Rattle.hub_core.specs.Desk.{DeskView}
+use Rattle.hub.specs.Desk.{DeskView}
 use Rattle.interaction_tree.specs.Interaction.{Interaction}
 use Rattle.interaction_tree.specs.Traces.{Halt, Reading, Writing, Memory, Ended, Failed}
 use Rattle.interaction_tree.specs.Runs.{Runs}

@@ -2,7 +2,7 @@
 use Rattle.std.proofs.Common.{◌≡◌, inl, inr, ℕ, Bool, true, false, List, [], ◌∷◌, take, drop, Option, Result, Ok, Err, refl, ap}
 use Rattle.base_types.specs.Fronts.{Front, Whole, Broken, Partial}
 use Rattle.pktline_core.specs.LinkState.{LinkState}
-use Rattle.hub_core.specs.Desk.{DeskView}
+use Rattle.hub.specs.Desk.{DeskView}
 use Rattle.interaction_tree.specs.Wanted.{front_of, by_front}
 use Rattle.interaction_tree.specs.Requests.{OwnEntry}
 use Rattle.interaction_tree.specs.Interaction.{CutOff, Interaction, gives, ends, writes, reads, asks, ◌>>=◌, cut_as, ending_as}

@@ -7,7 +7,7 @@ use Rattle.pktline_core.specs.Reading.{ReadsPacket, packet_of, answer_of}
 use Rattle.pktline_core.specs.declared.packets.Pkt.{Pkt}
 use Rattle.pktline_core.specs.declared.packets.PktFault.{PktFault}
 use Rattle.pktline_core.specs.declared.packets.PktFault.TheVariants.{Truncated, BadLength, ReadFault}
-use Rattle.hub_core.specs.Desk.{DeskView}
+use Rattle.hub.specs.Desk.{DeskView}
 use Rattle.interaction_tree.specs.Wanted.{Packet, Reply}
 use Rattle.interaction_tree.specs.Interaction.{CutOff, Interaction, ◌>>=◌, read}
 use Rattle.interaction_tree.specs.Traces.{Reading, Halt, Ended, Failed}

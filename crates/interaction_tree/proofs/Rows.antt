@@ -6,11 +6,11 @@ use Rattle.pktline_core.specs.LinkState.{LinkState}
 use Rattle.pktline_core.specs.Packets as packets
 use Rattle.pktline_core.specs.Packets.{packet_front}
 use Rattle.pktline_core.specs.declared.packets.PktFault.{PktFault}
-use Rattle.hub_core.specs.declared.verdict.Want.TheVariants.{Read}
-use Rattle.hub_core.specs.declared.entry.EnterKept.{EnterKept}
-use Rattle.hub_core.specs.declared.entry.EnterKept.TheVariants.{Granted, NoRepo}
-use Rattle.hub_core.specs.declared.entry.Event.{Event}
-use Rattle.hub_core.specs.declared.entry.Event.TheVariants.{Entered}
+use Rattle.access_check.specs.declared.verdicts.Want.TheVariants.{Read}
+use Rattle.hub_history.specs.declared.entry.EnterKept.{EnterKept}
+use Rattle.hub_history.specs.declared.entry.EnterKept.TheVariants.{Granted, NoRepo}
+use Rattle.hub_history.specs.declared.entry.Event.{Event}
+use Rattle.hub_history.specs.declared.entry.Event.TheVariants.{Entered}
 use Rattle.interaction_tree.specs.Wanted.{Packet, front_of}
 use Rattle.interaction_tree.specs.Requests.{OwnEntry, Request, Enter}
 use Rattle.interaction_tree.specs.Interaction.{Interaction, gives, ends, writes, ◌>>=◌, write, read, ask}

@@ -10,7 +10,7 @@ use Rattle.pktline_core.specs.declared.links.WriteFault.{WriteFault}
 use Rattle.pktline_core.specs.declared.links.WriteFault.TheVariants as write
 use Rattle.pktline_core.proofs.LinkLemmas.{appends_more, consumes_more, later_same, later_more, risen_later}
 use Rattle.raw_pack.specs.Reading.{IsNoMore}
-use Rattle.hub_core.specs.Desk.{DeskView, MakesEntry}
+use Rattle.hub.specs.Desk.{DeskView, MakesEntry}
 use Rattle.interaction_tree.specs.Wanted.{Wanted, Value, Fault, front_of, Reply, shown}
 use Rattle.interaction_tree.specs.Requests.{OwnEntry, asked}
 use Rattle.interaction_tree.specs.Interaction.{CutOff, Interaction, gives, ends, writes, reads, ◌>>=◌, write, read, ask}

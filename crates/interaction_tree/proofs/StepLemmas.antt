@@ -14,19 +14,25 @@ use Rattle.raw_pack.specs.Reading.{ReadsFront, DecidesFault, ShowsFault}
 use Rattle.raw_pack.specs.declared.fault.PackFault.{PackFault}
 use Rattle.raw_pack.specs.declared.fault.PackFault.TheVariants as pack
 use Rattle.ref_store.specs.declared.command.Command.{Command}
-use Rattle.hub_core.specs.declared.outcome.Outcome.{Outcome}
-use Rattle.hub_core.specs.declared.verdict.Want.{Want}
-use Rattle.hub_core.specs.declared.entry.Entry.{Entry}
-use Rattle.hub_core.specs.declared.entry.EnterKept.{EnterKept}
-use Rattle.hub_core.specs.declared.entry.Event.TheVariants.{Entered, Pushed}
-use Rattle.hub_core.specs.declared.hub.Entered as hub_entered
-use Rattle.hub_core.specs.declared.hub.Pushed.TheVariants.{Settled}
-use Rattle.hub_core.specs.Name.{Name}
-use Rattle.hub_core.specs.Pin.{Opening}
-use Rattle.hub_core.specs.Answer.{kept}
-use Rattle.hub_core.specs.Desk.{DeskView, MakesEntry, Enters, Pushes}
+use Rattle.hub_history.specs.declared.outcome.Outcome.{Outcome}
+use Rattle.access_check.specs.declared.verdicts.Want.{Want}
+use Rattle.hub_history.specs.declared.entry.Entry.{Entry}
+use Rattle.hub_history.specs.declared.entry.EnterKept.{EnterKept}
+use Rattle.hub_history.specs.declared.entry.Event.TheVariants.{Entered, Pushed, Permitted, Looked}
+use Rattle.hub_history.specs.declared.entry.PermChange.{PermChange}
+use Rattle.hub_history.specs.declared.entry.PermsKept.{PermsKept}
+use Rattle.hub_history.specs.Roles.{kept_of}
+use Rattle.wild_perms.specs.declared.answer.PermsAnswer.{PermsAnswer}
+use Rattle.repo_listing.specs.declared.lines.LookLine.{LookLine}
+use Rattle.hub.specs.declared.answer.Looked.TheVariants.{Lines}
+use Rattle.hub.specs.declared.answer.Entered as hub_entered
+use Rattle.hub.specs.declared.answer.Pushed.TheVariants.{Settled}
+use Rattle.ref_store.specs.Refs.{Name}
+use Rattle.hub_history.specs.Opening.{Opening}
+use Rattle.hub.specs.Answer.{kept}
+use Rattle.hub.specs.Desk.{DeskView, MakesEntry, Enters, Looks, Permits, Pushes}
 use Rattle.interaction_tree.specs.Wanted.{Packet, Pack, front_of, Reply}
-use Rattle.interaction_tree.specs.Requests.{Enter, Push, request_of}
+use Rattle.interaction_tree.specs.Requests.{Enter, Push, Permit, Look, request_of}
 use Rattle.interaction_tree.specs.Interaction.{CutOff, Interaction, gives, ends, writes, ◌>>=◌, read, ask}
 use Rattle.interaction_tree.specs.Traces.{Reading, Memory, Halt, Ended, Failed}
 use Rattle.interaction_tree.specs.Runs.{Runs, TakesOnly}
@@ -107,6 +113,17 @@ pub runs_entered : {E : Type 0} (a : LinkState) (d e : DeskView) (user repo : Na
 runs_entered a d e user repo want result answer is enters = runs_made a d e enters.0 (record { caller = d.caller; event = Entered user repo want answer }) (rw is at enters.1)
 
 -- a push was settled
-pub runs_pushed : {E : Type 0} (a : LinkState) (d e : DeskView) (pin : Opening) (contents : List Content) (commands : List Command) (atomic : Bool) (outcomes : List Outcome) → (pushes : Pushes d e pin contents commands atomic (Settled outcomes))
-    → Runs {E = E} a a d e (ask (Push pin.place contents commands atomic)) (Ok (record { before = pushes.0; entry = record { caller = d.caller; event = Pushed pin.place contents commands atomic outcomes } }))
-runs_pushed a d e pin contents commands atomic outcomes pushes = runs_made a d e pushes.0 (record { caller = d.caller; event = Pushed pin.place contents commands atomic outcomes }) pushes.1
+pub runs_pushed : {E : Type 0} (a : LinkState) (d e : DeskView) (pin : Opening) (contents : List Content) (commands : List Command) (atomic : Bool) (outcomes : List Outcome) (made : List Name)
+    → (pushes : Pushes d e pin contents commands atomic (Settled outcomes made))
+    → Runs {E = E} a a d e (ask (Push pin.place contents commands atomic)) (Ok (record { before = pushes.0; entry = record { caller = d.caller; event = Pushed pin.place contents commands atomic outcomes made } }))
+runs_pushed a d e pin contents commands atomic outcomes made pushes = runs_made a d e pushes.0 (record { caller = d.caller; event = Pushed pin.place contents commands atomic outcomes made }) pushes.1
+
+-- roles were changed or listed, or not
+pub runs_permitted : {E : Type 0} (a : LinkState) (d e : DeskView) (user repo : Name) (change : PermChange) (result : PermsAnswer) (answer : PermsKept) → kept_of result ≡ Some answer → (permits : Permits d e user repo change result)
+    → Runs {E = E} a a d e (ask (Permit user repo change)) (Ok (record { before = permits.0; entry = record { caller = d.caller; event = Permitted user repo change answer } }))
+runs_permitted a d e user repo change result answer is permits = runs_made a d e permits.0 (record { caller = d.caller; event = Permitted user repo change answer }) (rw is at permits.1)
+
+-- what there is to see was listed
+pub runs_looked : {E : Type 0} (a : LinkState) (d e : DeskView) (user : Name) (lines : List LookLine) → (looks : Looks d e user (Lines lines))
+    → Runs {E = E} a a d e (ask (Look user)) (Ok (record { before = looks.0; entry = record { caller = d.caller; event = Looked user } }))
+runs_looked a d e user lines looks = runs_made a d e looks.0 (record { caller = d.caller; event = Looked user }) looks.1

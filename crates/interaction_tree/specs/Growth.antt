@@ -1,7 +1,7 @@
 -- What a session leaves of its desk.
 use Rattle.std.specs.Prelude.{◌≡◌, List, ◌++◌, length, map}
-use Rattle.hub_core.specs.declared.entry.Entry.{Entry}
-use Rattle.hub_core.specs.Desk.{DeskView, mine}
+use Rattle.hub_history.specs.declared.entry.Entry.{Entry}
+use Rattle.hub.specs.Desk.{DeskView, mine}
 use Rattle.interaction_tree.specs.Requests.{OwnEntry, own_in, entry_of}
 use Rattle.interaction_tree.specs.Runs.{MakesAll}
 

@@ -15,8 +15,8 @@ use Rattle.pktline_core.specs.declared.packets.PktFault.TheVariants.{Truncated}
 use Rattle.raw_pack.specs.Packs.{pack_front}
 use Rattle.raw_pack.specs.Reading.{ReadsFront}
 use Rattle.raw_pack.specs.declared.fault.PackFault.{PackFault}
-use Rattle.hub_core.specs.declared.entry.Entry.{Entry}
-use Rattle.hub_core.specs.Desk.{DeskView, IsOfAnother, IsSound, MakesEntry}
+use Rattle.hub_history.specs.declared.entry.Entry.{Entry}
+use Rattle.hub.specs.Desk.{DeskView, IsOfAnother, IsSound, MakesEntry}
 use Rattle.interaction_tree.specs.Wanted.{Wanted, Packet, Pack, Value, Fault, front_of, Reply, shown}
 use Rattle.interaction_tree.specs.Requests.{Request, request_of, Answers, Agrees, AsLogged, OwnEntry, asked, own_in}
 use Rattle.interaction_tree.specs.Interaction.{CutOff, Interaction, gives, ends, writes, reads, ◌>>=◌, write, read, ask, ending_as}

@@ -5,7 +5,7 @@ use Rattle.base_types.specs.Counts.{HasRisen}
 use Rattle.pktline_core.specs.LinkState.{LinkState}
 use Rattle.pktline_core.specs.Links.{IsLater, KeepsReading, KeepsWriting, Writes}
 use Rattle.pktline_core.specs.declared.links.WriteFault.{WriteFault}
-use Rattle.hub_core.specs.Desk.{DeskView, MakesEntry}
+use Rattle.hub.specs.Desk.{DeskView, MakesEntry}
 use Rattle.interaction_tree.specs.Requests.{OwnEntry}
 use Rattle.interaction_tree.specs.Interaction.{Interaction}
 use Rattle.interaction_tree.specs.Traces.{Reading, Writing, Memory, Halt, Ended, Failed, IsTrace}

@@ -4,7 +4,7 @@ use Rattle.std.proofs.KnownBytes.{Consumes-nil}
 use Rattle.pktline_core.proofs.LinkLemmas.{later_more, later_same}
 use Rattle.gitolite_shell.specs.declared.check.ReadAllFault.TheVariants.{NoMemory}
 use Rattle.gitolite_shell.proofs.CheckLemmas.{front_of, read_failed, takes_kept}
-use Rattle.gitolite_shell.proofs.ReadingLemmas.{takes_more}
+use Rattle.script_frames.proofs.ReadingLemmas.{takes_more}
 use Rattle.gitolite_shell.proofs.check.read_all.Goals as goal
 
 pub loop-count-init : goal.loop-count-init

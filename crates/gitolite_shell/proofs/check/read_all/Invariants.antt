@@ -1,6 +1,6 @@
 use Rattle.std.proofs.Common.{◌≡◌, ◌-◌, ◌^◌, length}
 use Rattle.pktline_core.specs.Links.{IsLater}
-use Rattle.gitolite_shell.specs.ReadingFrames.{Takes}
+use Rattle.script_frames.specs.ReadingFrames.{Takes}
 use Rattle.gitolite_shell.proofs.check.read_all.Given as goal
 
 abbrev pub invariant-loop-count : goal.invariant-loop-count

@@ -1,9 +1,9 @@
 use Rattle.std.proofs.Common.{◌∙◌, ap, sym, refl, map, string_bytes, subst, List, true, false}
 use Rattle.std.specs.Prelude.{Some, None}
 use Rattle.std.specs.Option.{option_copied}
-use Rattle.hub_core.specs.declared.entry.Entry.{Entry}
-use Rattle.hub_core.specs.LoneDesk.{desk_of}
-use Rattle.hub_core.specs.Hub.{HubView}
+use Rattle.hub_history.specs.declared.entry.Entry.{Entry}
+use Rattle.hub.specs.LoneDesk.{desk_of}
+use Rattle.hub.specs.Hub.{HubView}
 use Rattle.gitolite_shell.specs.Lone.{EndsScript}
 use Rattle.gitolite_shell.specs.Words.{script_admin}
 use Rattle.gitolite_shell.specs.declared.status.Status.{Status}
@@ -37,7 +37,7 @@ returns-in_default-clause-ends g c =
       status = c.print_usage.result;
       number_is = c.number-in_default.ensures;
       ends = by_words words source source sink sink' c.new-in_default.result false None c.print_usage.result (sym c.is_check.ensures ∙ c.if-is_check.false)
-          (sym c.script_admin.ensures ∙ ap option_copied c.in_default.is) (c.print_usage.ensures.ends, refl, c.new-in_default.ensures);
+          (sym c.script_admin.ensures.admin ∙ ap option_copied c.in_default.is) (c.print_usage.ensures.ends, refl, c.new-in_default.ensures);
     }
 
 pub returns-in_default-clause-sure : goal.returns-in_default-clause-sure
@@ -48,7 +48,7 @@ returns-in_default-new_desk-clause-ends g c =
     let words = map string_bytes c.args.words.now in
     let source = g.I.Endpoint.state c.args.input.now in
     let sink = g.O.Endpoint.state c.args.output.now in
-    let asked = sym c.script_admin.ensures ∙ ap option_copied c.in-Some.is in
+    let asked = sym c.script_admin.ensures.admin ∙ ap option_copied c.in-Some.is in
     record {
       status = NoMemory;
       number_is = c.number-in_default-new_desk.ensures;
@@ -68,7 +68,7 @@ returns-clause-ends g c =
     let sink' = g.O.Endpoint.state c.run_script.new.output in
     let log = (desk_of c.run_script.new.desk).seen in
     let admin = c.in-Some.admin.now in
-    let asked = sym c.script_admin.ensures ∙ ap option_copied c.in-Some.is in
+    let asked = sym c.script_admin.ensures.admin ∙ ap option_copied c.in-Some.is in
     let ends : EndsScript admin source source' sink sink' log c.status_of-status.result =
     subst (λ (s : Status). EndsScript admin source source' sink sink' log s) (sym c.status_of-status.ensures)
     (ended_new source source' sink sink' admin log (desk_of c.in-Ok.desk) c.in-Ok.ensures c.run_script.result c.run_script.ensures.ok c.run_script.ensures.err) in
@@ -94,4 +94,4 @@ returns-in_default-new_desk-clause-legal g c = legal_none (script_admin (map str
 pub returns-clause-legal : goal.returns-clause-legal
 returns-clause-legal g c =
     legal_script (script_admin (map string_bytes c.args.words.now)) c.in-Some.admin.now (desk_of c.in-Ok.desk) (desk_of c.run_script.new.desk) c.into_log.result
-    (sym c.script_admin.ensures ∙ ap option_copied c.in-Some.is) c.in-Ok.ensures c.run_script.ensures.admin c.sound.ensures (c.into_log.ensures ∙ ap (λ (h : HubView). h.log) c.into_hub.ensures)
+    (sym c.script_admin.ensures.admin ∙ ap option_copied c.in-Some.is) c.in-Ok.ensures c.run_script.ensures.admin c.sound.ensures (c.into_log.ensures ∙ ap (λ (h : HubView). h.log) c.into_hub.ensures)

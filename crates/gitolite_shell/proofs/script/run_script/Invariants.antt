@@ -1,7 +1,7 @@
 use Rattle.std.proofs.Common.{◌≡◌, ℕ, ◌+◌, ◌-◌, ◌^◌, List, length}
 use Rattle.std.specs.List.{flat_map}
 use Rattle.pktline_core.specs.Links.{IsLater}
-use Rattle.gitolite_shell.specs.Frames.{frame_text}
+use Rattle.script_frames.specs.Frames.{frame_text}
 use Rattle.gitolite_shell.specs.RunningScripts.{Advances}
 use Rattle.gitolite_shell.proofs.script.run_script.Given as goal
 

@@ -1,9 +1,9 @@
 use Rattle.std.proofs.Common.{rules}
 use Rattle.interaction_tree.specs.Interaction.{ends}
 use Rattle.interaction_tree.proofs.RunLemmas.{runs_memory, runs_ends}
-use Rattle.gitolite_shell.specs.declared.end.SessionEnd.TheVariants.{Served, NoMemory}
+use Rattle.session_core.specs.declared.end.SessionEnd.TheVariants.{Served, NoMemory}
 use Rattle.gitolite_shell.specs.Session.{session}
-use Rattle.gitolite_shell.proofs.StepLemmas.{halts, goes}
+use Rattle.session_core.proofs.StepLemmas.{halts, goes}
 use Rattle.gitolite_shell.proofs.EndLemmas.{session_keeps}
 use Rattle.gitolite_shell.proofs.session.session.Goals as goal
 
@@ -15,11 +15,11 @@ returns-in_default g c =
 pub returns-in-Ok-serve : goal.returns-in-Ok-serve
 unfolding session
 returns-in-Ok-serve g c =
-    let k = session_keeps _ _ _ _ _ Served c.sound.ensures (goes _ _ _ _ _ (λ u. ends Served) c.serve.result _ _ c.in-Ok-serve.field-0 _ c.in-Ok-serve.is c.serve.ensures.runs (runs_ends _ _ Served)) in
+    let k = session_keeps _ _ _ _ _ Served c.sound.ensures (goes _ _ _ _ _ (λ u. ends Served) c.serve.result _ _ c.in-Ok-serve.field-0 _ c.in-Ok-serve.is (rw c.in-Ok.ensures.offset at c.serve.ensures.runs) (runs_ends _ _ Served)) in
     record { turn = k.turn; tells = search rules; grows = k.grows; sound = k.sound; goes = c.serve.ensures.goes; causes = k.causes; sure = k.sure; later = k.later }
 
 pub returns : goal.returns
 unfolding session
 returns g c =
-    let k = session_keeps _ _ _ _ _ c.in-Err.end c.sound.ensures (halts _ _ _ _ _ (λ u. ends Served) c.serve.result c.in-Err.end c.in-Err.is c.serve.ensures.runs) in
+    let k = session_keeps _ _ _ _ _ c.in-Err.end c.sound.ensures (halts _ _ _ _ _ (λ u. ends Served) c.serve.result c.in-Err.end c.in-Err.is (rw c.in-Ok.ensures.offset at c.serve.ensures.runs)) in
     record { turn = k.turn; tells = search rules; grows = k.grows; sound = k.sound; goes = c.serve.ensures.goes; causes = k.causes; sure = k.sure; later = k.later }

@@ -1,0 +1,257 @@
+#!/usr/bin/env python3
+"""The script that is shipped: shipped_script.py > crates/gitolite_shell/stdin
+
+Each session is a line below: who asks for what, the commands, and the pack's objects. Nothing is proved of it and the gate doesn't run it.
+"""
+import sys
+
+from push_costs import ZERO, object_id, packet, raw_pack, tree
+
+CAROL = b"author Carol <carol@example.com> 1700000000 +0000\ncommitter Carol <carol@example.com> 1700000000 +0000\n\n"
+EMPTY_TREE = ("tree", b"")
+EMPTY_BLOB = ("blob", b"")
+NO_OBJECTS = raw_pack([])
+out = sys.stdout.buffer
+
+
+def hexed(item):
+    return ZERO if item is None else object_id(item).hex()
+
+
+def carols(word, root, *parents):
+    lines = b"".join(b"parent %s\n" % hexed(parent).encode() for parent in parents)
+    return "commit", b"tree " + hexed(root).encode() + b"\n" + lines + CAROL + word + b"\n"
+
+
+def command(old, new, ref, words=b""):
+    return packet(("%s %s " % (hexed(old), hexed(new))).encode() + ref + words)
+
+
+def pushes(who, repo, changes, pack=NO_OBJECTS, words=b"\0report-status", feed=b""):
+    """A push of changes, each an old object, a new one and a ref; `pack` are the bytes behind the flush."""
+    lines = [command(old, new, ref, (words if at == 0 else b"") + feed) for at, (old, new, ref) in enumerate(changes)]
+    return asks(who, b"git-receive-pack '%s'" % repo) + b"".join(lines) + b"0000" + pack
+
+
+def asks(who, words):
+    return packet(who + b" " + words)
+
+
+def session(body):
+    out.write(b"session %d\n" % len(body) + body + b"\n")
+
+
+def files(named):
+    """A commit whose tree has these files, and all of its objects: names of the form FILE or FOLDER/FILE, in order."""
+    folders, objects, rows = {}, [], []
+    for name, text in named:
+        blob = ("blob", text)
+        objects.append(blob)
+        folder, _, last = name.rpartition(b"/")
+        folders.setdefault(folder, []).append((b"100644", last, object_id(blob)))
+    for folder, entries in folders.items():
+        if folder:
+            inner = tree(entries)
+            objects.append(inner)
+            rows.append((b"40000", folder, object_id(inner)))
+        else:
+            rows += entries
+    root = tree(sorted(rows, key=lambda row: row[1] + (b"/" if row[0] == b"40000" else b"")))
+    return root, objects + [root]
+
+
+def conf(text, *parents):
+    """A commit of a conf, and its objects."""
+    root, objects = files([(b"conf/gitolite.conf", text)])
+    made = carols(b"conf", root, *parents)
+    return made, [made] + objects
+
+
+# I. carol pushes into `testing`, by the rules of the setup
+
+first = carols(b"first", EMPTY_TREE)
+first_pack = raw_pack([first, EMPTY_TREE])
+row = tree([(b"100644", b"a", object_id(EMPTY_BLOB))])
+x = ("commit", b"tree " + hexed(row).encode() + b"\n\nx\n")
+second = carols(b"second", EMPTY_TREE, first)
+third = carols(b"third", EMPTY_TREE, second)
+side = carols(b"side", EMPTY_TREE, first)
+
+
+def carol(changes, pack=NO_OBJECTS, words=b"\0report-status", feed=b""):
+    session(pushes(b"carol", b"testing", changes, pack, words, feed))
+
+
+def branch(name):
+    return b"refs/heads/" + name
+
+
+# 1 to 10: outcomes of creates
+carol([(None, first, branch(b"master"))], first_pack)
+carol([(None, first, branch(b"master"))], first_pack)
+carol([(None, first, branch(b"a"))])
+carol([(None, first, branch(b"b")), (None, first, branch(b"b"))])
+carol([(None, first, branch(b"a..b")), (None, first, branch(b"b"))], feed=b"\n")
+carol([(None, first, branch(b"a/b")), (None, first, branch(b"c")), (None, first, branch(b"c/d"))])
+carol([(None, x, branch(b"d"))], raw_pack([x, row]))
+carol([(None, EMPTY_TREE, branch(b"d")), (None, EMPTY_TREE, b"refs/x/tree")])
+carol([(None, x, branch(b"d"))])
+carol([(None, x, branch(b"d"))], raw_pack([x, row, EMPTY_BLOB]))
+
+# 11 to 21: packs that are refused
+two = [(None, first, branch(b"e")), (None, first, branch(b"e.."))]
+for pack in [
+    first_pack[:-1],
+    first_pack[:-1] + b"\0",
+    b"",
+    b"PACX",
+    b"PACK\0\0\0\3",
+    b"PACK\0\0\0\2\0\1\x86\xa1",
+    b"PACK\0\0\0\2\0\0\0\1\x60",
+    b"PACK\0\0\0\2\0\0\0\1\0",
+    b"PACK\0\0\0\2\0\0\0\1\xb0\x80\x80\x80\x80",
+    b"PACK\0\0\0\2\0\0\0\1\x10",
+]:
+    carol(two, pack)
+unsorted = tree([(b"100644", b"b", object_id(EMPTY_BLOB)), (b"100644", b"a", object_id(EMPTY_BLOB))])
+carol(two, raw_pack([unsorted])[:-20])
+
+# 22 to 30: updates, rewinds and deletes
+carol([(first, second, branch(b"master"))], raw_pack([second]))
+carol([(first, third, branch(b"master"))], raw_pack([third]))
+carol([(second, side, branch(b"master"))], raw_pack([side]))
+carol([(side, side, branch(b"master")), (None, None, branch(b"none"))], raw_pack([]))
+carol([(first, None, branch(b"b")), (first, None, branch(b"c"))], b"")
+carol([(first, second, branch(b"a")), (side, None, branch(b"topic"))], words=b"\0report-status atomic")
+carol([(first, second, branch(b"a")), (side, None, branch(b"master"))], words=b"\0 agent=x  atomic report-status")
+carol([(None, first, branch(b"quiet"))], words=b"\0Report-Status")
+carol([(None, first, branch(b"loud"))], first_pack[:-1], words=b"")
+
+# 31 to 46: what leaves the form
+opening = asks(b"carol", b"git-receive-pack 'testing'")
+create = command(None, first, branch(b"e"), b"\0report-status")
+session(opening + b"0000")
+session(opening)
+session(opening + b"0003")
+session(opening + b"00zz0000")
+session(opening + create)
+session(opening + create + b"0004" + b"0000")
+session(opening + create + command(None, first, branch(b"f"), b"\0report-status") + b"0000")
+session(opening + command(None, first, b"", b"\0report-status") + b"0000")
+session(opening + packet(b"zzzz" + create[8:]) + b"0000")
+session(b"")
+session(b"0000")
+session(b"0003")
+session(asks(b"carol!", b"git-receive-pack 'testing'"))
+session(asks(b"carol", b"git-fetch 'testing'"))
+session(asks(b"carol", b"git-receive-pack 'testing"))
+session(asks(b"carol", b"git-upload-pack 'testing'"))
+
+# 47 to 50: names of repositories, refs with odd bytes
+session(asks(b"carol", b"git-receive-pack /testing.git") + b"0000")
+session(asks(b"carol", b"git-receive-pack 'nothing'"))
+session(asks(b"carol", b"git-receive-pack 'gitolite-admin'"))
+carol([(None, first, branch(b"topic")), (None, first, branch(b"l\nf"))])
+
+# II. the admin pushes confs
+
+SETUP = b"repo gitolite-admin\n    RW+  = admin\n\nrepo testing\n    RW+  = @all\n"
+MASTER = b"refs/heads/master"
+WILD = b"""repo CREATOR/[a-z]+
+    C    = alice
+    RW+  = CREATOR
+    RW   = WRITERS
+    R    = READERS
+repo app
+    -    VREF/NAME/Makefile = junior
+    -    VREF/MERGE-CHECK/refs/heads/master = junior
+    RW   = junior
+    RWCD = @all
+"""
+refused, refused_objects = conf(SETUP + b"repo web\n    RW  v[0-9 = carol\n")
+wild, wild_objects = conf(SETUP + WILD)
+
+# 51 to 53: a conf with a fault, a commit without a conf, and one that is taken
+session(pushes(b"admin", b"gitolite-admin", [(None, refused, MASTER)], raw_pack(refused_objects)))
+session(pushes(b"admin", b"gitolite-admin", [(None, first, MASTER)], first_pack))
+session(pushes(b"admin", b"gitolite-admin", [(None, wild, MASTER)], raw_pack(wild_objects)))
+
+# 54 to 67: a repository that alice makes, and its roles
+ALICES = [(None, first, MASTER)]
+session(asks(b"bob", b"git-receive-pack 'bob/x'"))
+session(asks(b"alice", b"git-receive-pack 'alice/x'") + b"0000")
+session(asks(b"bob", b"git-receive-pack 'alice/x'"))
+session(asks(b"alice", b"perms alice/x + WRITERS bob"))
+session(asks(b"alice", b"perms alice/x + WRITERS bob"))
+session(asks(b"alice", b"perms alice/x + READERS cal\n"))
+session(asks(b"alice", b"perms alice/x + OWNERS bob"))
+session(asks(b"bob", b"perms alice/x + READERS bob"))
+session(asks(b"alice", b"perms testing + READERS bob"))
+session(asks(b"alice", b"perms -l 'alice/x.git'"))
+session(pushes(b"bob", b"alice/x", ALICES, first_pack))
+session(asks(b"alice", b"perms alice/x - WRITERS bob"))
+session(asks(b"alice", b"perms alice/x - WRITERS bob"))
+session(asks(b"alice", b"perms alice/x * WRITERS bob"))
+
+# 68 to 76: letters and virtual refs, in `app`
+base_root, base_objects = files([(b"a.c", b"a\n")])
+base = carols(b"base", base_root)
+make_root, make_objects = files([(b"Makefile", b"all:\n"), (b"a.c", b"a\n")])
+make = carols(b"make", make_root, base)
+more_root, more_objects = files([(b"a.c", b"b\n")])
+more = carols(b"more", more_root, base)
+merge = carols(b"merge", more_root, more, make)
+topic = branch(b"topic")
+session(pushes(b"ann", b"app", [(None, base, topic), (None, base, MASTER)], raw_pack([base] + base_objects)))
+session(pushes(b"junior", b"app", [(base, make, topic)], raw_pack([make] + make_objects)))
+session(pushes(b"junior", b"app", [(base, more, topic)], raw_pack([more] + more_objects)))
+session(pushes(b"junior", b"app", [(more, base, topic), (more, None, topic)], NO_OBJECTS))
+session(pushes(b"junior", b"app", [(more, base, topic)], NO_OBJECTS))
+session(pushes(b"junior", b"app", [(more, None, topic)], b""))
+session(pushes(b"junior", b"app", [(None, more, branch(b"new"))], NO_OBJECTS))
+session(pushes(b"ann", b"app", [(base, more, MASTER)], NO_OBJECTS))
+session(pushes(b"junior", b"app", [(more, merge, MASTER)], raw_pack([merge, make] + make_objects)))
+
+# 77 to 83: a conf of eight people and twelve repositories, whose admin is ann
+PEOPLE = b"""@staff     = ann bob
+@interns   = cal
+@web       = site blog shop
+@infra     = dns mail backup
+
+repo gitolite-admin
+    RW+     = ann
+repo @web
+    -   master$ refs/tags/  = @interns
+    RW+ personal/USER/      = @staff @interns
+    -   personal/           = @all
+    RW                      = @staff @interns
+    desc = "public web"
+repo @infra
+    RW+                     = ann
+    R                       = @staff
+    config hooks.mailinglist = infra@example.com
+repo wiki notes
+    RW                      = @all
+repo secrets
+    option deny-rules = 1
+    -                       = bob
+    RW+                     = @staff
+repo docs drafts
+    RWC                     = @staff
+    R                       = @interns     # read only
+"""
+people, people_objects = conf(PEOPLE, wild)
+session(pushes(b"admin", b"gitolite-admin", [(wild, people, MASTER)], raw_pack(people_objects)))
+session(pushes(b"admin", b"gitolite-admin", [(people, wild, MASTER)], NO_OBJECTS))
+session(pushes(b"carol", b"testing", [(None, first, branch(b"late"))]))
+session(
+    pushes(
+        b"cal",
+        b"site",
+        [(None, first, branch(b"personal/cal/x")), (None, first, branch(b"personal/ann/x")), (None, first, MASTER)],
+        first_pack,
+    )
+)
+session(pushes(b"ann", b"docs", [(None, first, branch(b"plan"))], first_pack))
+session(asks(b"bob", b"git-receive-pack 'secrets'"))
+session(asks(b"cal", b"git-receive-pack 'docs'"))

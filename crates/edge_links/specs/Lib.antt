@@ -1,0 +1,4 @@
+pub mod Door
+pub mod MemoryDoors
+pub mod MemoryDoorViews
+pub mod Standard

@@ -1,6 +1,0 @@
-use Rattle.std.proofs.Common.{◌∙◌, sym}
-use Rattle.gitolite_shell.proofs.FrameLemmas.{script_same}
-use Rattle.gitolite_shell.proofs.frames.scripts_differ.Goals as goal
-
-pub returns : goal.returns
-returns c = λ input bodies others rest more p q. script_same bodies others rest more p.small q.small p.stops q.stops (sym p.frames ∙ q.frames)

@@ -1,5 +1,0 @@
-use Rattle.interaction_tree.proofs.RunLemmas.{runs_memory}
-use Rattle.gitolite_shell.proofs.session.refuse_denied.Goals as goal
-
-pub returns-in-Err-clause-runs : goal.returns-in-Err-clause-runs
-returns-in-Err-clause-runs g c = λ desk. runs_memory _ desk _

@@ -1,6 +1,0 @@
-use Rattle.std.proofs.Common.{take}
-use Rattle.hub_core.specs.Running.{Counts}
-use Rattle.hub_core.proofs.judging.names_of.Given as goal
-
-abbrev pub invariant-loop-command : goal.invariant-loop-command
-invariant-loop-command l = Counts l.names (take l.command-index l.commands)

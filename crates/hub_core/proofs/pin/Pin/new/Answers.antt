@@ -1,4 +1,0 @@
-use Rattle.hub_core.proofs.pin.Pin.new.Goals as goal
-
-pub invariant_of-result : goal.invariant_of-result
-invariant_of-result c = c.requires

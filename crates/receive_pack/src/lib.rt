@@ -1,0 +1,19 @@
+//! `git-receive-pack`: what follows an opening for writing.
+//!
+//! - `changes`: what a line says that has a command, and what the client asks for;
+//! - `text`, `reports`: the texts that are written, and the report of a push;
+//! - `commands`: the commands of a push, up to the flush that ends them;
+//! - `receiving`: the advertisement, the pack and the push.
+//!
+//! The rules are in `docs/SESSIONS.md`.
+#![tactic(auto)]
+
+mod changes;
+mod commands;
+mod receiving;
+mod reports;
+#[cfg(test)]
+mod tests;
+mod text;
+
+pub use receiving::receive;

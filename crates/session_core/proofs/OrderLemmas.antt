@@ -1,0 +1,61 @@
+-- No entry is made between what is written and what is read next.
+use Rattle.std.proofs.Common.{◌≡◌, ℕ, Bool, false, Result, Ok, Err, refl}
+use Rattle.pktline_core.specs.Packets as packets
+use Rattle.pktline_core.specs.declared.packets.PktFault.{PktFault}
+use Rattle.hub_history.specs.declared.entry.EnterKept.{EnterKept}
+use Rattle.hub_history.specs.declared.entry.EnterKept.TheVariants as answer
+use Rattle.ref_store.specs.Refs.{Name}
+use Rattle.hub_history.specs.Opening.{Opening}
+use Rattle.interaction_tree.specs.Interaction.{◌>>=◌, write, read, ask}
+use Rattle.interaction_tree.specs.Order.{EntriesFirst}
+use Rattle.interaction_tree.proofs.OrderLemmas.{order_then}
+use Rattle.session_core.specs.declared.end.SessionEnd.{SessionEnd}
+use Rattle.session_core.specs.declared.first_packet.Asked.{Asked}
+use Rattle.session_core.specs.declared.first_packet.FirstLine.{FirstLine}
+use Rattle.session_core.specs.declared.first_packet.FirstLine.TheVariants.{Asks, BadCommand, BadUser}
+use Rattle.session_core.specs.FirstPacket.{first_line, without_feed}
+use Rattle.session_core.specs.Asking.{asked_in, asked_in_line, asking, bad_command}
+use Rattle.session_core.specs.Opening.{by_answer, entering, opening_behind, recorded_answer}
+use Rattle.session_core.specs.Packets.{malformed, next_packet, packet_in, refuse}
+
+-- it read last
+unfoldable pub ReadLast : {A : Type 0} → Bool → A → Type 0
+ReadLast wrote a = wrote ≡ false
+
+order_packet_in : (offset used : ℕ) (found : Result packets.Packet PktFault) → EntriesFirst false (packet_in offset used found) ReadLast
+unfolding EntriesFirst ◌>>=◌ write refuse malformed ReadLast
+order_packet_in offset used (Ok packet) = refl
+order_packet_in offset used (Err fault) = tt
+
+-- whatever was written before
+pub order_next : (wrote : Bool) (offset : ℕ) → EntriesFirst wrote (next_packet offset) ReadLast
+unfolding EntriesFirst ◌>>=◌ read next_packet
+order_next wrote offset = λ reply. order_packet_in offset reply.used reply.found
+
+order_line : (line : FirstLine) → EntriesFirst false (asked_in_line line) ReadLast
+unfolding EntriesFirst ◌>>=◌ write refuse bad_command ReadLast
+order_line (Asks asked) = refl
+order_line BadCommand = tt
+order_line BadUser = tt
+
+order_asked_in : (packet : packets.Packet) → EntriesFirst false (asked_in packet) ReadLast
+unfolding EntriesFirst ◌>>=◌ write refuse bad_command
+order_asked_in (packets.Line payload) = order_line (first_line (without_feed payload))
+order_asked_in packets.Flush = tt
+
+pub order_asking : (offset : ℕ) → EntriesFirst false (asking offset) ReadLast
+unfolding asking ReadLast EntriesFirst
+order_asking offset =
+    order_then false (next_packet offset) _ ReadLast ReadLast (order_next false offset)
+    (λ w next last. rw last (order_then false (asked_in next.0) _ ReadLast ReadLast (order_asked_in next.0) (λ w' asked last'. last')))
+
+order_by_answer : (user repo : Name) (k : EnterKept) (opening : Opening) → EntriesFirst false (by_answer user repo k opening) ReadLast
+unfolding EntriesFirst ◌>>=◌ write refuse ReadLast
+order_by_answer user repo answer.Granted opening = refl
+order_by_answer user repo answer.Created opening = refl
+order_by_answer user repo (answer.Denied verdict) opening = tt
+order_by_answer user repo answer.NoRepo opening = tt
+
+pub order_entering : (admin user repo : Name) → EntriesFirst false (entering admin user repo) ReadLast
+unfolding EntriesFirst ◌>>=◌ ask entering
+order_entering admin user repo = (refl, λ own. order_by_answer user repo (recorded_answer own.entry.event) (opening_behind admin own user repo))

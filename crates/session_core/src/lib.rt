@@ -1,0 +1,29 @@
+//! What every session has: its first packet, its opening, its packets and its ends.
+//!
+//! - `end`: how a session ends;
+//! - `packets`: packets that are written, refusals, and faults of packets that are read;
+//! - `first_packet`, `asking`: what the first packet asks for;
+//! - `denials`: the texts of denials;
+//! - `opening`: an opening for writing;
+//! - `gate`: what stands between an opening and what follows.
+//!
+//! The rules are in `docs/SESSIONS.md`.
+#![tactic(auto)]
+
+mod asking;
+mod denials;
+mod end;
+mod first_packet;
+mod gate;
+mod opening;
+mod packets;
+#[cfg(test)]
+mod tests;
+
+pub use asking::ask;
+pub use denials::{push_denial, shown};
+pub use end::SessionEnd;
+pub use first_packet::{Asked, FirstLine, Service, first_line, literal, without_feed};
+pub use gate::{Gate, OpenGate};
+pub use opening::enter;
+pub use packets::{end_by, malformed, refuse, say, say_flush};
