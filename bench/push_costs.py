@@ -1,5 +1,5 @@
 #!/usr/bin/env python3
-"""What pushes cost: push_costs.py PROGRAM [CASE ..], by hand, never in the gate.
+"""What pushes and fetches cost: push_costs.py PROGRAM [CASE ..], by hand, never in the gate.
 
 PROGRAM is the built gitolite_shell. Each case makes its input, hands it to one running program session by session, and
 prints seconds from a session's first byte to its reply. Without a CASE all are run; `list` names them. Two of them, `refused`
@@ -216,7 +216,64 @@ def large_pack(program):
     print("a pack of %.1f MB: %.3f s, %.0f MB/s" % (len(data) / 1e6, min(took), len(data) / 1e6 / min(took)))
 
 
-CASES = {case.__name__: case for case in (refused, old, one_file, rootless, large_trees, deep_refs, one_ref, large_pack)}
+def generated_conf(repositories):
+    """The conf of the admin's repository and so many others, whose two users are drawn."""
+    text, drawn = b"repo gitolite-admin\n    RW+ = admin\n", 2
+    for number in range(repositories):
+        users = []
+        for _ in range(2):
+            drawn = (75 * drawn + 74) % 65537
+            users.append(drawn % 10)
+        text += b"repo r%d\n    RW+ = u%d\n    RW master$ = u%d\n    R = @all\n" % (number, users[0], users[1])
+    return text
+
+
+def installation(program):
+    """A push of a conf of 300 and of 5,000 repositories; what a user sees then, an opening, and a push."""
+    for repositories in (300, 5_000):
+        program_now, blob = Program(program), ("blob", generated_conf(repositories))
+        inner = tree([(b"100644", b"gitolite.conf", object_id(blob))])
+        root = tree([(b"40000", b"conf", object_id(inner))])
+        made = ("commit", b"tree " + object_id(root).hex().encode() + b"\n")
+        line = packet(("%s %s refs/heads/master" % (ZERO, object_id(made).hex())).encode() + b"\0report-status")
+        admin = packet(b"admin git-receive-pack 'gitolite-admin'") + line + b"0000" + raw_pack([made, root, inner, blob])
+        pushed = program_now.expect(admin)
+        seen = [program_now.expect(packet(b"u1 info"), b"hello u1") for _ in range(5)]
+        denied = [program_now.expect(packet(b"nobody git-receive-pack 'r%d'" % n), b"DENIED") for n in range(100)]
+        owner = next(k for k in range(10) if b"DENIED" not in program_now.serve(packet(b"u%d git-receive-pack 'r7'" % k) + b"0000")[1])
+        body = push([("refs/heads/master", FIRST_ID)], [FIRST, EMPTY])[len(packet(b"carol git-receive-pack 'testing'")) :]
+        took = program_now.expect(packet(b"u%d git-receive-pack 'r7'" % owner) + body)
+        print("%d repositories: the admin's push %.3f s; a listing: %s; a denied opening: %s; a push: %.3f ms" % (repositories, pushed, times(seen), times(denied), took * 1e3))
+        program_now.end()
+
+
+def folders_of(blobs):
+    """A commit of these blobs in folders of 300, with its trees."""
+    folders = [tree([(b"100644", b"%03d" % k, object_id(blob)) for k, blob in enumerate(blobs[n : n + 300])]) for n in range(0, len(blobs), 300)]
+    root = tree([(b"40000", b"%03d" % n, object_id(folder)) for n, folder in enumerate(folders)])
+    return commit(b"folders\n", object_id(root)), [root] + folders
+
+
+def clone(program):
+    """A clone of 100 blobs of 1 MiB, and of 90,000 small ones; a fetch of one commit more, behind the second."""
+    for blobs in ([("blob", bytes([n]) * (1 << 20)) for n in range(100)], [("blob", b"small %d" % n) for n in range(90_000)]):
+        program_now, (made, trees) = Program(program), folders_of(blobs)
+        program_now.expect(push([("refs/heads/master", object_id(made))], [made] + trees + blobs))
+        want = packet(b"carol git-upload-pack 'testing'") + packet(b"want " + object_id(made).hex().encode()) + b"0000"
+        took = []
+        for _ in range(3):
+            seconds, reply = program_now.serve(want + packet(b"done"))
+            took.append(seconds)
+        print("a clone of %d blobs, %.1f MB: %s, %.0f MB/s" % (len(blobs), len(reply) / 1e6, times(took), len(reply) / 1e6 / min(took)))
+        next_one = commit(b"next\n", EMPTY_ID, [object_id(made)])
+        program_now.expect(push([("refs/heads/next", object_id(next_one))], [next_one, EMPTY]))
+        want = packet(b"carol git-upload-pack 'testing'") + packet(b"want " + object_id(next_one).hex().encode()) + b"0000"
+        took = [program_now.expect(want + packet(b"have " + object_id(made).hex().encode()) + packet(b"done"), b"ACK") for _ in range(5)]
+        print("a fetch of one commit more: %s" % times(took))
+        program_now.end()
+
+
+CASES = {case.__name__: case for case in (refused, old, one_file, rootless, large_trees, deep_refs, one_ref, large_pack, installation, clone)}
 
 
 def main():

@@ -255,3 +255,171 @@ session(
 session(pushes(b"ann", b"docs", [(None, first, branch(b"plan"))], first_pack))
 session(asks(b"bob", b"git-receive-pack 'secrets'"))
 session(asks(b"cal", b"git-receive-pack 'docs'"))
+
+# 84 to 86: what each of them sees
+session(asks(b"ann", b"info"))
+session(asks(b"bob", b"info"))
+session(asks(b"cal", b"info\n"))
+
+# 87 to 90: the conf before, by a rewind, and what alice, bob and ann see with it
+session(pushes(b"ann", b"gitolite-admin", [(people, wild, MASTER)], NO_OBJECTS))
+session(asks(b"alice", b"info"))
+session(asks(b"bob", b"info"))
+session(asks(b"ann", b"info"))
+
+# III. letters, virtual refs and subconfs, one repository each
+
+ROWS = b"""repo four
+    RW   master$ = dev
+    -    master  = dev
+    RW+          = dev
+repo five
+    RW   dev = dev
+    RW+  d   = dev
+repo six
+    RWC  = ann
+    RW   = bob
+repo seven
+    RW+  = ann
+repo eight
+    RW+  = ann
+    RWD  = bob
+repo nine
+    RW+M master = ann
+    RW          = bob
+repo make
+    -    VREF/NAME/Makefile = junior
+    RW   = junior ann
+repo source
+    RW   NAME/src/ = junior
+    -    NAME/     = junior
+    RW             = junior
+repo deep
+    -    VREF/NAME/x$ = bob
+    RW                = bob
+"""
+rows, rows_objects = conf(SETUP + ROWS, wild)
+base_pack = raw_pack([base] + base_objects)
+session(pushes(b"admin", b"gitolite-admin", [(wild, rows, MASTER)], raw_pack(rows_objects)))
+
+# 92 to 98: what a rule's refex starts, rewinds, creates
+session(pushes(b"dev", b"four", [(None, base, MASTER), (None, base, branch(b"master2")), (None, base, topic)], base_pack))
+session(pushes(b"dev", b"five", [(None, base, branch(b"dev"))], base_pack))
+session(pushes(b"dev", b"five", [(base, more, branch(b"dev"))], raw_pack([more] + more_objects)))
+session(pushes(b"dev", b"five", [(more, base, branch(b"dev"))]))
+session(pushes(b"bob", b"six", [(None, base, topic)], base_pack))
+session(pushes(b"ann", b"six", [(None, base, topic)], base_pack))
+session(pushes(b"bob", b"six", [(base, more, topic)], raw_pack([more] + more_objects)))
+
+# 99 to 102: deletes, which have a letter of their own where some rule has it
+session(pushes(b"ann", b"seven", [(None, base, topic)], base_pack))
+session(pushes(b"ann", b"seven", [(base, None, topic)], b""))
+session(pushes(b"ann", b"eight", [(None, base, topic)], base_pack))
+session(pushes(b"ann", b"eight", [(base, None, topic)], b""))
+
+# 103 and 104: merges
+merge_pack = raw_pack([merge, more, make] + more_objects + make_objects)
+session(pushes(b"bob", b"nine", [(None, base, topic)], base_pack))
+session(pushes(b"bob", b"nine", [(base, merge, topic), (None, merge, branch(b"new"))], merge_pack))
+
+# 105 to 110: names of changed paths
+am_root, am_objects = files([(b"Makefile.am", b"all:\n"), (b"a.c", b"a\n")])
+am = carols(b"am", am_root, base)
+unmake = carols(b"unmake", base_root, make)
+session(pushes(b"ann", b"make", [(None, base, MASTER), (None, make, topic)], raw_pack([base, make] + base_objects + make_objects)))
+session(pushes(b"junior", b"make", [(base, am, MASTER)], raw_pack([am] + am_objects)))
+session(pushes(b"junior", b"make", [(make, unmake, topic)], raw_pack([unmake])))
+session(pushes(b"junior", b"make", [(base, more, MASTER)], raw_pack([more] + more_objects)))
+inside_root, inside_objects = files([(b"src/a.c", b"a\n")])
+inside = carols(b"inside", inside_root)
+session(pushes(b"junior", b"source", [(None, inside, MASTER)], raw_pack([inside] + inside_objects)))
+session(pushes(b"junior", b"source", [(None, base, topic)], base_pack))
+
+
+def nested(depth):
+    """A commit of trees nested so deep, each with two entries of one and the same next tree, the last of an empty blob."""
+    inner, mode, objects = EMPTY_BLOB, b"100644", [EMPTY_BLOB]
+    for _ in range(depth):
+        inner = tree([(mode, b"a", object_id(inner)), (mode, b"b", object_id(inner))])
+        mode = b"40000"
+        objects.append(inner)
+    commit = carols(b"deep", inner)
+    return commit, raw_pack([commit] + objects)
+
+
+# 111 and 112: 131,070 changed rows, and 262,142
+session(pushes(b"bob", b"deep", [(None, nested(16)[0], branch(b"a"))], nested(16)[1]))
+session(pushes(b"bob", b"deep", [(None, nested(17)[0], branch(b"b"))], nested(17)[1]))
+
+# 113 to 117: a subconf whose repository isn't its own, and one whose is
+MAIN = b"repo gitolite-admin\n    RW+ = admin\n%ssubconf \"web.conf\"\n"
+WEB = b"repo core\n    RW+ = wanda\n"
+
+
+def subconf(group, parent):
+    root, objects = files([(b"conf/gitolite.conf", MAIN % group), (b"conf/web.conf", WEB)])
+    made = carols(b"subconf", root, parent)
+    return made, raw_pack([made] + objects)
+
+
+apart, apart_pack = subconf(b"", rows)
+own, own_pack = subconf(b"@web = core\n", apart)
+session(pushes(b"admin", b"gitolite-admin", [(rows, apart, MASTER)], apart_pack))
+session(asks(b"wanda", b"git-receive-pack 'core'"))
+session(pushes(b"admin", b"gitolite-admin", [(apart, own, MASTER)], own_pack))
+session(pushes(b"wanda", b"core", [(None, base, MASTER)], base_pack))
+session(asks(b"wanda", b"info"))
+
+# IV. fetches
+
+SHELF = b"""repo shelf copy
+    RW+  = carol
+    R    = bob
+repo bare
+    R    = bob
+repo CREATOR/[a-z]+
+    C    = alice
+    RW+  = CREATOR
+    R    = READERS
+"""
+shelf, shelf_objects = conf(SETUP + SHELF, own)
+tag = ("tag", b"object " + hexed(second).encode() + b"\ntype commit\ntag v1\ntagger Carol <carol@example.com> 1700000000 +0000\n\none\n")
+TAG = b"refs/tags/v1"
+DONE = packet(b"done\n")
+
+
+def line(word, item):
+    return packet(word + b" " + hexed(item).encode() + b"\n")
+
+
+def fetches(who, repo, behind):
+    session(asks(who, b"git-upload-pack '%s'" % repo) + behind)
+
+
+# 118 to 120: the conf, the first push, and a child of its commit with a tag
+session(pushes(b"admin", b"gitolite-admin", [(own, shelf, MASTER)], raw_pack([shelf] + shelf_objects)))
+session(pushes(b"carol", b"shelf", [(None, first, MASTER)], first_pack))
+session(pushes(b"carol", b"shelf", [(first, second, MASTER), (None, tag, TAG)], raw_pack([second, tag])))
+
+# 121 to 128: what is common, and what isn't advertised
+fetches(b"bob", b"shelf", line(b"want", tag) + b"0000" + line(b"have", first) + DONE)
+fetches(b"bob", b"shelf", line(b"want", tag) + b"0000" + DONE)
+fetches(b"bob", b"shelf", line(b"want", EMPTY_BLOB) + b"0000" + DONE)
+fetches(b"bob", b"shelf", b"0000")
+fetches(b"bob", b"shelf", packet(b"want " + hexed(second).encode() + b" multi_ack agent=git/2\n") + line(b"want", tag) + b"00000000" + line(b"have", side) + b"0000" + line(b"have", first) + line(b"have", EMPTY_TREE) + b"0000" + DONE)
+fetches(b"bob", b"shelf", line(b"want", second) + b"0000" + line(b"have", second) + DONE)
+fetches(b"bob", b"shelf", line(b"want", second) + line(b"have", first) + DONE)
+fetches(b"bob", b"shelf", line(b"want", second) + b"0000" + line(b"have", first))
+
+# 129 to 135: an empty repository, who may read, and a repository that is made by a fetch
+fetches(b"bob", b"bare", b"0000")
+fetches(b"dave", b"shelf", b"0000")
+fetches(b"alice", b"alice/y", b"0000")
+fetches(b"bob", b"alice/y", b"0000")
+session(asks(b"alice", b"perms alice/y + READERS bob"))
+fetches(b"bob", b"alice/y", b"0000")
+fetches(b"bob", b"bob/y", b"0000")
+
+# 136 and 137: the pack of 122 is pushed into another repository, and fetched from there
+session(pushes(b"carol", b"copy", [(None, second, MASTER), (None, tag, TAG)], raw_pack([first, EMPTY_TREE, second, tag])))
+fetches(b"bob", b"copy", line(b"want", tag) + b"0000" + DONE)

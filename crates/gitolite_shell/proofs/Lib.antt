@@ -3,5 +3,7 @@ mod LoneLemmas
 mod ScriptRows
 mod OrderLemmas
 mod PermLemmas
+mod InfoLemmas
+mod FetchLemmas
 mod CheckLemmas
 mod EndLemmas

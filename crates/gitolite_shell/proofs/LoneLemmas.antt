@@ -1,6 +1,7 @@
 -- How a command that was run ends the program.
 use Rattle.std.proofs.Common.{◌≡◌, List, ℕ, Option, Bool, [], refl, sym, ◌∙◌, ap, subst, true, false, inl, inr, arith}
-use Rattle.std.specs.Prelude.{Result, Ok, Err, Some, None, OnOk, IfErr, IfSome}
+use Rattle.std.specs.Prelude.{Result, Ok, Err, Some, None, OnOk, IfErr, IfSome, ◌∷◌, ◌&&◌, codes, if◌then◌else◌}
+use Rattle.std.specs.Str.{bytes_eq}
 use Rattle.std.proofs.KnownBytes.{Appends-nil, Consumes-nil}
 use Rattle.base_types.specs.Counts.{HasRisen}
 use Rattle.pktline_core.specs.LinkState.{LinkState}
@@ -8,7 +9,9 @@ use Rattle.hub_history.specs.declared.entry.Entry.{Entry}
 use Rattle.hub.specs.Desk.{DeskView, IsSound}
 use Rattle.hub_history.specs.History.{IsLegal}
 use Rattle.ref_store.specs.Refs.{Name}
-use Rattle.gitolite_shell.specs.Words.{is_check, script_admin}
+use Rattle.conf_lex.specs.Names.{is_user_name}
+use Rattle.session_core.specs.Recorded.{IsRecorded, LegalLogsAreRecorded, Recorded}
+use Rattle.gitolite_shell.specs.Words.{is_admin_name, is_check, script_admin}
 use Rattle.gitolite_shell.specs.Script.{sessions}
 use Rattle.gitolite_shell.specs.RunningScripts.{RunsScript, StopsScript}
 use Rattle.gitolite_shell.specs.Lone.{EndsBy, EndsRun, EndsScript, EndsSurely, IsDue, new_desk}
@@ -42,9 +45,9 @@ unfolding sessions
 undone source sink admin = record {
   done = [];
   more = [];
-  written = λ answers agrees. Appends-nil sink.written;
+  written = λ recorded of. Appends-nil sink.written;
   may_lack = inl refl;
-  stops = inl (record { part = []; small = tt; none = begins_none; inside = inl (tt, omega arith); takes = record { consumed = Consumes-nil source.left; counted = omega arith }; nothing = refl; log_is = λ answers agrees. refl });
+  stops = inl (record { part = []; small = tt; none = begins_none; inside = inl (tt, omega arith); takes = record { consumed = Consumes-nil source.left; counted = omega arith }; nothing = refl; log_is = λ recorded of. refl });
 }
 
 module _ (words : List (List ℕ)) (source source' sink sink' : LinkState) (log : List Entry) where
@@ -95,3 +98,23 @@ pub legal_script : (asked : Option Name) (admin : Name) (desk desk' : DeskView) 
 legal_script asked admin desk desk' log is new same sound seen =
     subst (λ (o : Option Name). IfSome o (λ a. IsLegal a log)) (sym is)
     (subst (λ (a : Name). IsLegal a log) (same ∙ ap (λ (d : DeskView). d.admin) new) (subst (IsLegal desk'.admin) (sym seen) sound.legal))
+
+if_named : (x y z : Bool) (name : Name) → (z ≡ true → is_user_name name ≡ true) → IfSome (if x && (y && z) then Some name else None) (λ a. is_user_name a ≡ true)
+if_named true true true name p = p refl
+if_named true true false name p = tt
+if_named true false z name p = tt
+if_named false y z name p = tt
+
+-- the admin of a script has a user's name
+pub admin_named : (words : List (List ℕ)) → IfSome (script_admin words) (λ a. is_user_name a ≡ true)
+unfolding is_admin_name
+admin_named [] = tt
+admin_named (verb ∷ []) = tt
+admin_named (verb ∷ flag ∷ []) = tt
+admin_named (verb ∷ flag ∷ name ∷ []) = if_named (bytes_eq verb (codes "script")) (bytes_eq flag (codes "--admin")) (is_user_name name) name (λ p. p)
+admin_named (verb ∷ flag ∷ name ∷ more ∷ words) = tt
+
+-- what is recorded by the log of a script
+pub recorded_script : LegalLogsAreRecorded → (asked : Option Name) → IfSome asked (λ a. is_user_name a ≡ true) → (log : List Entry) → IfSome asked (λ a. IsLegal a log) → IfSome asked (λ a. (recorded : Recorded) × IsRecorded a log recorded)
+recorded_script laws None name log legal = tt
+recorded_script laws (Some admin) name log legal = laws admin log name legal

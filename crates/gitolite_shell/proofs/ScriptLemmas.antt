@@ -18,13 +18,15 @@ use Rattle.interaction_tree.specs.Turns as stop
 use Rattle.interaction_tree.specs.Alone.{TurnAlone}
 use Rattle.interaction_tree.specs.Endings.{IsInput, EndsAsDue, LacksMemory, TakesTurn}
 use Rattle.interaction_tree.specs.Growth.{GrowsBy, own_since}
-use Rattle.interaction_tree.specs.Requests.{Answers, Agrees, OwnEntry}
+use Rattle.interaction_tree.specs.Requests.{OwnEntry}
 use Rattle.interaction_tree.proofs.DeskLemmas.{makes_alone}
-use Rattle.interaction_tree.proofs.AnswerLemmas.{agrees_front}
 use Rattle.interaction_tree.proofs.AloneLemmas.{alone_is, alone_begins, alone_grows}
 use Rattle.session_core.specs.declared.end.SessionEnd.{SessionEnd}
 use Rattle.session_core.specs.declared.end.SessionEnd.TheVariants as end
 use Rattle.session_core.specs.End.{halt_of, HasCause}
+use Rattle.session_core.specs.Recorded.{IsRecorded, Recorded}
+use Rattle.session_core.specs.Rulebook.{ByRulebook}
+use Rattle.session_core.proofs.RulebookLemmas.{recorded_before}
 use Rattle.gitolite_shell.specs.Session.{session}
 use Rattle.script_frames.specs.Frames.{head_text, frame_text, AreBodies, BeginsNoFrame}
 use Rattle.script_frames.specs.ReadingFrames.{Takes, IsRest, TakesFrame, TakesNoFrame, GoesNoFurther}
@@ -44,25 +46,22 @@ input_of None (Some rest) taken consumed = (rest, refl, tt)
 input_of (Some input) None taken consumed = absurd consumed
 input_of (Some input) (Some rest) taken consumed = (rest, refl, consumed)
 
--- answers that agree with a log agree with what it goes on from
-agrees_before : (answers : Answers) (log log' : List Entry) → Begins log log' → Agrees answers log' → Agrees answers log
-agrees_before answers log log' begins agrees = agrees_front answers log begins.0 (subst (Agrees answers) begins.1 agrees)
-
 -- over a link that tells its bytes, alone at its hub
-alone_turn : (answers : Answers) (a b : LinkState) (old new : DeskView) (body out : List ℕ) (end : SessionEnd) → a.left ≡ Some body → a.written ≡ Some [] → b.written ≡ Some out → IsTrue old.alone
-    → GrowsBy old new (own_since old new) → EndsAsDue a b (own_since old new) (session old.admin) end → Agrees answers new.seen
-    → served_alone answers old.admin body old.seen ≡ record { bytes = out; stop = stop.Ended end; log = new.seen }
+alone_turn : (recorded : Recorded) (a b : LinkState) (old new : DeskView) (body out : List ℕ) (end : SessionEnd) → a.left ≡ Some body → a.written ≡ Some [] → b.written ≡ Some out → IsTrue old.alone
+    → GrowsBy old new (own_since old new) → EndsAsDue a b (own_since old new) (session recorded.book old.admin) end → IsRecorded old.admin new.seen recorded
+    → served_alone recorded old.admin body old.seen ≡ record { bytes = out; stop = stop.Ended end; log = new.seen }
 unfolding served_alone
-alone_turn answers a b old new body out end left empty written alone grows ends agrees =
+alone_turn recorded a b old new body out end left empty written alone grows ends of =
     let input : body ≡ ends.input = rw left at ends.told in
     let bytes = rw (empty, written) at ends.written in
-    rw (input, bytes) (alone_is answers end (session old.admin) ends.input (own_since old new) old.seen new.seen (makes_alone old new (own_since old new) alone grows.made answers agrees) ends.entries ends.end_is)
+    rw (input, bytes)
+    (alone_is recorded.answers end (session recorded.book old.admin) ends.input (own_since old new) old.seen new.seen (makes_alone old new (own_since old new) alone grows.made recorded.answers of.agrees) ends.entries ends.end_is)
 
 pub serves : (a b : LinkState) (old new : DeskView) (number : ℕ) (body out word text : List ℕ) (end : SessionEnd) → a.left ≡ Some body → a.written ≡ Some [] → b.written ≡ Some out → IsTrue old.alone
-    → GrowsBy old new (own_since old new) → EndsAsDue a b (own_since old new) (session old.admin) end → word ≡ end_word end → text ≡ reply_text number word out → Serves old new number body text
+    → GrowsBy old new (own_since old new) → ByRulebook old.admin new.seen (λ book. EndsAsDue a b (own_since old new) (session book old.admin) end) → word ≡ end_word end → text ≡ reply_text number word out → Serves old new number body text
 serves a b old new number body out word text end left empty written alone grows ends word_is text_is = record {
-  printed = λ answers agrees. rw (alone_turn answers a b old new body out end left empty written alone grows ends agrees) (text_is ∙ ap (λ (w : List ℕ). reply_text number w out) word_is);
-  seen = λ answers agrees. rw (alone_turn answers a b old new body out end left empty written alone grows ends agrees) refl;
+  printed = λ recorded of. rw (alone_turn recorded a b old new body out end left empty written alone grows (ends recorded.book of.book) of) (text_is ∙ ap (λ (w : List ℕ). reply_text number w out) word_is);
+  seen = λ recorded of. rw (alone_turn recorded a b old new body out end left empty written alone grows (ends recorded.book of.book) of) refl;
   admin = ap (λ (d : DeskView). d.admin) grows.new_is;
   alone = subst (λ (d : DeskView). IsTrue d.alone) (sym grows.new_is) alone;
 }
@@ -72,38 +71,39 @@ pub grows_on : (old new : DeskView) → GrowsBy old new (own_since old new) → 
 grows_on old new grows = (grows.more, ap (λ (d : DeskView). d.seen) grows.new_is)
 
 -- where memory lacked in it
-pub session_lacks : (a b : LinkState) (old new : DeskView) (body : List ℕ) → a.left ≡ Some body → IsTrue old.alone → GrowsBy old new (own_since old new) → LacksMemory a b (own_since old new) (session old.admin)
-    → LacksSession old new body
+pub session_lacks : (a b : LinkState) (old new : DeskView) (body : List ℕ) → a.left ≡ Some body → IsTrue old.alone → GrowsBy old new (own_since old new)
+    → ByRulebook old.admin new.seen (λ book. LacksMemory a b (own_since old new) (session book old.admin)) → LacksSession old new body
 unfolding served_alone
-session_lacks a b old new body left alone grows lacks =
-    let whole = input_of a.left b.left lacks.part lacks.read in
-    let input : body ≡ lacks.part ++ whole.0 = subst (λ (l : Option (List ℕ)). IsInput l (lacks.part ++ whole.0)) left whole.2 in
-    record {
-      goes_on = grows_on old new grows;
-      within = λ answers agrees.
-          rw input (alone_begins answers (session old.admin) lacks.part whole.0 (own_since old new) old.seen new.seen (makes_alone old new (own_since old new) alone grows.made answers agrees) lacks.entries);
-    }
+session_lacks a b old new body left alone grows lacks = record {
+  goes_on = grows_on old new grows;
+  within = λ recorded of.
+      let lack = lacks recorded.book of.book in
+      let whole = input_of a.left b.left lack.part lack.read in
+      let input : body ≡ lack.part ++ whole.0 = subst (λ (l : Option (List ℕ)). IsInput l (lack.part ++ whole.0)) left whole.2 in
+      rw input
+      (alone_begins recorded.answers (session recorded.book old.admin) lack.part whole.0 (own_since old new) old.seen new.seen (makes_alone old new (own_since old new) alone grows.made recorded.answers of.agrees) lack.entries);
+}
 
 -- over a link that can't fail only memory may lack
-pub only_memory : (a b : LinkState) (own : List OwnEntry) (admin : Name) (end : SessionEnd) (failure : Failure) → a.may_fail ≡ false → HasCause a b end → halt_of end ≡ Failed failure
-    → TakesTurn a b own (session admin) (halt_of end) → LacksMemory a b own (session admin)
-only_memory a b own admin end.ReadFault failure cannot cause is turn = absurd (let may : false ≡ true = sym cannot ∙ cause.1 in cc)
-only_memory a b own admin end.WriteFault failure cannot cause is turn = absurd (let may : false ≡ true = sym cannot ∙ cause.1 in cc)
-only_memory a b own admin end.NoMemory failure cannot cause is turn = turn
-only_memory a b own admin end.Served failure cannot cause is turn = absurd cc
-only_memory a b own admin end.Denied failure cannot cause is turn = absurd cc
-only_memory a b own admin end.NoRepo failure cannot cause is turn = absurd cc
-only_memory a b own admin (end.BadPack fault) failure cannot cause is turn = absurd cc
-only_memory a b own admin end.NotBuilt failure cannot cause is turn = absurd cc
-only_memory a b own admin end.BadCommand failure cannot cause is turn = absurd cc
-only_memory a b own admin end.BadUser failure cannot cause is turn = absurd cc
-only_memory a b own admin (end.Malformed offset) failure cannot cause is turn = absurd cc
-only_memory a b own admin (end.TooLong count) failure cannot cause is turn = absurd cc
-only_memory a b own admin end.Truncated failure cannot cause is turn = absurd cc
+pub only_memory : (a b : LinkState) (own : List OwnEntry) (admin : Name) (log : List Entry) (end : SessionEnd) (failure : Failure) → a.may_fail ≡ false → HasCause a b end → halt_of end ≡ Failed failure
+    → ByRulebook admin log (λ book. TakesTurn a b own (session book admin) (halt_of end)) → ByRulebook admin log (λ book. LacksMemory a b own (session book admin))
+only_memory a b own admin log end.ReadFault failure cannot cause is turn = absurd (let may : false ≡ true = sym cannot ∙ cause.1 in cc)
+only_memory a b own admin log end.WriteFault failure cannot cause is turn = absurd (let may : false ≡ true = sym cannot ∙ cause.1 in cc)
+only_memory a b own admin log end.NoMemory failure cannot cause is turn = turn
+only_memory a b own admin log end.Served failure cannot cause is turn = absurd cc
+only_memory a b own admin log end.Denied failure cannot cause is turn = absurd cc
+only_memory a b own admin log end.NoRepo failure cannot cause is turn = absurd cc
+only_memory a b own admin log (end.BadPack fault) failure cannot cause is turn = absurd cc
+only_memory a b own admin log (end.NotOurRef id) failure cannot cause is turn = absurd cc
+only_memory a b own admin log end.BadCommand failure cannot cause is turn = absurd cc
+only_memory a b own admin log end.BadUser failure cannot cause is turn = absurd cc
+only_memory a b own admin log (end.Malformed offset) failure cannot cause is turn = absurd cc
+only_memory a b own admin log (end.TooLong count) failure cannot cause is turn = absurd cc
+only_memory a b own admin log end.Truncated failure cannot cause is turn = absurd cc
 
 -- a session that was served, whose reply had no room
 pub serves_unsaid : (old new : DeskView) (number : ℕ) (body text : List ℕ) → Begins old.seen new.seen → Serves old new number body text → LacksSession old new body
-serves_unsaid old new number body text goes_on served = record { goes_on = goes_on; within = λ answers agrees. ([], sym (served.seen answers agrees) ∙ sym (append-nil new.seen)) }
+serves_unsaid old new number body text goes_on served = record { goes_on = goes_on; within = λ recorded of. ([], sym (served.seen recorded of) ∙ sym (append-nil new.seen)) }
 
 pub if_ok : {V E : Type 0} (P Q : V → Type 0) (result : Result V E) → ((v : V) → P v → Q v) → IfOk result P → IfOk result Q
 if_ok P Q (Ok v) more p = more v p
@@ -116,47 +116,47 @@ if_err P (Err e) p = p
 -- II. Sessions one after the other
 
 -- a session, and sessions, go on from the log before them
-served_grows : (answers : Answers) (admin : Name) (body : List ℕ) (log : List Entry) → Begins log (served_alone answers admin body log).log
+served_grows : (recorded : Recorded) (admin : Name) (body : List ℕ) (log : List Entry) → Begins log (served_alone recorded admin body log).log
 unfolding served_alone
-served_grows answers admin body log = alone_grows answers (session admin) body log
+served_grows recorded admin body log = alone_grows recorded.answers (session recorded.book admin) body log
 
 grows_more : (a b c : List Entry) → Begins a b → Begins b c → Begins a c
 grows_more a b c p q = (p.0 ++ q.0, q.1 ∙ ap (λ (l : List Entry). l ++ q.0) p.1 ∙ append_assoc a p.0 q.0)
 
-sessions_grow : (answers : Answers) (admin : Name) (number : ℕ) (bodies : List (List ℕ)) (log : List Entry) → Begins log (sessions answers admin number bodies log).log
+sessions_grow : (recorded : Recorded) (admin : Name) (number : ℕ) (bodies : List (List ℕ)) (log : List Entry) → Begins log (sessions recorded admin number bodies log).log
 unfolding sessions
-sessions_grow answers admin number [] log = ([], sym (append-nil log))
-sessions_grow answers admin number (body ∷ bodies) log =
-    let turn : TurnAlone SessionEnd (Unit {0}) = served_alone answers admin body log in
-    grows_more log turn.log (sessions answers admin (number + 1) bodies turn.log).log (served_grows answers admin body log) (sessions_grow answers admin (number + 1) bodies turn.log)
+sessions_grow recorded admin number [] log = ([], sym (append-nil log))
+sessions_grow recorded admin number (body ∷ bodies) log =
+    let turn : TurnAlone SessionEnd (Unit {0}) = served_alone recorded admin body log in
+    grows_more log turn.log (sessions recorded admin (number + 1) bodies turn.log).log (served_grows recorded admin body log) (sessions_grow recorded admin (number + 1) bodies turn.log)
 
--- answers that agree with the log after sessions agree with the one before them
-before_sessions : (answers : Answers) (admin : Name) (number : ℕ) (bodies : List (List ℕ)) (log log' : List Entry) → log' ≡ (sessions answers admin number bodies log).log → Agrees answers log' → Agrees answers log
-before_sessions answers admin number bodies log log' is agrees = agrees_before answers log log' (subst (Begins log) (sym is) (sessions_grow answers admin number bodies log)) agrees
+-- recorded that agree with the log after sessions agree with the one before them
+before_sessions : (recorded : Recorded) (admin : Name) (number : ℕ) (bodies : List (List ℕ)) (log log' : List Entry) → log' ≡ (sessions recorded admin number bodies log).log → IsRecorded admin log' recorded → IsRecorded admin log recorded
+before_sessions recorded admin number bodies log log' is of = recorded_before admin log log' recorded (subst (Begins log) (sym is) (sessions_grow recorded admin number bodies log)) of
 
-before_served : (answers : Answers) (admin : Name) (body : List ℕ) (log log' : List Entry) → log' ≡ (served_alone answers admin body log).log → Agrees answers log' → Agrees answers log
-before_served answers admin body log log' is agrees = agrees_before answers log log' (subst (Begins log) (sym is) (served_grows answers admin body log)) agrees
+before_served : (recorded : Recorded) (admin : Name) (body : List ℕ) (log log' : List Entry) → log' ≡ (served_alone recorded admin body log).log → IsRecorded admin log' recorded → IsRecorded admin log recorded
+before_served recorded admin body log log' is of = recorded_before admin log log' recorded (subst (Begins log) (sym is) (served_grows recorded admin body log)) of
 
-module _ (answers : Answers) where
+module _ (recorded : Recorded) where
   sessions_more : (admin : Name) (number next : ℕ) (bodies more : List (List ℕ)) (log : List Entry) → next ≡ number + length bodies
-      → sessions answers admin number (bodies ++ more) log ≡ record {
-        output = (sessions answers admin number bodies log).output ++ (sessions answers admin next more (sessions answers admin number bodies log).log).output;
-        log = (sessions answers admin next more (sessions answers admin number bodies log).log).log;
+      → sessions recorded admin number (bodies ++ more) log ≡ record {
+        output = (sessions recorded admin number bodies log).output ++ (sessions recorded admin next more (sessions recorded admin number bodies log).log).output;
+        log = (sessions recorded admin next more (sessions recorded admin number bodies log).log).log;
       }
   unfolding sessions
-  sessions_more admin number next [] more log is = ap (λ n. sessions answers admin n more log) (omega arith)
+  sessions_more admin number next [] more log is = ap (λ n. sessions recorded admin n more log) (omega arith)
   sessions_more admin number next (body ∷ bodies) more log is =
-      let turn : TurnAlone SessionEnd (Unit {0}) = served_alone answers admin body log in
+      let turn : TurnAlone SessionEnd (Unit {0}) = served_alone recorded admin body log in
       let text : List ℕ = reply_text number (stop_word turn.stop) turn.bytes in
       ap (λ (p : Printed). record { output = text ++ p.output; log = p.log }) (sessions_more admin (number + 1) next bodies more turn.log (omega (arith, is)))
-      ∙ ap (λ (o : List ℕ). record { output = o; log = (sessions answers admin next more (sessions answers admin (number + 1) bodies turn.log).log).log })
-      (sym (append_assoc text (sessions answers admin (number + 1) bodies turn.log).output (sessions answers admin next more (sessions answers admin (number + 1) bodies turn.log).log).output))
+      ∙ ap (λ (o : List ℕ). record { output = o; log = (sessions recorded admin next more (sessions recorded admin (number + 1) bodies turn.log).log).log })
+      (sym (append_assoc text (sessions recorded admin (number + 1) bodies turn.log).output (sessions recorded admin next more (sessions recorded admin (number + 1) bodies turn.log).log).output))
 
   -- one session alone
   one_session : (admin : Name) (number : ℕ) (body : List ℕ) (log : List Entry)
-      → sessions answers admin number (body ∷ []) log ≡ record { output = reply_text number (stop_word (served_alone answers admin body log).stop) (served_alone answers admin body log).bytes; log = (served_alone answers admin body log).log }
+      → sessions recorded admin number (body ∷ []) log ≡ record { output = reply_text number (stop_word (served_alone recorded admin body log).stop) (served_alone recorded admin body log).bytes; log = (served_alone recorded admin body log).log }
   unfolding sessions
-  one_session admin number body log = ap (λ (o : List ℕ). record { output = o; log = (served_alone answers admin body log).log }) (append-nil _)
+  one_session admin number body log = ap (λ (o : List ℕ). record { output = o; log = (served_alone recorded admin body log).log }) (append-nil _)
 
 bodies_more : (bodies more : List (List ℕ)) → AreBodies bodies → AreBodies more → AreBodies (bodies ++ more)
 bodies_more [] more p q = q
@@ -170,7 +170,7 @@ advances_one source source' sink sink' old new number taken body text frame serv
   advances = record {
     small = (frame.small, tt);
     takes = subst (Takes source source') (sym (append-nil (frame_text body))) frame.takes;
-    written = λ answers agrees. subst (Appends sink.written sink'.written) (served.printed answers agrees ∙ sym (append-nil _)) wrote;
+    written = λ recorded of. subst (Appends sink.written sink'.written) (served.printed recorded of ∙ sym (append-nil _)) wrote;
     seen = served.seen;
     admin = served.admin;
     alone = served.alone;
@@ -183,8 +183,8 @@ unfolding sessions
 advances_none source sink desk alone = record {
   small = tt;
   takes = record { consumed = Consumes-nil source.left; counted = omega arith };
-  written = λ answers agrees. Appends-nil sink.written;
-  seen = λ answers agrees. refl;
+  written = λ recorded of. Appends-nil sink.written;
+  seen = λ recorded of. refl;
   admin = refl;
   alone = alone;
 }
@@ -192,14 +192,16 @@ advances_none source sink desk alone = record {
 pub advances_more : (s s' s'' k k' k'' : LinkState) (d d' d'' : DeskView) (number next : ℕ) (bodies more : List (List ℕ)) → next ≡ number + length bodies
     → Advances s s' k k' d d' number bodies → Advances s' s'' k' k'' d' d'' next more → Advances s s'' k k'' d d'' number (bodies ++ more)
 advances_more s s' s'' k k' k'' d d' d'' number next bodies more is p q =
-    let mid : (answers : Answers) → Agrees answers d''.seen → Agrees answers d'.seen = λ answers agrees. before_sessions answers d'.admin next more d'.seen d''.seen (q.seen answers agrees) agrees in
+    let there : (recorded : Recorded) → IsRecorded d.admin d''.seen recorded → IsRecorded d'.admin d''.seen recorded = λ recorded of. subst (λ (a : Name). IsRecorded a d''.seen recorded) (sym p.admin) of in
+    let mid : (recorded : Recorded) → IsRecorded d.admin d''.seen recorded → IsRecorded d.admin d'.seen recorded = λ recorded of.
+    subst (λ (a : Name). IsRecorded a d'.seen recorded) p.admin (before_sessions recorded d'.admin next more d'.seen d''.seen (q.seen recorded (there recorded of)) (there recorded of)) in
     record {
       small = bodies_more bodies more p.small q.small;
       takes = subst (Takes s s'') (sym (flat_map-append frame_text bodies more)) (takes_more s s' s'' (flat_map frame_text bodies) (flat_map frame_text more) p.takes q.takes);
-      written = λ answers agrees.
-          let written = rw (p.admin, p.seen answers (mid answers agrees)) at (q.written answers agrees) in
-          rw (sessions_more answers d.admin number next bodies more d.seen is) (appends_more k.written k'.written k''.written _ _ (p.written answers (mid answers agrees)) written);
-      seen = λ answers agrees. let seen = rw (p.admin, p.seen answers (mid answers agrees)) at (q.seen answers agrees) in rw (sessions_more answers d.admin number next bodies more d.seen is) seen;
+      written = λ recorded of.
+          let written = rw (p.admin, p.seen recorded (mid recorded of)) at (q.written recorded (there recorded of)) in
+          rw (sessions_more recorded d.admin number next bodies more d.seen is) (appends_more k.written k'.written k''.written _ _ (p.written recorded (mid recorded of)) written);
+      seen = λ recorded of. let seen = rw (p.admin, p.seen recorded (mid recorded of)) at (q.seen recorded (there recorded of)) in rw (sessions_more recorded d.admin number next bodies more d.seen is) seen;
       admin = q.admin ∙ p.admin;
       alone = q.alone;
     }
@@ -232,7 +234,7 @@ runs_to s s' s'' k k' k'' d d' d'' bodies part at advances last follows some wro
     let takes = takes_more s s' s'' (flat_map frame_text bodies) part advances.takes last in
     let whole = input_of s.left s''.left (flat_map frame_text bodies ++ part) takes.consumed in
     let here = follows whole.0 whole.1 in
-    let mid : (answers : Answers) → Agrees answers d''.seen → Agrees answers d'.seen = λ answers agrees. subst (λ (e : DeskView). Agrees answers e.seen) same agrees in
+    let mid : (recorded : Recorded) → IsRecorded d.admin d''.seen recorded → IsRecorded d.admin d'.seen recorded = λ recorded of. subst (λ (e : DeskView). IsRecorded d.admin e.seen recorded) same of in
     record {
       input = (flat_map frame_text bodies ++ part) ++ whole.0;
       bodies = bodies;
@@ -245,8 +247,8 @@ runs_to s s' s'' k k' k'' d d' d'' bodies part at advances last follows some wro
       some = λ bad. (some bad).0;
       no_further = λ bad. (some bad).1;
       takes = takes;
-      written = λ answers agrees. rw here.1 (appends_more k.written k'.written k''.written _ _ (advances.written answers (mid answers agrees)) wrote);
-      log_is = λ answers agrees. ap (λ (e : DeskView). e.seen) same ∙ advances.seen answers (mid answers agrees);
+      written = λ recorded of. rw here.1 (appends_more k.written k'.written k''.written _ _ (advances.written recorded (mid recorded of)) wrote);
+      log_is = λ recorded of. ap (λ (e : DeskView). e.seen) same ∙ advances.seen recorded (mid recorded of);
     }
 
 pub runs_end : (s s' s'' k k' k'' : LinkState) (d d' d'' : DeskView) (bodies : List (List ℕ)) → Advances s s' k k' d d' 1 bodies → FindsEnd s' s'' k' k'' d' d'' → RunsScript s s'' k k'' d.admin d.seen d''.seen false
@@ -281,15 +283,19 @@ advances_next s s' s'' k k' k'' d d' d'' number offset taken bodies advances cou
 )
 
 module _ (s s' s'' k k' k'' : LinkState) (d d' d'' : DeskView) (bodies : List (List ℕ)) (advances : Advances s s' k k' d d' 1 bodies) where
-  out : Answers → List ℕ
-  out answers = (sessions answers d.admin 1 bodies d.seen).output
+  out : Recorded → List ℕ
+  out recorded = (sessions recorded d.admin 1 bodies d.seen).output
 
   -- nothing was logged since
-  unmoved : d'' ≡ d' → (answers : Answers) → Agrees answers d''.seen → Agrees answers d'.seen
-  unmoved same answers agrees = subst (λ (e : DeskView). Agrees answers e.seen) same agrees
+  unmoved : d'' ≡ d' → (recorded : Recorded) → IsRecorded d.admin d''.seen recorded → IsRecorded d.admin d'.seen recorded
+  unmoved same recorded of = subst (λ (e : DeskView). IsRecorded d.admin e.seen recorded) same of
 
-  log_unmoved : d'' ≡ d' → (answers : Answers) → Agrees answers d''.seen → d''.seen ≡ (sessions answers d.admin 1 bodies d.seen).log
-  log_unmoved same answers agrees = ap (λ (e : DeskView). e.seen) same ∙ advances.seen answers (unmoved same answers agrees)
+  -- the admin stays the same
+  there : (log : List Entry) (recorded : Recorded) → IsRecorded d.admin log recorded → IsRecorded d'.admin log recorded
+  there log recorded of = subst (λ (a : Name). IsRecorded a log recorded) (sym advances.admin) of
+
+  log_unmoved : d'' ≡ d' → (recorded : Recorded) → IsRecorded d.admin d''.seen recorded → d''.seen ≡ (sessions recorded d.admin 1 bodies d.seen).log
+  log_unmoved same recorded of = ap (λ (e : DeskView). e.seen) same ∙ advances.seen recorded (unmoved same recorded of)
 
   stops_read : IsLater s s' → FailsAtRead s' s'' k' k'' d' d'' → StopsAtRead s s'' k k'' d.admin d.seen d''.seen
   stops_read later fails = record {
@@ -299,7 +305,7 @@ module _ (s s' s'' k k' k'' : LinkState) (d d' d'' : DeskView) (bodies : List (L
     none = fails.read.none;
     wants = fails.read.wants;
     takes = takes_more s s' s'' (flat_map frame_text bodies) fails.read.part advances.takes fails.read.fails.takes;
-    written = λ answers agrees. rw fails.sink_is (advances.written answers (unmoved fails.desk_is answers agrees));
+    written = λ recorded of. rw fails.sink_is (advances.written recorded (unmoved fails.desk_is recorded of));
     log_is = log_unmoved fails.desk_is;
     risen = risen_later s.read_faults s'.read_faults s''.read_faults later.read_faults fails.read.fails.risen;
   }
@@ -322,29 +328,31 @@ module _ (s s' s'' k k' k'' : LinkState) (d d' d'' : DeskView) (bodies : List (L
         some = tells.read.some;
         no_further = tells.read.no_further;
         takes = takes;
-        short = λ answers agrees. rw (bad_some bodies tells.read.part whole.0 offset tells.read.some place) (more_short (out answers) tells.part.bytes (fault_text offset) tells.part.short);
+        short = λ recorded of. rw (bad_some bodies tells.read.part whole.0 offset tells.read.some place) (more_short (out recorded) tells.part.bytes (fault_text offset) tells.part.short);
         log_is = log_unmoved tells.desk_is;
       }
 
   frames_more : (body : List ℕ) → flat_map frame_text bodies ++ frame_text body ≡ flat_map frame_text (bodies ++ body ∷ [])
   frames_more body = ap (λ (l : List ℕ). flat_map frame_text bodies ++ l) (sym (append-nil (frame_text body))) ∙ sym (flat_map-append frame_text bodies (body ∷ []))
 
-  one_more : (number : ℕ) → number ≡ 1 + length bodies → (body : List ℕ) (answers : Answers) → Agrees answers d'.seen
-      → sessions answers d.admin 1 (bodies ++ body ∷ []) d.seen ≡ record {
-        output = out answers ++ reply_text number (stop_word (served_alone answers d'.admin body d'.seen).stop) (served_alone answers d'.admin body d'.seen).bytes;
-        log = (served_alone answers d'.admin body d'.seen).log;
+  one_more : (number : ℕ) → number ≡ 1 + length bodies → (body : List ℕ) (recorded : Recorded) → IsRecorded d.admin d'.seen recorded
+      → sessions recorded d.admin 1 (bodies ++ body ∷ []) d.seen ≡ record {
+        output = out recorded ++ reply_text number (stop_word (served_alone recorded d'.admin body d'.seen).stop) (served_alone recorded d'.admin body d'.seen).bytes;
+        log = (served_alone recorded d'.admin body d'.seen).log;
       }
   unfolding out
-  one_more number count body answers agrees =
-      subst (λ (p : Name × List Entry). sessions answers d.admin 1 (bodies ++ body ∷ []) d.seen
-      ≡ record { output = out answers ++ reply_text number (stop_word (served_alone answers p.0 body p.1).stop) (served_alone answers p.0 body p.1).bytes; log = (served_alone answers p.0 body p.1).log })
-      (λ i. (sym advances.admin i, sym (advances.seen answers agrees) i))
-      (sessions_more answers d.admin 1 number bodies (body ∷ []) d.seen count
-      ∙ ap (λ (p : Printed). record { output = out answers ++ p.output; log = p.log }) (one_session answers d.admin number body (sessions answers d.admin 1 bodies d.seen).log))
+  one_more number count body recorded of =
+      subst (λ (p : Name × List Entry). sessions recorded d.admin 1 (bodies ++ body ∷ []) d.seen
+      ≡ record { output = out recorded ++ reply_text number (stop_word (served_alone recorded p.0 body p.1).stop) (served_alone recorded p.0 body p.1).bytes; log = (served_alone recorded p.0 body p.1).log })
+      (λ i. (sym advances.admin i, sym (advances.seen recorded of) i))
+      (sessions_more recorded d.admin 1 number bodies (body ∷ []) d.seen count
+      ∙ ap (λ (p : Printed). record { output = out recorded ++ p.output; log = p.log }) (one_session recorded d.admin number body (sessions recorded d.admin 1 bodies d.seen).log))
 
-  -- answers that agree with the log after the session that was served agree with the one before it
-  before_part : (number : ℕ) (part : ServesPart s' s'' k' k'' d' d'' number) (answers : Answers) → Agrees answers d''.seen → Agrees answers d'.seen
-  before_part number part answers agrees = before_served answers d'.admin part.body d'.seen d''.seen (part.serves.seen answers agrees) agrees
+  -- recorded that agree with the log after the session that was served agree with the one before it
+  before_part : (number : ℕ) (part : ServesPart s' s'' k' k'' d' d'' number) (recorded : Recorded) → IsRecorded d.admin d''.seen recorded → IsRecorded d.admin d'.seen recorded
+  before_part number part recorded of =
+      subst (λ (a : Name). IsRecorded a d'.seen recorded) advances.admin
+      (before_served recorded d'.admin part.body d'.seen d''.seen (part.serves.seen recorded (there d''.seen recorded of)) (there d''.seen recorded of))
 
   served : (number : ℕ) → number ≡ 1 + length bodies → (part : ServesPart s' s'' k' k'' d' d'' number) → StopsServing s s'' d.admin d.seen d''.seen bodies part.part.bytes
   unfolding out
@@ -352,33 +360,33 @@ module _ (s s' s'' k k' k'' : LinkState) (d d' d'' : DeskView) (bodies : List (L
     body = part.body;
     small = bodies_more bodies (part.body ∷ []) advances.small (part.read.small, tt);
     takes = subst (λ (l : List ℕ). Takes s s'' l) (frames_more part.body) (takes_more s s' s'' (flat_map frame_text bodies) (frame_text part.body) advances.takes part.read.takes);
-    short = λ answers agrees.
-        rw (one_more number count part.body answers (before_part number part answers agrees), ← part.serves.printed answers agrees) (more_short (out answers) part.part.bytes part.text part.part.short);
-    log_is = λ answers agrees. rw (one_more number count part.body answers (before_part number part answers agrees)) (part.serves.seen answers agrees);
+    short = λ recorded of.
+        rw (one_more number count part.body recorded (before_part number part recorded of), ← part.serves.printed recorded (there d''.seen recorded of)) (more_short (out recorded) part.part.bytes part.text part.part.short);
+    log_is = λ recorded of. rw (one_more number count part.body recorded (before_part number part recorded of)) (part.serves.seen recorded (there d''.seen recorded of));
   }
 
-  wrote : (bytes : List ℕ) → Appends k'.written k''.written bytes → (answers : Answers) → Agrees answers d'.seen → Appends k.written k''.written (out answers ++ bytes)
+  wrote : (bytes : List ℕ) → Appends k'.written k''.written bytes → (recorded : Recorded) → IsRecorded d.admin d'.seen recorded → Appends k.written k''.written (out recorded ++ bytes)
   unfolding out
-  wrote bytes appended answers agrees = appends_more k.written k'.written k''.written (out answers) bytes (advances.written answers agrees) appended
+  wrote bytes appended recorded of = appends_more k.written k'.written k''.written (out recorded) bytes (advances.written recorded of) appended
 
   stops_write : (number offset : ℕ) → number ≡ 1 + length bodies → offset ≡ length (flat_map frame_text bodies) → IsLater k k'
       → ServesPart s' s'' k' k'' d' d'' number ⊎ TellsPart s' s'' k' k'' d' d'' offset → HasRisen k'.write_faults k''.write_faults → StopsAtWrite s s'' k k'' d.admin d.seen d''.seen
   unfolding out
   stops_write number offset count place later (inl part) risen =
-      record { done = bodies; more = part.part.bytes; written = λ answers agrees. wrote part.part.bytes part.part.written answers (before_part number part answers agrees); stops = inl (served number count part); risen = risen_later k.write_faults k'.write_faults k''.write_faults later.write_faults risen }
+      record { done = bodies; more = part.part.bytes; written = λ recorded of. wrote part.part.bytes part.part.written recorded (before_part number part recorded of); stops = inl (served number count part); risen = risen_later k.write_faults k'.write_faults k''.write_faults later.write_faults risen }
   stops_write number offset count place later (inr tells) risen =
-      record { done = bodies; more = tells.part.bytes; written = λ answers agrees. wrote tells.part.bytes tells.part.written answers (unmoved tells.desk_is answers agrees); stops = inr (told offset place tells); risen = risen_later k.write_faults k'.write_faults k''.write_faults later.write_faults risen }
+      record { done = bodies; more = tells.part.bytes; written = λ recorded of. wrote tells.part.bytes tells.part.written recorded (unmoved tells.desk_is recorded of); stops = inr (told offset place tells); risen = risen_later k.write_faults k'.write_faults k''.write_faults later.write_faults risen }
 
   may_lack : (bytes : List ℕ) → IsLater k k' → MayLackAfter k' bytes → MayLackAfter k bytes
   may_lack bytes later may = rw later.may_lack at may
 
   -- entries were made since
-  begun : Begins d'.seen d''.seen → (answers : Answers) → Agrees answers d''.seen → Agrees answers d'.seen
-  begun goes_on answers agrees = agrees_before answers d'.seen d''.seen goes_on agrees
+  begun : Begins d'.seen d''.seen → (recorded : Recorded) → IsRecorded d.admin d''.seen recorded → IsRecorded d.admin d'.seen recorded
+  begun goes_on recorded of = recorded_before d.admin d'.seen d''.seen recorded goes_on of
 
   -- where nothing more was printed
-  unsaid : k'' ≡ k' → (answers : Answers) → Agrees answers d'.seen → Appends k.written k''.written (out answers ++ [])
-  unsaid same answers agrees = wrote [] (rw same (Appends-nil k'.written)) answers agrees
+  unsaid : k'' ≡ k' → (recorded : Recorded) → IsRecorded d.admin d'.seen recorded → Appends k.written k''.written (out recorded ++ [])
+  unsaid same recorded of = wrote [] (rw same (Appends-nil k'.written)) recorded of
 
   stops_memory : (number offset : ℕ) → number ≡ 1 + length bodies → offset ≡ length (flat_map frame_text bodies) → IsLater k k'
       → LacksAtRead s' s'' k' k'' d' d'' ⊎ LacksServing s' s'' k' k'' d' d'' ⊎ ((part : ServesPart s' s'' k' k'' d' d'' number) × MayLackAfter k' part.part.bytes) ⊎ ((tells : TellsPart s' s'' k' k'' d' d'' offset) × MayLackAfter k' tells.part.bytes)
@@ -387,7 +395,7 @@ module _ (s s' s'' k k' k'' : LinkState) (d d' d'' : DeskView) (bodies : List (L
   stops_memory number offset count place later (inl lacks) = record {
     done = bodies;
     more = [];
-    written = λ answers agrees. unsaid lacks.sink_is answers (unmoved lacks.desk_is answers agrees);
+    written = λ recorded of. unsaid lacks.sink_is recorded (unmoved lacks.desk_is recorded of);
     may_lack = inl refl;
     stops =
         inl (record {
@@ -403,7 +411,7 @@ module _ (s s' s'' k k' k'' : LinkState) (d d' d'' : DeskView) (bodies : List (L
   stops_memory number offset count place later (inr (inl lacks)) = record {
     done = bodies;
     more = [];
-    written = λ answers agrees. unsaid lacks.sink_is answers (begun lacks.lacks.goes_on answers agrees);
+    written = λ recorded of. unsaid lacks.sink_is recorded (begun lacks.lacks.goes_on recorded of);
     may_lack = inl refl;
     stops =
         inr (inl (record {
@@ -411,14 +419,14 @@ module _ (s s' s'' k k' k'' : LinkState) (d d' d'' : DeskView) (bodies : List (L
           small = bodies_more bodies (lacks.body ∷ []) advances.small (lacks.read.small, tt);
           takes = subst (λ (l : List ℕ). Takes s s'' l) (frames_more lacks.body) (takes_more s s' s'' (flat_map frame_text bodies) (frame_text lacks.body) advances.takes lacks.read.takes);
           nothing = refl;
-          goes_on = λ answers agrees. subst (λ (l : List Entry). Begins l d''.seen) (advances.seen answers (begun lacks.lacks.goes_on answers agrees)) lacks.lacks.goes_on;
-          within = λ answers agrees. rw (one_more number count lacks.body answers (begun lacks.lacks.goes_on answers agrees)) (lacks.lacks.within answers agrees);
+          goes_on = λ recorded of. subst (λ (l : List Entry). Begins l d''.seen) (advances.seen recorded (begun lacks.lacks.goes_on recorded of)) lacks.lacks.goes_on;
+          within = λ recorded of. rw (one_more number count lacks.body recorded (begun lacks.lacks.goes_on recorded of)) (lacks.lacks.within recorded (there d''.seen recorded of));
         }));
   }
   stops_memory number offset count place later (inr (inr (inl (part, may)))) =
-      record { done = bodies; more = part.part.bytes; written = λ answers agrees. wrote part.part.bytes part.part.written answers (before_part number part answers agrees); may_lack = may_lack part.part.bytes later may; stops = inr (inr (inl (served number count part))) }
+      record { done = bodies; more = part.part.bytes; written = λ recorded of. wrote part.part.bytes part.part.written recorded (before_part number part recorded of); may_lack = may_lack part.part.bytes later may; stops = inr (inr (inl (served number count part))) }
   stops_memory number offset count place later (inr (inr (inr (tells, may)))) =
-      record { done = bodies; more = tells.part.bytes; written = λ answers agrees. wrote tells.part.bytes tells.part.written answers (unmoved tells.desk_is answers agrees); may_lack = may_lack tells.part.bytes later may; stops = inr (inr (inr (told offset place tells))) }
+      record { done = bodies; more = tells.part.bytes; written = λ recorded of. wrote tells.part.bytes tells.part.written recorded (unmoved tells.desk_is recorded of); may_lack = may_lack tells.part.bytes later may; stops = inr (inr (inr (told offset place tells))) }
 
 pub stops : (s s' s'' k k' k'' : LinkState) (d d' d'' : DeskView) (bodies : List (List ℕ)) (number offset : ℕ) (fault : ScriptFault) → Advances s s' k k' d d' 1 bodies → number ≡ 1 + length bodies
     → offset ≡ length (flat_map frame_text bodies) → IsLater s s' → IsLater k k' → StopsAdvancing s' s'' k' k'' d' d'' number offset fault → StopsScript s s'' k k'' d.admin d.seen d''.seen fault

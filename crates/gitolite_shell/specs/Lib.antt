@@ -1,4 +1,5 @@
 pub mod Perms
+pub mod Info
 pub mod Session
 pub mod Script
 pub mod RunningScripts

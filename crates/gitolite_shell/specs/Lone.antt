@@ -7,6 +7,7 @@ use Rattle.hub_history.specs.declared.entry.Entry.{Entry}
 use Rattle.ref_store.specs.Refs.{Name}
 use Rattle.hub.specs.Desk.{DeskView}
 use Rattle.hub_history.specs.History.{IsLegal}
+use Rattle.session_core.specs.Recorded.{IsRecorded, Recorded}
 use Rattle.gitolite_shell.specs.Words.{is_check, script_admin, usage_line}
 use Rattle.gitolite_shell.specs.RunningScripts.{RunsScript, StopsAtRead, StopsAtWrite, StopsForMemory, WritesPart}
 use Rattle.gitolite_shell.specs.Check.{EndsCheck}
@@ -64,3 +65,7 @@ TellsStatus source source' sink sink' number = ((number ≡ 2) ⊎ (source'.read
 -- The log of a script is legal from the setup for its admin: each recorded answer is the one that is due by what stands before it.
 abbrev pub IsLegalRun : List (List ℕ) → List Entry → Type 0
 IsLegalRun words log = IfSome (script_admin words) (λ admin. IsLegal admin log)
+
+-- And something is recorded by it, so that what holds by all that the log records isn't said of nothing.
+abbrev pub IsRecordedRun : List (List ℕ) → List Entry → Type 0
+IsRecordedRun words log = IfSome (script_admin words) (λ admin. (recorded : Recorded) × IsRecorded admin log recorded)

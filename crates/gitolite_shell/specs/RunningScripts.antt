@@ -7,9 +7,9 @@ use Rattle.pktline_core.specs.LinkState.{LinkState}
 use Rattle.hub_history.specs.declared.entry.Entry.{Entry}
 use Rattle.ref_store.specs.Refs.{Name}
 use Rattle.hub.specs.Desk.{DeskView}
-use Rattle.interaction_tree.specs.Requests.{AsLogged}
 use Rattle.interaction_tree.specs.Traces.{Begins, FallsShort}
 use Rattle.interaction_tree.specs.Endings.{IsInput}
+use Rattle.session_core.specs.Recorded.{AsRecorded}
 use Rattle.script_frames.specs.Frames.{frame_text, AreBodies, BeginsNoFrame, IsScript}
 use Rattle.script_frames.specs.ReadingFrames.{Takes, IsRest, TakesFrame, TakesNoFrame, EndsInside, GoesNoFurther, WantsMore, FailsInFrame, LacksInFrame}
 use Rattle.gitolite_shell.specs.Script.{stop_word, reply_text, fault_text, served_alone, sessions, bad_offset, script}
@@ -18,8 +18,8 @@ use Rattle.gitolite_shell.specs.declared.script.ScriptFault.TheVariants.{BadScri
 
 -- One session was served, and this is printed of it: what the session gives at a hub that answers as the log afterwards records.
 pub record Serves (old new : DeskView) (number : ℕ) (body text : List ℕ) : Type 0 where
-  pub printed : AsLogged new.seen (λ answers. text ≡ reply_text number (stop_word (served_alone answers old.admin body old.seen).stop) (served_alone answers old.admin body old.seen).bytes)
-  pub seen : AsLogged new.seen (λ answers. new.seen ≡ (served_alone answers old.admin body old.seen).log)
+  pub printed : AsRecorded old.admin new.seen (λ recorded. text ≡ reply_text number (stop_word (served_alone recorded old.admin body old.seen).stop) (served_alone recorded old.admin body old.seen).bytes)
+  pub seen : AsRecorded old.admin new.seen (λ recorded. new.seen ≡ (served_alone recorded old.admin body old.seen).log)
   pub admin : new.admin ≡ old.admin
   pub alone : IsTrue new.alone
 
@@ -28,8 +28,8 @@ pub record Serves (old new : DeskView) (number : ℕ) (body text : List ℕ) : T
 pub record Advances (source source' sink sink' : LinkState) (old new : DeskView) (number : ℕ) (bodies : List (List ℕ)) : Type 0 where
   pub small : AreBodies bodies
   pub takes : Takes source source' (flat_map frame_text bodies)
-  pub written : AsLogged new.seen (λ answers. Appends sink.written sink'.written (sessions answers old.admin number bodies old.seen).output)
-  pub seen : AsLogged new.seen (λ answers. new.seen ≡ (sessions answers old.admin number bodies old.seen).log)
+  pub written : AsRecorded old.admin new.seen (λ recorded. Appends sink.written sink'.written (sessions recorded old.admin number bodies old.seen).output)
+  pub seen : AsRecorded old.admin new.seen (λ recorded. new.seen ≡ (sessions recorded old.admin number bodies old.seen).log)
   pub admin : new.admin ≡ old.admin
   pub alone : IsTrue new.alone
 
@@ -84,7 +84,7 @@ pub record LacksAtRead (source source' sink sink' : LinkState) (old new : DeskVi
 -- Memory lacked in a session, or where its reply was put together: of the entries that are due of it a beginning was made.
 pub record LacksSession (old new : DeskView) (body : List ℕ) : Type 0 where
   pub goes_on : Begins old.seen new.seen
-  pub within : AsLogged new.seen (λ answers. Begins new.seen (served_alone answers old.admin body old.seen).log)
+  pub within : AsRecorded old.admin new.seen (λ recorded. Begins new.seen (served_alone recorded old.admin body old.seen).log)
 
 -- the next frame was read, and memory lacked in its session, of which nothing was printed
 pub record LacksServing (source source' sink sink' : LinkState) (old new : DeskView) : Type 0 where
@@ -140,8 +140,8 @@ pub record RunsScript (source source' sink sink' : LinkState) (admin : Name) (lo
   pub some : IsTrue bad → 0 < length part
   pub no_further : IsTrue bad → GoesNoFurther part
   pub takes : Takes source source' (flat_map frame_text bodies ++ part)
-  pub written : AsLogged log' (λ answers. Appends sink.written sink'.written (script answers admin bodies rest log).output)
-  pub log_is : AsLogged log' (λ answers. log' ≡ (script answers admin bodies rest log).log)
+  pub written : AsRecorded admin log' (λ recorded. Appends sink.written sink'.written (script recorded admin bodies rest log).output)
+  pub log_is : AsRecorded admin log' (λ recorded. log' ≡ (script recorded admin bodies rest log).log)
 
 -- A read failed before a frame or inside it: the sessions of all frames that were read whole were served and printed.
 pub record StopsAtRead (source source' sink sink' : LinkState) (admin : Name) (log log' : List Entry) : Type 0 where
@@ -151,8 +151,8 @@ pub record StopsAtRead (source source' sink sink' : LinkState) (admin : Name) (l
   pub none : BeginsNoFrame part
   pub wants : WantsMore part
   pub takes : Takes source source' (flat_map frame_text bodies ++ part)
-  pub written : AsLogged log' (λ answers. Appends sink.written sink'.written (sessions answers admin 1 bodies log).output)
-  pub log_is : AsLogged log' (λ answers. log' ≡ (sessions answers admin 1 bodies log).log)
+  pub written : AsRecorded admin log' (λ recorded. Appends sink.written sink'.written (sessions recorded admin 1 bodies log).output)
+  pub log_is : AsRecorded admin log' (λ recorded. log' ≡ (sessions recorded admin 1 bodies log).log)
   pub risen : HasRisen source.read_faults source'.read_faults
 
 -- The session of the next frame was served, and what was printed, which is what is printed of these and then so much more, falls short of what is
@@ -161,8 +161,8 @@ pub record StopsServing (source source' : LinkState) (admin : Name) (log log' : 
   pub body : List ℕ
   pub small : AreBodies (done ++ body ∷ [])
   pub takes : Takes source source' (flat_map frame_text (done ++ body ∷ []))
-  pub short : AsLogged log' (λ answers. FallsShort ((sessions answers admin 1 done log).output ++ more) (sessions answers admin 1 (done ++ body ∷ []) log).output)
-  pub log_is : AsLogged log' (λ answers. log' ≡ (sessions answers admin 1 (done ++ body ∷ []) log).log)
+  pub short : AsRecorded admin log' (λ recorded. FallsShort ((sessions recorded admin 1 done log).output ++ more) (sessions recorded admin 1 (done ++ body ∷ []) log).output)
+  pub log_is : AsRecorded admin log' (λ recorded. log' ≡ (sessions recorded admin 1 (done ++ body ∷ []) log).log)
 
 -- no frame follows, and what was printed, so much more than of these, falls short of what is printed of these and of the bad frame
 pub record StopsTelling (source source' : LinkState) (admin : Name) (log log' : List Entry) (done : List (List ℕ)) (more : List ℕ) : Type 0 where
@@ -175,14 +175,14 @@ pub record StopsTelling (source source' : LinkState) (admin : Name) (log log' : 
   pub some : 0 < length part
   pub no_further : GoesNoFurther part
   pub takes : Takes source source' (flat_map frame_text done ++ part)
-  pub short : AsLogged log' (λ answers. FallsShort ((sessions answers admin 1 done log).output ++ more) (script answers admin done rest log).output)
-  pub log_is : AsLogged log' (λ answers. log' ≡ (sessions answers admin 1 done log).log)
+  pub short : AsRecorded admin log' (λ recorded. FallsShort ((sessions recorded admin 1 done log).output ++ more) (script recorded admin done rest log).output)
+  pub log_is : AsRecorded admin log' (λ recorded. log' ≡ (sessions recorded admin 1 done log).log)
 
 -- A write failed. The sessions of these frames were served and printed whole; then the next session was served, or a frame was found to be bad, and a beginning of what is printed of that, not all of it.
 pub record StopsAtWrite (source source' sink sink' : LinkState) (admin : Name) (log log' : List Entry) : Type 0 where
   pub done : List (List ℕ)
   pub more : List ℕ
-  pub written : AsLogged log' (λ answers. Appends sink.written sink'.written ((sessions answers admin 1 done log).output ++ more))
+  pub written : AsRecorded admin log' (λ recorded. Appends sink.written sink'.written ((sessions recorded admin 1 done log).output ++ more))
   pub stops : StopsServing source source' admin log log' done more ⊎ StopsTelling source source' admin log log' done more
   pub risen : HasRisen sink.write_faults sink'.write_faults
 
@@ -194,7 +194,7 @@ pub record StopsReading (source source' : LinkState) (admin : Name) (log log' : 
   pub inside : EndsInside 18 part
   pub takes : Takes source source' (flat_map frame_text done ++ part)
   pub nothing : more ≡ []
-  pub log_is : AsLogged log' (λ answers. log' ≡ (sessions answers admin 1 done log).log)
+  pub log_is : AsRecorded admin log' (λ recorded. log' ≡ (sessions recorded admin 1 done log).log)
 
 -- memory lacked in the session of the next frame: nothing more was printed than of these, and of that session's entries a beginning was made
 pub record StopsInSession (source source' : LinkState) (admin : Name) (log log' : List Entry) (done : List (List ℕ)) (more : List ℕ) : Type 0 where
@@ -202,15 +202,15 @@ pub record StopsInSession (source source' : LinkState) (admin : Name) (log log' 
   pub small : AreBodies (done ++ body ∷ [])
   pub takes : Takes source source' (flat_map frame_text (done ++ body ∷ []))
   pub nothing : more ≡ []
-  pub goes_on : AsLogged log' (λ answers. Begins (sessions answers admin 1 done log).log log')
-  pub within : AsLogged log' (λ answers. Begins log' (sessions answers admin 1 (done ++ body ∷ []) log).log)
+  pub goes_on : AsRecorded admin log' (λ recorded. Begins (sessions recorded admin 1 done log).log log')
+  pub within : AsRecorded admin log' (λ recorded. Begins log' (sessions recorded admin 1 (done ++ body ∷ []) log).log)
 
 -- Memory lacked. The sessions of these frames were served and printed whole; then it lacked before the next frame or inside it, or in its session, and
 -- nothing more was printed; or that session was served, or a frame was found to be bad, and a beginning of what is printed of that, not all of it.
 pub record StopsForMemory (source source' sink sink' : LinkState) (admin : Name) (log log' : List Entry) : Type 0 where
   pub done : List (List ℕ)
   pub more : List ℕ
-  pub written : AsLogged log' (λ answers. Appends sink.written sink'.written ((sessions answers admin 1 done log).output ++ more))
+  pub written : AsRecorded admin log' (λ recorded. Appends sink.written sink'.written ((sessions recorded admin 1 done log).output ++ more))
   pub may_lack : MayLackAfter sink more
   pub stops :
       StopsReading source source' admin log log' done more

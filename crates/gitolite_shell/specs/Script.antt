@@ -3,11 +3,11 @@ use Rattle.std.specs.Prelude.{ℕ, ◌+◌, List, [], ◌∷◌, ◌++◌, lengt
 use Rattle.std.specs.List.{flat_map}
 use Rattle.hub_history.specs.declared.entry.Entry.{Entry}
 use Rattle.ref_store.specs.Refs.{Name}
-use Rattle.interaction_tree.specs.Requests.{Answers}
 use Rattle.interaction_tree.specs.Turns.{Stop, Gave, Ended, Unanswered, Waiting}
 use Rattle.interaction_tree.specs.Alone.{TurnAlone, turn_alone}
 use Rattle.session_core.specs.declared.end.SessionEnd.{SessionEnd}
 use Rattle.session_core.specs.declared.end.SessionEnd.TheVariants as end
+use Rattle.session_core.specs.Recorded.{Recorded}
 use Rattle.gitolite_shell.specs.Session.{session}
 use Rattle.script_frames.specs.Frames.{frame_text}
 
@@ -24,7 +24,7 @@ end_word (end.Malformed offset) = codes "malformed"
 end_word (end.TooLong count) = codes "too-long"
 end_word end.Truncated = codes "truncated"
 end_word (end.BadPack fault) = codes "bad-pack"
-end_word end.NotBuilt = codes "not-built"
+end_word (end.NotOurRef id) = codes "not-our-ref"
 end_word end.ReadFault = []
 end_word end.WriteFault = []
 end_word end.NoMemory = []
@@ -44,11 +44,11 @@ reply_text number word reply = codes "session " ++ decimal number ++ 32 ∷ word
 unfoldable pub fault_text : ℕ → List ℕ
 fault_text offset = codes "bad script at " ++ decimal offset ++ 10 ∷ []
 
--- II. Sessions one after the other, at a hub of this admin's setup that answers so and that nobody else asks
+-- II. Sessions one after the other, at a hub of this admin's setup that answers so, by rules in force that are these, and that nobody else asks
 
 -- a session with this input, on this log
-unfoldable pub served_alone : Answers → Name → List ℕ → List Entry → TurnAlone SessionEnd (Unit {0})
-served_alone answers admin input log = turn_alone answers (session admin) input log
+unfoldable pub served_alone : Recorded → Name → List ℕ → List Entry → TurnAlone SessionEnd (Unit {0})
+served_alone recorded admin input log = turn_alone recorded.answers (session recorded.book admin) input log
 
 pub record Printed : Type 0 where
   -- what is printed
@@ -57,11 +57,11 @@ pub record Printed : Type 0 where
   pub log : List Entry
 
 -- The sessions with these inputs, of which the first has this number, each on the log that the one before it left.
-unfoldable pub sessions : Answers → Name → ℕ → List (List ℕ) → List Entry → Printed
-sessions answers admin number [] log = record { output = []; log = log }
-sessions answers admin number (body ∷ bodies) log =
-    let turn = served_alone answers admin body log in
-    let more = sessions answers admin (number + 1) bodies turn.log in
+unfoldable pub sessions : Recorded → Name → ℕ → List (List ℕ) → List Entry → Printed
+sessions recorded admin number [] log = record { output = []; log = log }
+sessions recorded admin number (body ∷ bodies) log =
+    let turn = served_alone recorded admin body log in
+    let more = sessions recorded admin (number + 1) bodies turn.log in
     record { output = reply_text number (stop_word turn.stop) turn.bytes ++ more.output; log = more.log }
 
 -- III. A script
@@ -77,7 +77,7 @@ last_line None = []
 last_line (Some offset) = fault_text offset
 
 -- A script of frames with these bodies and of what follows them, at the log before it: the sessions from number 1 on, and a line where a frame is bad.
-unfoldable pub script : Answers → Name → List (List ℕ) → List ℕ → List Entry → Printed
-script answers admin bodies rest log =
-    let all = sessions answers admin 1 bodies log in
+unfoldable pub script : Recorded → Name → List (List ℕ) → List ℕ → List Entry → Printed
+script recorded admin bodies rest log =
+    let all = sessions recorded admin 1 bodies log in
     record { output = all.output ++ last_line (bad_offset bodies rest); log = all.log }

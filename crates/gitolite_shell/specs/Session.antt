@@ -1,41 +1,61 @@
 -- A session, as an interaction.
-use Rattle.std.specs.Prelude.{ℕ, codes}
+use Rattle.std.specs.Prelude.{ℕ, Result, Ok, Err}
 use Rattle.ref_store.specs.Refs.{Name}
-use Rattle.interaction_tree.specs.Interaction.{Interaction, ends, ◌>>=◌}
+use Rattle.access_check.specs.declared.verdicts.Want.TheVariants.{Read, Write}
+use Rattle.interaction_tree.specs.Traces.{Ended, Halt}
+use Rattle.interaction_tree.specs.Interaction.{Interaction, gives, ends, ◌>>=◌}
 use Rattle.session_core.specs.declared.end.SessionEnd.{SessionEnd}
 use Rattle.session_core.specs.declared.end.SessionEnd.TheVariants as end
-use Rattle.session_core.specs.declared.first_packet.Asked.{Asked}
 use Rattle.session_core.specs.declared.first_packet.Service.{Service}
-use Rattle.session_core.specs.declared.first_packet.Service.TheVariants.{Receive, Permit, Unbuilt}
+use Rattle.session_core.specs.declared.first_packet.Service.TheVariants.{Receive, Upload, Permit, Look}
 use Rattle.session_core.specs.Asking.{asking}
 use Rattle.session_core.specs.Opening.{entering}
-use Rattle.session_core.specs.Packets.{refuse}
+use Rattle.session_core.specs.Rulebook.{Rulebook}
 use Rattle.receive_pack.specs.Receiving.{receiving}
+use Rattle.upload_pack.specs.Uploading.{uploading}
+use Rattle.upload_pack.specs.declared.uploading.FetchEnd.{FetchEnd}
+use Rattle.upload_pack.specs.declared.uploading.FetchEnd.TheVariants as fetch
+use Rattle.gitolite_shell.specs.Info.{looking}
 use Rattle.gitolite_shell.specs.Perms.{permitting}
 
 -- the opening, and the push behind it; the first packet ends at this offset
-unfoldable pub pushing_into : Name → Name → Name → ℕ → Interaction SessionEnd (Unit {0})
-pushing_into admin user repo offset = do
-  opening ← entering admin user repo
-  receiving opening offset
+unfoldable pub pushing_into : Rulebook → Name → Name → Name → ℕ → Interaction SessionEnd (Unit {0})
+pushing_into book admin user repo offset = do
+  opening ← entering book admin user repo Write
+  receiving book opening offset
 
-unfoldable pub not_built : Interaction SessionEnd (Unit {0})
-not_built = refuse (codes "ERR not built") end.NotBuilt
+-- a fetch that was told that a want isn't advertised ends so
+abbrev pub fetched : FetchEnd → Interaction SessionEnd (Unit {0})
+fetched fetch.Served = gives tt
+fetched (fetch.NotOurRef id) = ends (end.NotOurRef id)
+
+-- what a function answers that ends the session so
+abbrev pub fetched_outcome : FetchEnd → Result (Unit {0}) (Halt SessionEnd)
+fetched_outcome fetch.Served = Ok tt
+fetched_outcome (fetch.NotOurRef id) = Err (Ended (end.NotOurRef id))
+
+-- the opening, and the fetch behind it
+unfoldable pub fetching_from : Rulebook → Name → Name → Name → ℕ → Interaction SessionEnd (Unit {0})
+fetching_from book admin user repo offset = do
+  opening ← entering book admin user repo Read
+  end ← uploading opening offset
+  fetched end
 
 -- what is asked for by this user, in a first packet that ends at this offset
-abbrev pub serving : Name → Name → Service → ℕ → Interaction SessionEnd (Unit {0})
-serving admin user (Receive repo) offset = pushing_into admin user repo offset
-serving admin user (Permit repo change) offset = permitting admin user repo change
-serving admin user Unbuilt offset = not_built
+abbrev pub serving : Rulebook → Name → Name → Service → ℕ → Interaction SessionEnd (Unit {0})
+serving book admin user (Receive repo) offset = pushing_into book admin user repo offset
+serving book admin user (Upload repo) offset = fetching_from book admin user repo offset
+serving book admin user (Permit repo change) offset = permitting admin user repo change
+serving book admin user Look offset = looking book admin user
 
 -- from this offset on, which is the session's first byte
-unfoldable pub served : Name → ℕ → Interaction SessionEnd (Unit {0})
-served admin offset = do
+unfoldable pub served : Rulebook → Name → ℕ → Interaction SessionEnd (Unit {0})
+served book admin offset = do
   first ← asking offset
-  serving admin first.0.user first.0.service first.1
+  serving book admin first.0.user first.0.service first.1
 
--- the session of a hub of this admin's setup
-unfoldable pub session : Name → Interaction SessionEnd (Unit {0})
-session admin = do
-  done ← served admin 0
+-- the session of a hub of this admin's setup, by the rules that are in force along its log
+unfoldable pub session : Rulebook → Name → Interaction SessionEnd (Unit {0})
+session book admin = do
+  done ← served book admin 0
   ends end.Served

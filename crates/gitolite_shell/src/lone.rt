@@ -2,7 +2,7 @@
 ghost use Rattle.std.specs.Prelude.{◌≡◌, ◌⊎◌, IfOk, map, string_bytes, true};
 ghost use Rattle.conf_lex.specs.Names.{is_user_name};
 ghost use Rattle.hub.specs.LoneDesk.{desk_of};
-ghost use Rattle.gitolite_shell.specs.Lone.{EndsRun, EndsSurely, EndsUsage, IsLegalRun, TellsStatus, new_desk};
+ghost use Rattle.gitolite_shell.specs.Lone.{EndsRun, EndsSurely, EndsUsage, IsLegalRun, IsRecordedRun, TellsStatus, new_desk};
 ghost use Rattle.gitolite_shell.specs.Status.{status_number};
 
 use crate::check::run_check;
@@ -13,6 +13,7 @@ use base_types::NoMemory;
 use conf_lex::UserName;
 use hub::{Desk, EntryList, Hub, LoneDesk};
 use pktline_core::{Sink, Source};
+use session_core::hold_laws;
 use std::alloc::Global;
 
 /// The status of a run, and the log that it led to.
@@ -55,7 +56,10 @@ pub fn lone_main<I: Source, O: Sink>(
     ensures tells { TellsStatus (I.state input.old) (I.state input.new) (O.state output.old) (O.state output.new) result.status }
     ensures sure { EndsSurely (map string_bytes words.now) (I.state input.old) (I.state input.new) (O.state output.old) (O.state output.new) result.status }
     ensures legal { IsLegalRun (map string_bytes words.now) result.log }
+    ensures recorded { IsRecordedRun (map string_bytes words.now) result.log }
 {
+    // called for its clause that every legal log records something
+    hold_laws();
     if is_check(words) {
         return Ended {
             status: run_check(alloc, input, output).number(),

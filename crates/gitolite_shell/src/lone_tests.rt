@@ -147,7 +147,6 @@ const DENIED: &[u8] =
 const ADVERTISED: &[u8] =
     b"session 1 served 106\n00660000000000000000000000000000000000000000 capabilities^{}\0report-status delete-refs no-thin atomic\n0000\n";
 
-// A session that isn't built yet leaves no entry.
 #[test]
 fn a_first_session_opens_or_is_denied(rt: HostRuntime) -> Result<(), Fail> {
     let alloc = rt.alloc();
@@ -156,12 +155,6 @@ fn a_first_session_opens_or_is_denied(rt: HostRuntime) -> Result<(), Fail> {
     assert!(rt; opens_alone(alloc, body, DENIED, denied)?);
     let body = b"0024carol git-receive-pack 'testing'0000";
     assert!(rt; opens_alone(alloc, body, ADVERTISED, EnterKept::Granted)?);
-    let (printed, ended) = run(alloc, frame(alloc, b"0023carol git-upload-pack 'testing'")?)?;
-    assert_eq!(rt;
-        printed.as_slice(),
-        b"session 1 not-built 17\n0011ERR not built\n".as_slice()
-    );
-    assert!(rt; ended.status == 0 && ended.log.len() == 0);
     Ok(())
 }
 

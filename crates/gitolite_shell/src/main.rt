@@ -1,6 +1,7 @@
 //! The server: sessions, a script of them, and the program.
 //!
 //! - `perms`: changes and listings of roles;
+//! - `info`: what there is to see;
 //! - `session`: a session, from its first packet to its end;
 //! - `script`: sessions one after the other, and what is printed of them;
 //! - `status`: how a run of the program ends;
@@ -15,6 +16,7 @@
 mod check;
 #[cfg(test)]
 mod check_tests;
+mod info;
 mod lone;
 #[cfg(test)]
 mod lone_tests;

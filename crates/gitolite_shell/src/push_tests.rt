@@ -61,23 +61,24 @@ fn a_refused_pack_leaves_the_opening_alone(rt: HostRuntime) -> Result<(), Fail> 
     Ok(())
 }
 
-// The first packets have 157 bytes, the two entries 170 and 1.
+// The first packet has 36 bytes, the commands up to their flush 121, and the two entries of the pack 170 and 1.
 #[test]
-fn a_pack_that_ends_early_is_refused(rt: HostRuntime) -> Result<(), Fail> {
+fn an_input_that_ends_early_has_its_end(rt: HostRuntime) -> Result<(), Fail> {
     let alloc = rt.alloc();
     let input = first_push(alloc)?;
-    for size in 157..348usize {
+    for size in 0..348usize {
         let mut desk = new_desk(alloc)?;
         let part = input.split_at(size.min(input.len())).0;
         let (end, written) = serve(alloc, &mut desk, part, 65_520)?;
-        let entry = match size {
-            0..327 => 0,
-            327 => 1,
-            _ => 2,
+        let (due, bytes, entries) = match size {
+            0..36 => (SessionEnd::Truncated, 0, 0),
+            36..157 => (SessionEnd::Truncated, 106, 1),
+            157..327 => (SessionEnd::BadPack(PackFault::Truncated(0)), 182, 1),
+            327 => (SessionEnd::BadPack(PackFault::Truncated(1)), 182, 1),
+            _ => (SessionEnd::BadPack(PackFault::Truncated(2)), 182, 1),
         };
-        let fault = PackFault::Truncated(entry);
-        assert!(rt; end == SessionEnd::BadPack(fault), "{size}");
-        assert!(rt; written.len() == 182 && desk.into_hub().into_log().len() == 1);
+        assert!(rt; end == due && written.len() == bytes, "{size}");
+        assert_eq!(rt; desk.into_hub().into_log().len(), entries);
     }
     Ok(())
 }

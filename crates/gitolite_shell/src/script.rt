@@ -56,7 +56,7 @@ fn word(end: SessionEnd) -> Option<&'static str>
         SessionEnd::TooLong(_) => Some("too-long"),
         SessionEnd::Truncated => Some("truncated"),
         SessionEnd::BadPack(_) => Some("bad-pack"),
-        SessionEnd::NotBuilt => Some("not-built"),
+        SessionEnd::NotOurRef(_) => Some("not-our-ref"),
         SessionEnd::ReadFault => None,
         SessionEnd::WriteFault => None,
         SessionEnd::NoMemory => None,

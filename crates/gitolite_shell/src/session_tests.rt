@@ -250,9 +250,9 @@ fn a_first_packet_has_its_end(rt: HostRuntime) -> Result<(), Fail> {
             "0013ERR bad command",
         ),
         (
-            "0023carol git-upload-pack 'testing'",
-            SessionEnd::NotBuilt,
-            "0011ERR not built",
+            "0023carol git-upload-pack 'nothing'",
+            SessionEnd::Denied,
+            "002eERR R any nothing carol DENIED by fallthru",
         ),
         (
             "0024carol git-receive-pack 'nothing'",

@@ -1,17 +1,18 @@
 -- No entry is made between what is written and what is read next.
-use Rattle.std.proofs.Common.{◌≡◌, ℕ, zero, suc, Bool, true, false, List, Option, None, Some, Result, Ok, Err, refl}
+use Rattle.std.proofs.Common.{ℕ, zero, suc, Bool, true, false, List, Option, None, Some, Result, Ok, Err, refl}
 use Rattle.std.specs.Bool.{⊤}
 use Rattle.pktline_core.specs.Packets as packets
 use Rattle.raw_pack.specs.declared.fault.PackFault.{PackFault}
 use Rattle.git_object.specs.Content.{Content}
 use Rattle.ref_store.specs.declared.command.Command.{Command}
 use Rattle.hub_history.specs.Opening.{Opening}
-use Rattle.interaction_tree.specs.Interaction.{Interaction, gives, ◌>>=◌, write, read, ask}
+use Rattle.interaction_tree.specs.Interaction.{Interaction, ◌>>=◌, write, read, ask}
 use Rattle.interaction_tree.specs.Order.{EntriesFirst}
 use Rattle.interaction_tree.proofs.OrderLemmas.{order_then}
 use Rattle.session_core.specs.declared.end.SessionEnd.{SessionEnd}
 use Rattle.session_core.specs.FirstPacket.{without_feed}
 use Rattle.session_core.specs.Packets.{malformed, next_packet, refuse}
+use Rattle.session_core.specs.Rulebook.{Rulebook}
 use Rattle.session_core.proofs.OrderLemmas.{ReadLast, order_next}
 use Rattle.receive_pack.specs.declared.changes.Capabilities.{Capabilities}
 use Rattle.receive_pack.specs.Changes.{all_delete, change, first_capabilities, first_command}
@@ -71,28 +72,28 @@ order_pack : (caps : Capabilities) (commands : List Command) → EntriesFirst fa
 unfolding taking_pack
 order_pack caps commands = order_unless (all_delete commands) caps commands
 
-order_pushing : (opening : Opening) (caps : Capabilities) (commands : List Command) (pack : List Content) → EntriesFirst false (pushing opening caps commands pack) (λ w a. ⊤)
+order_pushing : (book : Rulebook) (opening : Opening) (caps : Capabilities) (commands : List Command) (pack : List Content) → EntriesFirst false (pushing book opening caps commands pack) (λ w a. ⊤)
 unfolding EntriesFirst ◌>>=◌ ask write pushing
-order_pushing opening caps commands pack = (refl, λ own. tt)
+order_pushing book opening caps commands pack = (refl, λ own. tt)
 
-order_push : (opening : Opening) (caps : Capabilities) (first : Command) (offset : ℕ) → EntriesFirst false (taking_push opening caps first offset) (λ w a. ⊤)
+order_push : (book : Rulebook) (opening : Opening) (caps : Capabilities) (first : Command) (offset : ℕ) → EntriesFirst false (taking_push book opening caps first offset) (λ w a. ⊤)
 unfolding taking_push ReadLast
-order_push opening caps first offset =
+order_push book opening caps first offset =
     order_then false (taking_commands first offset) _ ReadLast _ (order_commands first offset)
-    (λ w commands last. rw last (order_then false (taking_pack caps commands) _ ReadLast _ (order_pack caps commands) (λ w' pack last'. rw last' (order_pushing opening caps commands pack))))
+    (λ w commands last. rw last (order_then false (taking_pack caps commands) _ ReadLast _ (order_pack caps commands) (λ w' pack last'. rw last' (order_pushing book opening caps commands pack))))
 
-order_commanded : (opening : Opening) (offset : ℕ) (packet : packets.Packet) (behind : ℕ) → EntriesFirst false (commanded opening offset packet behind) (λ w a. ⊤)
+order_commanded : (book : Rulebook) (opening : Opening) (offset : ℕ) (packet : packets.Packet) (behind : ℕ) → EntriesFirst false (commanded book opening offset packet behind) (λ w a. ⊤)
 unfolding EntriesFirst ReadLast
-order_commanded opening offset packets.Flush behind = tt
-order_commanded opening offset (packets.Line payload) behind =
+order_commanded book opening offset packets.Flush behind = tt
+order_commanded book opening offset (packets.Line payload) behind =
     let line = without_feed payload in
     let first : Option Command = first_command line in
-    order_then false (or_malformed offset first) _ ReadLast _ (order_or_malformed offset first) (λ w c last. rw last (order_push opening (first_capabilities line) c behind))
+    order_then false (or_malformed offset first) _ ReadLast _ (order_or_malformed offset first) (λ w c last. rw last (order_push book opening (first_capabilities line) c behind))
 
-order_commanding : (wrote : Bool) (opening : Opening) (offset : ℕ) → EntriesFirst wrote (commanding opening offset) (λ w a. ⊤)
+order_commanding : (book : Rulebook) (wrote : Bool) (opening : Opening) (offset : ℕ) → EntriesFirst wrote (commanding book opening offset) (λ w a. ⊤)
 unfolding commanding ReadLast
-order_commanding wrote opening offset = order_then wrote (next_packet offset) _ ReadLast _ (order_next wrote offset) (λ w next last. rw last (order_commanded opening offset next.0 next.1))
+order_commanding book wrote opening offset = order_then wrote (next_packet offset) _ ReadLast _ (order_next wrote offset) (λ w next last. rw last (order_commanded book opening offset next.0 next.1))
 
-pub order_receiving : (opening : Opening) (offset : ℕ) → EntriesFirst false (receiving opening offset) (λ w a. ⊤)
+pub order_receiving : (book : Rulebook) (opening : Opening) (offset : ℕ) → EntriesFirst false (receiving book opening offset) (λ w a. ⊤)
 unfolding EntriesFirst ◌>>=◌ write receiving
-order_receiving opening offset = order_commanding true opening offset
+order_receiving book opening offset = order_commanding book true opening offset

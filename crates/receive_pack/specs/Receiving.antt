@@ -1,5 +1,5 @@
 -- A push, as an interaction: what follows an opening for writing.
-use Rattle.std.specs.Prelude.{ℕ, zero, suc, Bool, List, [], ◌∷◌, Option, Some, None, Result, Ok, Err, codes, if◌then◌else◌}
+use Rattle.std.specs.Prelude.{ℕ, zero, suc, ◌+◌, Bool, List, [], ◌∷◌, Option, Some, None, Result, Ok, Err, codes, if◌then◌else◌}
 use Rattle.pktline_core.specs.Packets as packets
 use Rattle.raw_pack.specs.declared.fault.PackFault.{PackFault}
 use Rattle.git_object.specs.Content.{Content}
@@ -14,6 +14,7 @@ use Rattle.interaction_tree.specs.Interaction.{CutOff, Interaction, gives, ends,
 use Rattle.session_core.specs.declared.end.SessionEnd.{SessionEnd}
 use Rattle.session_core.specs.declared.end.SessionEnd.TheVariants as end
 use Rattle.session_core.specs.FirstPacket.{without_feed}
+use Rattle.session_core.specs.Rulebook.{Rulebook}
 use Rattle.session_core.specs.Packets.{malformed, next_packet, refuse}
 use Rattle.receive_pack.specs.declared.changes.Capabilities.{Capabilities}
 use Rattle.receive_pack.specs.declared.reports.ReportedPush.{ReportedPush}
@@ -118,35 +119,35 @@ recorded_outcomes (Looked user) = []
 abbrev pub reported_push : Opening → List Command → ReportedPush
 reported_push opening commands = record { user = opening.pinned.user; repo = opening.pinned.repo; commands = commands }
 
--- the push, and the report of the outcomes that its entry records
-unfoldable pub pushing : Opening → Capabilities → List Command → List Content → Interaction SessionEnd (Unit {0})
-pushing opening capabilities commands pack = do
+-- the push, and the report of the outcomes that its entry records, by the rules that were in force at the opening
+unfoldable pub pushing : Rulebook → Opening → Capabilities → List Command → List Content → Interaction SessionEnd (Unit {0})
+pushing book opening capabilities commands pack = do
   own ← ask (Push opening.place pack commands capabilities.atomic)
-  write (reported capabilities (report (reported_push opening commands) (recorded_outcomes own.entry.event)))
+  write (reported capabilities (report (book.rules (opening.place + 1)).rules (reported_push opening commands) (recorded_outcomes own.entry.event)))
 
 -- the commands behind the first, the pack, and the push
-unfoldable pub taking_push : Opening → Capabilities → Command → ℕ → Interaction SessionEnd (Unit {0})
-taking_push opening capabilities first offset = do
+unfoldable pub taking_push : Rulebook → Opening → Capabilities → Command → ℕ → Interaction SessionEnd (Unit {0})
+taking_push book opening capabilities first offset = do
   commands ← taking_commands first offset
   pack ← taking_pack capabilities commands
-  pushing opening capabilities commands pack
+  pushing book opening capabilities commands pack
 
 -- IV. The whole of it
 
 -- the packet behind the advertisement, at this offset, and the offset behind it: a flush in place of commands ends the session
-abbrev pub commanded : Opening → ℕ → packets.Packet → ℕ → Interaction SessionEnd (Unit {0})
-commanded opening offset packets.Flush behind = gives tt
-commanded opening offset (packets.Line payload) behind = do
+abbrev pub commanded : Rulebook → Opening → ℕ → packets.Packet → ℕ → Interaction SessionEnd (Unit {0})
+commanded book opening offset packets.Flush behind = gives tt
+commanded book opening offset (packets.Line payload) behind = do
   first ← or_malformed offset (first_command (without_feed payload))
-  taking_push opening (first_capabilities (without_feed payload)) first behind
+  taking_push book opening (first_capabilities (without_feed payload)) first behind
 
-unfoldable pub commanding : Opening → ℕ → Interaction SessionEnd (Unit {0})
-commanding opening offset = do
+unfoldable pub commanding : Rulebook → Opening → ℕ → Interaction SessionEnd (Unit {0})
+commanding book opening offset = do
   next ← next_packet offset
-  commanded opening offset next.0 next.1
+  commanded book opening offset next.0 next.1
 
 -- what follows an opening at this offset: the advertisement, and then the commands
-unfoldable pub receiving : Opening → ℕ → Interaction SessionEnd (Unit {0})
-receiving opening offset = do
+unfoldable pub receiving : Rulebook → Opening → ℕ → Interaction SessionEnd (Unit {0})
+receiving book opening offset = do
   advertised ← write (advertisement opening.pinned.repository.refs)
-  commanding opening offset
+  commanding book opening offset

@@ -12,6 +12,7 @@ ghost use Rattle.interaction_tree.specs.Runs.{Runs};
 ghost use Rattle.session_core.specs.End.{TellsLink, outcome_of};
 ghost use Rattle.session_core.specs.Packets.{packet};
 ghost use Rattle.session_core.specs.Readers.{IsReady};
+ghost use Rattle.session_core.specs.Rulebook.{RunsByRulebook};
 ghost use Rattle.receive_pack.specs.Changes.{HasShortName, HaveShortNames};
 ghost use Rattle.receive_pack.specs.Texts.{advertisement, first_line, more_line};
 ghost use Rattle.receive_pack.specs.Receiving.{commanding, pushing, reading_pack, receiving, reported_push, taking_pack, taking_push};
@@ -22,6 +23,7 @@ use crate::reports::{ReportedPush, refuse_pack, tell};
 use crate::text::ref_line;
 use git_object::{ObjectId, ObjectList};
 use hub::{Desk, NoMemory, Pin, Pushed, Want, judge};
+use hub_history::hold_laws;
 use pktline_core::{Link, Pkt, PktReader};
 use raw_pack::{PackFault, read_pack};
 use ref_store::{Command, CommandList, Repo};
@@ -79,10 +81,15 @@ fn push<L: Link, K: Desk>(
     requires stands { Stands pin (K.view desk.old).admin (K.view desk.old).seen }
     requires write { pin.pinned.want ≡ Want.Write }
     requires within { AreWithinLimits commands }
-    ensures runs { Runs (L.state link.old) (L.state link.new) (K.view desk.old) (K.view desk.new) (pushing pin capabilities commands pack) (outcome_of result) }
+    ensures runs { RunsByRulebook (L.state link.old) (L.state link.new) (K.view desk.old) (K.view desk.new) (λ book. pushing book pin capabilities commands pack) (outcome_of result) }
     ensures tells { TellsLink (L.state link.old) (L.state link.new) result }
     ensures goes { K.goes_on desk.old desk.new }
 {
+    // called for its clauses on what a pin is of, and that there is one list of rules in force
+    hold_laws();
+    let Ok(conf) = pin.conf().clone() else {
+        return Err(SessionEnd::NoMemory);
+    };
     let Ok(told) = reported_push(alloc, &pin, &commands) else {
         return Err(SessionEnd::NoMemory);
     };
@@ -90,7 +97,9 @@ fn push<L: Link, K: Desk>(
         return Err(SessionEnd::NoMemory);
     };
     match desk.push(alloc, pin, pack, commands, capabilities.atomic, judged) {
-        Pushed::Settled { outcomes, made: _ } => tell(alloc, link, capabilities, &told, &outcomes),
+        Pushed::Settled { outcomes, made: _ } => {
+            tell(alloc, link, capabilities, conf.policy(), &told, &outcomes)
+        }
         Pushed::NoMemory(_) => Err(SessionEnd::NoMemory),
     }
 }
@@ -134,7 +143,7 @@ fn take_push<L: Link, K: Desk>(
     requires stands { Stands pin (K.view desk.old).admin (K.view desk.old).seen }
     requires write { pin.pinned.want ≡ Want.Write }
     requires short { HasShortName first }
-    ensures runs { Runs (L.state link.old) (L.state link.new) (K.view desk.old) (K.view desk.new) (taking_push pin capabilities first reader.old.offset) (outcome_of result) }
+    ensures runs { RunsByRulebook (L.state link.old) (L.state link.new) (K.view desk.old) (K.view desk.new) (λ book. taking_push book pin capabilities first reader.old.offset) (outcome_of result) }
     ensures tells { TellsLink (L.state link.old) (L.state link.new) result }
     ensures goes { K.goes_on desk.old desk.new }
 {
@@ -154,7 +163,7 @@ fn receive_command<L: Link, K: Desk>(
     requires ready { IsReady reader.old (L.state link.old) }
     requires stands { Stands pin (K.view desk.old).admin (K.view desk.old).seen }
     requires write { pin.pinned.want ≡ Want.Write }
-    ensures runs { Runs (L.state link.old) (L.state link.new) (K.view desk.old) (K.view desk.new) (commanding pin reader.old.offset) (outcome_of result) }
+    ensures runs { RunsByRulebook (L.state link.old) (L.state link.new) (K.view desk.old) (K.view desk.new) (λ book. commanding book pin reader.old.offset) (outcome_of result) }
     ensures tells { TellsLink (L.state link.old) (L.state link.new) result }
     ensures goes { K.goes_on desk.old desk.new }
 {
@@ -183,7 +192,7 @@ pub fn receive<L: Link, K: Desk>(
     requires stands { Stands pin (K.view desk.old).admin (K.view desk.old).seen }
     requires write { pin.pinned.want ≡ Want.Write }
     requires names { HasShortNames pin.pinned.repository.refs }
-    ensures runs { Runs (L.state link.old) (L.state link.new) (K.view desk.old) (K.view desk.new) (receiving pin reader.old.offset) (outcome_of result) }
+    ensures runs { RunsByRulebook (L.state link.old) (L.state link.new) (K.view desk.old) (K.view desk.new) (λ book. receiving book pin reader.old.offset) (outcome_of result) }
     ensures tells { TellsLink (L.state link.old) (L.state link.new) result }
     ensures goes { K.goes_on desk.old desk.new }
 {

@@ -13,6 +13,7 @@ ghost use Rattle.receive_pack.specs.Texts.{bad_report, report, status_lines, sta
 
 use crate::changes::Capabilities;
 use crate::text::{error_line, status_line, unpack_line};
+use access_check::Policy;
 use conf_lex::{RepoName, UserName};
 use hub::{Outcome, OutcomeList};
 use pktline_core::Link;
@@ -29,20 +30,21 @@ pub struct ReportedPush {
     pub commands: CommandList,
 }
 
-/// The report of a push, where the client asked for one.
+/// The report of a push, where the client asked for one, by the rules that were in force at its opening.
 pub fn tell<L: Link>(
     alloc: Global,
     link: &mut L,
     capabilities: Capabilities,
+    policy: &Policy,
     push: &ReportedPush,
     outcomes: &OutcomeList,
 ) -> Result<(), SessionEnd>
     requires short { HaveShortNames push.now.commands }
-    ensures runs { (desk : DeskView) → Runs (L.state link.old) (L.state link.new) desk desk (write (reported capabilities (report push.now outcomes.now))) (outcome_of result) }
+    ensures runs { (desk : DeskView) → Runs (L.state link.old) (L.state link.new) desk desk (write (reported capabilities (report policy.now.rules push.now outcomes.now))) (outcome_of result) }
     ensures tells { TellsLink (L.state link.old) (L.state link.new) result }
 {
     if capabilities.report_status {
-        return report(alloc, link, push, outcomes);
+        return report(alloc, link, policy, push, outcomes);
     }
     Ok(())
 }
@@ -50,15 +52,16 @@ pub fn tell<L: Link>(
 fn report<L: Link>(
     alloc: Global,
     link: &mut L,
+    policy: &Policy,
     push: &ReportedPush,
     outcomes: &OutcomeList,
 ) -> Result<(), SessionEnd>
     requires short { HaveShortNames push.now.commands }
-    ensures runs { (desk : DeskView) → Runs (L.state link.old) (L.state link.new) desk desk (write (report push.now outcomes.now)) (outcome_of result) }
+    ensures runs { (desk : DeskView) → Runs (L.state link.old) (L.state link.new) desk desk (write (report policy.now.rules push.now outcomes.now)) (outcome_of result) }
     ensures tells { TellsLink (L.state link.old) (L.state link.new) result }
 {
     say(link, b"unpack ok\n")?;
-    report_all(alloc, link, push, outcomes)?;
+    report_all(alloc, link, policy, push, outcomes)?;
     say_flush(link)
 }
 
@@ -66,11 +69,12 @@ fn report<L: Link>(
 fn report_all<L: Link>(
     alloc: Global,
     link: &mut L,
+    policy: &Policy,
     push: &ReportedPush,
     outcomes: &OutcomeList,
 ) -> Result<(), SessionEnd>
     requires short { HaveShortNames push.now.commands }
-    ensures runs { (desk : DeskView) → Runs (L.state link.old) (L.state link.new) desk desk (write (flat_map packet (status_lines push.now push.now.commands outcomes.now))) (outcome_of result) }
+    ensures runs { (desk : DeskView) → Runs (L.state link.old) (L.state link.new) desk desk (write (flat_map packet (status_lines policy.now.rules push.now push.now.commands outcomes.now))) (outcome_of result) }
     ensures tells { TellsLink (L.state link.old) (L.state link.new) result }
 {
     let mut told = outcomes.as_slice().iter();
@@ -78,7 +82,7 @@ fn report_all<L: Link>(
         let Some(outcome) = told.next() else {
             return Ok(());
         };
-        report_one(alloc, link, push, command, outcome)?;
+        report_one(alloc, link, policy, push, command, outcome)?;
     }
     Ok(())
 }
@@ -86,16 +90,17 @@ fn report_all<L: Link>(
 fn report_one<L: Link>(
     alloc: Global,
     link: &mut L,
+    policy: &Policy,
     push: &ReportedPush,
     command: &Command,
     outcome: &Outcome,
 ) -> Result<(), SessionEnd>
     requires short { HaveShortNames push.now.commands }
     requires one { HasShortName command.now }
-    ensures runs { (desk : DeskView) → Runs (L.state link.old) (L.state link.new) desk desk (write (packet (status_text push.now command.now.name outcome.now))) (outcome_of result) }
+    ensures runs { (desk : DeskView) → Runs (L.state link.old) (L.state link.new) desk desk (write (packet (status_text policy.now.rules push.now command.now.name outcome.now))) (outcome_of result) }
     ensures tells { TellsLink (L.state link.old) (L.state link.new) result }
 {
-    let Ok(line) = status_line(alloc, push, command, outcome) else {
+    let Ok(line) = status_line(alloc, policy, push, command, outcome) else {
         return Err(SessionEnd::NoMemory);
     };
     say(link, &line)

@@ -4,11 +4,13 @@ ghost use Rattle.receive_pack.specs.Changes.{HaveShortNames};
 use crate::changes::{all_delete, change, first_capabilities, first_command};
 use crate::reports::ReportedPush;
 use crate::text::status_line;
+use access_check::Policy;
 use base_types::Text;
 use conf_lex::{RepoName, UserName};
 use git_object::ObjectId;
 use hub::Outcome;
 use ref_store::{Command, CommandList};
+use setup_conf::setup_policy;
 use std::alloc::Global;
 use std::test::Fail;
 
@@ -115,6 +117,7 @@ fn a_push_of_deletes_has_no_pack(rt: HostRuntime) -> Result<(), Fail> {
 // Whether a command is told this of an outcome.
 fn is_told(
     alloc: Global,
+    policy: &Policy,
     push: &ReportedPush,
     command: &Command,
     outcome: &Outcome,
@@ -122,14 +125,12 @@ fn is_told(
 ) -> Result<bool, Fail>
     requires { HaveShortNames push.now.commands }
 {
-    let text = status_line(alloc, push, command, outcome)?;
+    let text = status_line(alloc, policy, push, command, outcome)?;
     Ok(text.as_slice() == line.as_bytes())
 }
 
-// What no session of one client is told; the shipped script has the others.
-#[test]
-fn a_command_is_told_why_it_is_not_done(rt: HostRuntime) -> Result<(), Fail> {
-    let alloc = rt.alloc();
+// What no session of one client is told, by these rules; the shipped script has the others.
+fn are_told(alloc: Global, policy: &Policy) -> Result<bool, Fail> {
     let id = ObjectId::from_hex(ONES).ok_or("an id")?;
     let mut commands = CommandList::new(alloc);
     commands.push(Command {
@@ -144,12 +145,36 @@ fn a_command_is_told_why_it_is_not_done(rt: HostRuntime) -> Result<(), Fail> {
     };
     let command = push.commands.get(0).ok_or("a command")?;
     let stale = "ng refs/heads/a stale, it is 1111111111111111111111111111111111111111\n";
-    assert!(rt; is_told(alloc, &push, command, &Outcome::Stale(id), stale)?);
     let collided = "ng refs/heads/a name collision 1111111111111111111111111111111111111111\n";
-    assert!(rt; is_told(alloc, &push, command, &Outcome::Collided(id), collided)?);
     let full = "ng refs/heads/a repository would have 4294967296 objects\n";
-    assert!(rt; is_told(alloc, &push, command, &Outcome::Full(4_294_967_296), full)?);
     let many = "ng refs/heads/a too many paths\n";
-    assert!(rt; is_told(alloc, &push, command, &Outcome::ManyPaths, many)?);
+    Ok(
+        is_told(alloc, policy, &push, command, &Outcome::Stale(id), stale)?
+            && is_told(
+                alloc,
+                policy,
+                &push,
+                command,
+                &Outcome::Collided(id),
+                collided,
+            )?
+            && is_told(
+                alloc,
+                policy,
+                &push,
+                command,
+                &Outcome::Full(4_294_967_296),
+                full,
+            )?
+            && is_told(alloc, policy, &push, command, &Outcome::ManyPaths, many)?,
+    )
+}
+
+#[test]
+fn a_command_is_told_why_it_is_not_done(rt: HostRuntime) -> Result<(), Fail> {
+    let alloc = rt.alloc();
+    let user = UserName::parse(alloc, b"cal")?.ok_or("a user")?;
+    let policy = setup_policy(alloc, &user)?;
+    assert!(rt; are_told(alloc, &policy)?);
     Ok(())
 }

@@ -1,14 +1,14 @@
 // The texts that a push is told.
 ghost use Rattle.std.specs.Prelude.{◌≡◌, ◌≤◌, ◌+◌, ◌++◌, length, codes, decimal, IfOk, OnOk, if◌then◌else◌};
 ghost use Rattle.git_object.specs.ObjectId.{hex_of};
-ghost use Rattle.access_check.specs.Letters.{letter_text};
+ghost use Rattle.access_check.specs.Verdicts.{rule_of};
 ghost use Rattle.rule_compile.specs.Faults.{policy_text};
-ghost use Rattle.session_core.specs.Denials.{denial, shown};
+ghost use Rattle.session_core.specs.Denials.{change_text, denial, shown};
 ghost use Rattle.receive_pack.specs.Changes.{HaveShortNames};
 ghost use Rattle.receive_pack.specs.Texts.{first_line, more_line, pack_text, reason, ref_at, status_text, unpack_text, unpacker_error};
 
 use crate::reports::ReportedPush;
-use access_check::Letter;
+use access_check::{Letter, Policy, Request};
 use base_types::Text;
 use git_object::ObjectId;
 use hub::{Outcome, Verdict};
@@ -63,16 +63,17 @@ pub fn ref_line(
     Ok(text)
 }
 
-/// What is reported of a command of a push.
+/// What is reported of a command of a push, by the rules that were in force at its opening.
 pub fn status_line(
     alloc: Global,
+    policy: &Policy,
     push: &ReportedPush,
     command: &Command,
     outcome: &Outcome,
 ) -> Result<Vec<u8>, AllocError>
     requires short { HaveShortNames push.now.commands }
-    ensures text { IfOk result (λ v. v.items ≡ status_text push.now command.now.name outcome.now) }
-    ensures size { IfOk result (λ v. length v.items ≤ length command.now.name + 26000) }
+    ensures text { IfOk result (λ v. v.items ≡ status_text policy.now.rules push.now command.now.name outcome.now) }
+    ensures size { IfOk result (λ v. length v.items ≤ length command.now.name + 61000) }
 {
     if outcome.is_done() {
         let mut text = Vec::from_slice(alloc, b"ok ")?;
@@ -83,7 +84,7 @@ pub fn status_line(
     let mut text = Vec::from_slice(alloc, b"ng ")?;
     text.extend_from_slice(command.name.bytes())?;
     text.extend_from_slice(b" ")?;
-    push_reason(&mut text, alloc, push, outcome)?;
+    push_reason(&mut text, alloc, policy, push, outcome)?;
     text.extend_from_slice(b"\n")?;
     Ok(text)
 }
@@ -92,12 +93,13 @@ pub fn status_line(
 fn push_reason(
     text: &mut Vec<u8>,
     alloc: Global,
+    policy: &Policy,
     push: &ReportedPush,
     outcome: &Outcome,
 ) -> Result<(), AllocError>
     requires short { HaveShortNames push.now.commands }
-    ensures text { OnOk result (text.new.items ≡ text.old.items ++ reason push.now outcome.now) }
-    ensures size { OnOk result (length text.new.items ≤ length text.old.items + 25010) }
+    ensures text { OnOk result (text.new.items ≡ text.old.items ++ reason policy.now.rules push.now outcome.now) }
+    ensures size { OnOk result (length text.new.items ≤ length text.old.items + 60000) }
 {
     match outcome {
         Outcome::Done => Ok(()),
@@ -111,7 +113,7 @@ fn push_reason(
             verdict,
             letter,
             name,
-        } => push_denied(text, alloc, push, *verdict, *letter, name),
+        } => push_denied(text, alloc, policy, push, *verdict, *letter, name),
         Outcome::ManyPaths => text.extend_from_slice(b"too many paths"),
         Outcome::ConfRefused(fault) => push_conf_fault(text, alloc, fault),
         Outcome::Stale(id) => push_named(text, b"stale, it is ", *id),
@@ -134,24 +136,21 @@ fn push_named(text: &mut Vec<u8>, words: &[u8], id: ObjectId) -> Result<(), Allo
 fn push_denied(
     text: &mut Vec<u8>,
     alloc: Global,
+    policy: &Policy,
     push: &ReportedPush,
     verdict: Verdict,
     letter: Letter,
     name: &Text,
 ) -> Result<(), AllocError>
-    ensures text { OnOk result (text.new.items ≡ text.old.items ++ denial (letter_text letter) name.now push.now.repo push.now.user verdict) }
-    ensures size { OnOk result (length text.new.items ≤ length text.old.items + 25010) }
+    ensures text { OnOk result (text.new.items ≡ text.old.items ++ denial (change_text letter name.now) push.now.repo push.now.user (rule_of policy.now.rules verdict)) }
+    ensures size { OnOk result (length text.new.items ≤ length text.old.items + 60000) }
 {
-    let letter = letter.text();
-    push_denial(
-        alloc,
-        text,
-        letter,
-        name.bytes(),
-        &push.repo,
-        &push.user,
-        verdict,
-    )
+    let request = Request::Change(letter, name.bytes());
+    let rule = verdict.rule(policy);
+    match push_denial(alloc, text, &request, &push.repo, &push.user, rule) {
+        Ok(()) => Ok(()),
+        Err(_) => Err(AllocError),
+    }
 }
 
 fn push_conf_fault(text: &mut Vec<u8>, alloc: Global, fault: &PolicyFault) -> Result<(), AllocError>

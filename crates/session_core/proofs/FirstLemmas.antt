@@ -1,9 +1,8 @@
 -- A first line, by its user's name and what stands behind it.
-use Rattle.std.proofs.Common.{◌≡◌, ℕ, Bool, true, false, cond, List, Option, Some, None, refl, sym, subst}
+use Rattle.std.proofs.Common.{◌≡◌, ℕ, Bool, true, false, cond, List, Option, Some, None, refl, subst}
 use Rattle.git_object.specs.Reader.{◌>>=◌}
 use Rattle.conf_lex.specs.Names.{is_user_name}
 use Rattle.session_core.specs.declared.first_packet.Service.{Service}
-use Rattle.session_core.specs.declared.first_packet.FirstLine.{FirstLine}
 use Rattle.session_core.specs.declared.first_packet.FirstLine.TheVariants.{BadUser}
 use Rattle.session_core.specs.FirstPacket.{asked_by, behind_user, first_line, service, user_word}
 

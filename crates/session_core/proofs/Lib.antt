@@ -1,5 +1,7 @@
 mod FirstLemmas
 pub mod StepLemmas
+pub mod LineLemmas
+pub mod RulebookLemmas
 pub mod OpeningLemmas
 pub mod OrderLemmas
 pub mod AskLemmas

@@ -1,8 +1,7 @@
 -- Calls of a session, one after the other.
 use Rattle.std.proofs.Common.{◌≡◌, ◌+◌, inl, inr, ℕ, List, [], ◌++◌, length, Option, Result, Ok, Err, refl, sym, ◌∙◌, ap, subst, arith, append_assoc, length-append}
-use Rattle.std.specs.Io.KnownBytes.{IsAtEnd}
 use Rattle.pktline_core.specs.LinkState.{LinkState}
-use Rattle.pktline_core.specs.Links.{IsLater, KeepsReading, KeepsWriting}
+use Rattle.pktline_core.specs.Links.{IsLater, KeepsWriting}
 use Rattle.pktline_core.specs.Packets as packets
 use Rattle.pktline_core.specs.Reading.{ReadsPacket, TellsFault, packet_of, answer_of}
 use Rattle.pktline_core.specs.declared.packets.Pkt.{Pkt}
@@ -132,17 +131,20 @@ module _ {B : Type 0} (a b : LinkState) (d : DeskView) (offset : ℕ) (k : packe
   answers : (answer : Result packets.Packet PktFault) → answer_of result ≡ answer → ReadsPacket a b answer
   answers answer is = subst (ReadsPacket a b) is r
 
-  -- a packet, and the rest
-  pub packet_then : (c : LinkState) (e : DeskView) (out : Result B (Halt SessionEnd)) (pkt : Pkt) (behind : ℕ) → result ≡ Ok pkt → behind + a.given ≡ offset + b.given
-      → Runs b c d e (k (packet_of pkt, behind)) out → Runs a c d e (next_packet offset >>= k) out
+  -- a packet, and the offset behind it
+  pub packet_read : (pkt : Pkt) (behind : ℕ) → result ≡ Ok pkt → behind + a.given ≡ offset + b.given → Runs a b d d (next_packet offset) (Ok (packet_of pkt, behind))
   unfolding front_of next_packet
-  packet_then c e out pkt behind is moved rest =
+  packet_read pkt behind is moved =
       let s = answers (Ok (packet_of pkt)) (ap answer_of is) in
       let found : Reply Packet = record { used = length s.taken; found = Ok (packet_of pkt) } in
-      runs_bind a b c d d e (next_packet offset) (packet_of pkt, offset + length s.taken) k out
+      subst (λ (n : ℕ). Runs a b d d (next_packet offset) (Ok (packet_of pkt, n))) (sym (behind_packet offset behind a.given b.given (length s.taken) moved s.counted))
       (runs_bind a b b d d d (read Packet cut_short) found (λ reply. packet_in offset reply.used reply.found) (Ok (packet_of pkt, offset + length s.taken))
       (runs_read a b d s.taken (takes (Ok (packet_of pkt)) s) Packet cut_short (Ok (packet_of pkt)) s.decided) (runs_gives b d (packet_of pkt, offset + length s.taken)))
-      (subst (λ (n : ℕ). Runs b c d e (k (packet_of pkt, n)) out) (behind_packet offset behind a.given b.given (length s.taken) moved s.counted) rest)
+
+  -- and the rest
+  pub packet_then : (c : LinkState) (e : DeskView) (out : Result B (Halt SessionEnd)) (pkt : Pkt) (behind : ℕ) → result ≡ Ok pkt → behind + a.given ≡ offset + b.given
+      → Runs b c d e (k (packet_of pkt, behind)) out → Runs a c d e (next_packet offset >>= k) out
+  packet_then c e out pkt behind is moved rest = runs_bind a b c d d e (next_packet offset) (packet_of pkt, behind) k out (packet_read pkt behind is moved) rest
 
   packet_broken : (c : LinkState) (found : SessionEnd) → result ≡ Err BadLength → Runs {A = Unit {0}} b c d d (malformed offset) (Err (halt_of found)) → Runs a c d d (next_packet offset) (Err (halt_of found))
   unfolding front_of next_packet
@@ -165,10 +167,14 @@ module _ {B : Type 0} (a b : LinkState) (d : DeskView) (offset : ℕ) (k : packe
       runs_failed a b d s.taken (takes (Err ReadFault) s) Packet cut_short (λ reply. packet_in offset reply.used reply.found) Truncated s.decided.0 (s.decided.1, s.decided.2)
 
   -- a fault of it ends the session
+  pub packet_ends : (c : LinkState) (fault : PktFault) (found : SessionEnd) → result ≡ Err fault → EndsBy fault offset b c found → Runs a c d d (next_packet offset) (Err (halt_of found))
+  packet_ends c BadLength found is by = packet_broken c found is (by d)
+  packet_ends c Truncated found is by = rw (by.0, by.1) (packet_cut is)
+  packet_ends c ReadFault found is by = rw (by.0, by.1) (packet_failed is)
+
+  -- and with it what would have followed
   pub packet_fault : (c : LinkState) (fault : PktFault) (found : SessionEnd) → result ≡ Err fault → EndsBy fault offset b c found → Runs a c d d (next_packet offset >>= k) (Err (halt_of found))
-  packet_fault c BadLength found is by = runs_halts a c d d (next_packet offset) k (halt_of found) (packet_broken c found is (by d))
-  packet_fault c Truncated found is by = runs_halts a c d d (next_packet offset) k (halt_of found) (rw (by.0, by.1) (packet_cut is))
-  packet_fault c ReadFault found is by = runs_halts a c d d (next_packet offset) k (halt_of found) (rw (by.0, by.1) (packet_failed is))
+  packet_fault c fault found is by = runs_halts a c d d (next_packet offset) k (halt_of found) (packet_ends c fault found is by)
 
 tells_later : (a b c : LinkState) (found : SessionEnd) → (b.read_faults ≡ a.read_faults) × (b.write_faults ≡ a.write_faults) → TellsEnd b c found → TellsEnd a c found
 tells_later a b c end.ReadFault same told = told ∙ same.1
@@ -183,7 +189,7 @@ tells_later a b c (end.TooLong count) same told = (told.0 ∙ same.0, told.1 ∙
 tells_later a b c end.Truncated same told = (told.0 ∙ same.0, told.1 ∙ same.1)
 tells_later a b c end.NoMemory same told = (told.0 ∙ same.0, told.1 ∙ same.1)
 tells_later a b c (end.BadPack fault) same told = (told.0 ∙ same.0, told.1 ∙ same.1)
-tells_later a b c end.NotBuilt same told = (told.0 ∙ same.0, told.1 ∙ same.1)
+tells_later a b c (end.NotOurRef id) same told = (told.0 ∙ same.0, told.1 ∙ same.1)
 
 -- no failure is hidden by a packet's fault
 pub fault_tells : (a b c : LinkState) (offset : ℕ) (fault : PktFault) (found : SessionEnd) → TellsFault {V = Pkt} a b (Err fault) → KeepsWriting a b → EndsBy fault offset b c found → TellsEnd b c found → TellsEnd a c found

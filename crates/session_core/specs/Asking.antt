@@ -1,5 +1,5 @@
 -- The first packet, as an interaction.
-use Rattle.std.specs.Prelude.{ℕ, List, codes}
+use Rattle.std.specs.Prelude.{ℕ, codes}
 use Rattle.pktline_core.specs.Packets as packets
 use Rattle.interaction_tree.specs.Interaction.{Interaction, gives, ◌>>=◌}
 use Rattle.session_core.specs.declared.end.SessionEnd.{SessionEnd}

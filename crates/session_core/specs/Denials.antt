@@ -1,20 +1,29 @@
 -- The texts of denials.
-use Rattle.std.specs.Prelude.{ℕ, List, ◌∷◌, ◌++◌, take, codes, decimal}
+use Rattle.std.specs.Prelude.{ℕ, List, ◌++◌, take, codes, Option}
 use Rattle.ref_store.specs.Refs.{Name}
-use Rattle.access_check.specs.Denials.{printed}
-use Rattle.access_check.specs.declared.verdicts.Verdict.{Verdict}
-use Rattle.access_check.specs.declared.verdicts.Verdict.TheVariants.{Allowed, DeniedBy, Fallthru}
+use Rattle.rule_compile.specs.declared.rule.Rule.{Rule}
+use Rattle.access_check.specs.Denials.{cause_text, printed, request_text}
+use Rattle.access_check.specs.Letters.{letter_text}
+use Rattle.access_check.specs.declared.denials.Request.TheVariants.{Open}
+use Rattle.access_check.specs.declared.letters.Letter.{Letter}
+use Rattle.access_check.specs.declared.verdicts.Want.{Want}
 
 -- a name as it is shown: its first 8,192 bytes
 abbrev pub shown : List ℕ → List ℕ
 shown name = take 8192 name
 
--- what denies: a rule by its number in the conf, or that none allows
-abbrev pub denier : Verdict → List ℕ
-denier (Allowed number) = codes "rule " ++ decimal number
-denier (DeniedBy number) = codes "rule " ++ decimal number
-denier Fallthru = codes "fallthru"
+-- as much of a text as a packet has room for: its first 60,000 bytes
+abbrev pub fitting : List ℕ → List ℕ
+fitting text = take 60000 text
 
--- `LETTER NAME REPO USER DENIED by` what denies
-unfoldable pub denial : List ℕ → List ℕ → Name → Name → Verdict → List ℕ
-denial letter name repo user verdict = letter ++ 32 ∷ printed (shown name) ++ 32 ∷ shown repo ++ 32 ∷ shown user ++ codes " DENIED by " ++ denier verdict
+-- what was asked at an opening
+abbrev pub open_text : Want → List ℕ
+open_text want = request_text (Open want)
+
+-- what was asked of a ref, or of a virtual ref: `LETTER NAME`
+abbrev pub change_text : Letter → Name → List ℕ
+change_text letter name = letter_text letter ++ (codes " " ++ printed name)
+
+-- `LETTER NAME REPO USER DENIED by REFEX (FILE line N)`, or `fallthru` where no rule denies
+unfoldable pub denial : List ℕ → Name → Name → Option Rule → List ℕ
+denial asked repo user rule = fitting (asked ++ (codes " " ++ repo) ++ (codes " " ++ user) ++ codes " DENIED by " ++ cause_text rule)

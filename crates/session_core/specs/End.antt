@@ -4,7 +4,7 @@ use Rattle.base_types.specs.Counts.{HasRisen}
 use Rattle.pktline_core.specs.LinkState.{LinkState}
 use Rattle.interaction_tree.specs.Traces.{Reading, Writing, Memory, Halt, Ended, Failed}
 use Rattle.session_core.specs.declared.end.SessionEnd.{SessionEnd}
-use Rattle.session_core.specs.declared.end.SessionEnd.TheVariants.{Served, Denied, NoRepo, BadCommand, BadUser, Malformed, TooLong, Truncated, ReadFault, WriteFault, NoMemory, BadPack, NotBuilt}
+use Rattle.session_core.specs.declared.end.SessionEnd.TheVariants.{Served, Denied, NoRepo, BadCommand, BadUser, Malformed, TooLong, Truncated, ReadFault, WriteFault, NoMemory, BadPack, NotOurRef}
 
 -- an end that the interaction gives, or what may stop it anywhere
 abbrev pub halt_of : SessionEnd → Halt SessionEnd
@@ -17,7 +17,7 @@ halt_of (Malformed offset) = Ended (Malformed offset)
 halt_of (TooLong count) = Ended (TooLong count)
 halt_of Truncated = Ended Truncated
 halt_of (BadPack fault) = Ended (BadPack fault)
-halt_of NotBuilt = Ended NotBuilt
+halt_of (NotOurRef id) = Ended (NotOurRef id)
 halt_of ReadFault = Failed Reading
 halt_of WriteFault = Failed Writing
 halt_of NoMemory = Failed Memory
@@ -29,6 +29,7 @@ end_number Denied = 2
 end_number NoRepo = 3
 end_number BadCommand = 4
 end_number BadUser = 5
+end_number (NotOurRef id) = 6
 end_number (Malformed offset) = 7
 end_number (TooLong count) = 8
 end_number Truncated = 9
@@ -36,7 +37,6 @@ end_number ReadFault = 10
 end_number WriteFault = 11
 end_number NoMemory = 12
 end_number (BadPack fault) = 13
-end_number NotBuilt = 99
 
 -- what a function of a session answers, as its interaction sees it
 abbrev pub outcome_of : {A : Type 0} → Result A SessionEnd → Result A (Halt SessionEnd)

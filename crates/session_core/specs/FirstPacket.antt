@@ -8,7 +8,7 @@
 --   USER perms -l REPO
 --
 -- Round REPO there may be single quotes, before it a slash, and behind it `.git`. ROLE has letters, digits, `-` and `_`.
-use Rattle.std.specs.Prelude.{ℕ, Bool, ◌&&◌, ◌||◌, ◌==◌, not, nat_le, List, [], ◌∷◌, length, take, drop, ◌-◌, Option, Some, None, codes, if◌then◌else◌}
+use Rattle.std.specs.Prelude.{ℕ, Bool, ◌&&◌, ◌||◌, ◌==◌, not, List, [], ◌∷◌, length, take, drop, ◌-◌, Option, Some, None, codes, if◌then◌else◌}
 use Rattle.std.specs.Option.{option_map, unwrap_or}
 use Rattle.std.specs.List.{list_all}
 use Rattle.std.specs.Str.{bytes_eq}
@@ -19,7 +19,7 @@ use Rattle.conf_lex.specs.RepoWords.{repo_word}
 use Rattle.hub_history.specs.declared.entry.PermChange.{PermChange}
 use Rattle.hub_history.specs.declared.entry.PermChange.TheVariants.{Grant, Revoke, List as ListRoles}
 use Rattle.session_core.specs.declared.first_packet.Service.{Service}
-use Rattle.session_core.specs.declared.first_packet.Service.TheVariants.{Receive, Permit, Unbuilt}
+use Rattle.session_core.specs.declared.first_packet.Service.TheVariants.{Receive, Upload, Permit, Look}
 use Rattle.session_core.specs.declared.first_packet.FirstLine.{FirstLine}
 use Rattle.session_core.specs.declared.first_packet.FirstLine.TheVariants.{Asks, BadCommand, BadUser}
 
@@ -98,12 +98,11 @@ permitting words = after (literal (codes "-l ") words) listing (changing words)
 abbrev pub receiving : List ℕ → Option Service
 receiving word = option_map (λ repo. Receive repo) (repo_named word)
 
--- sessions of these aren't built yet
 abbrev pub uploading : List ℕ → Option Service
-uploading word = option_map (λ repo. Unbuilt) (repo_named word)
+uploading word = option_map (λ repo. Upload repo) (repo_named word)
 
 abbrev pub looking : List ℕ → Option Service
-looking words = if bytes_eq words (codes "info") then Some Unbuilt else None
+looking words = if bytes_eq words (codes "info") then Some Look else None
 
 unfoldable pub service : List ℕ → Option Service
 service words =

@@ -4,4 +4,6 @@ pub mod Packets
 pub mod FirstPacket
 pub mod Asking
 pub mod Denials
+pub mod Rulebook
+pub mod Recorded
 pub mod Opening

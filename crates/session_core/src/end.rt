@@ -2,13 +2,14 @@
 ghost use Rattle.std.specs.Prelude.{◌≡◌};
 ghost use Rattle.session_core.specs.End.{end_number};
 
+use git_object::ObjectId;
 use raw_pack::PackFault;
 
 /// How a session ends.
 #[derive(Clone, Copy, Debug, PartialEq, Eq)]
 pub enum SessionEnd {
-    /// The input was read up to the flush that takes the place of commands, up to the pack's trailer or, where no pack is due, the flush behind the
-    /// commands, or up to the end of the one packet of `perms`.
+    /// The input was read up to the flush that takes the place of commands or wants, up to the trailer of a push's pack or, where no pack is due, the
+    /// flush behind the commands, up to a fetch's `done`, or up to the end of the one packet of `perms` or `info`.
     Served,
     /// The rules don't allow the opening.
     Denied,
@@ -18,9 +19,11 @@ pub enum SessionEnd {
     BadCommand,
     /// The first word of the first packet is no user's name.
     BadUser,
+    /// This is the first thing that was wanted and isn't advertised.
+    NotOurRef(ObjectId),
     /// The packet at this offset, from the session's first byte on, leaves the form.
     Malformed(u64),
-    /// There are more commands than a push may have; of them so many were counted.
+    /// There are more commands than a push may have, or more wants, or haves and flushes, than a fetch may; of them so many were counted.
     TooLong(u64),
     /// The input ended before the session did.
     Truncated,
@@ -31,8 +34,6 @@ pub enum SessionEnd {
     NoMemory,
     /// The pack was refused, and so nothing was pushed.
     BadPack(PackFault),
-    /// What is asked for isn't built yet.
-    NotBuilt,
 }
 
 impl SessionEnd {
@@ -46,6 +47,7 @@ impl SessionEnd {
             SessionEnd::NoRepo => 3,
             SessionEnd::BadCommand => 4,
             SessionEnd::BadUser => 5,
+            SessionEnd::NotOurRef(_) => 6,
             SessionEnd::Malformed(_) => 7,
             SessionEnd::TooLong(_) => 8,
             SessionEnd::Truncated => 9,
@@ -53,7 +55,6 @@ impl SessionEnd {
             SessionEnd::WriteFault => 11,
             SessionEnd::NoMemory => 12,
             SessionEnd::BadPack(_) => 13,
-            SessionEnd::NotBuilt => 99,
         }
     }
 }

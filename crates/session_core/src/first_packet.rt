@@ -15,10 +15,12 @@ use std::alloc::Global;
 pub enum Service {
     /// `git-receive-pack`: a push into this repository.
     Receive(RepoName),
+    /// `git-upload-pack`: a fetch from this repository.
+    Upload(RepoName),
     /// `perms`: roles of this repository are changed or listed.
     Permit(RepoName, PermChange),
-    /// `git-upload-pack` or `info`, whose sessions aren't built yet.
-    Unbuilt,
+    /// `info`: what the user may see is listed.
+    Look,
 }
 
 /// What a session's first packet asks for.
@@ -96,7 +98,7 @@ fn looking(words: &[u8]) -> Option<Service>
     ensures { result ≡ looking words.now }
 {
     if words == b"info".as_slice() {
-        return Some(Service::Unbuilt);
+        return Some(Service::Look);
     }
     None
 }
@@ -114,7 +116,7 @@ fn uploading(alloc: Global, word: &[u8]) -> Result<Option<Service>, NoMemory>
     ensures { IfOk result (λ o. o ≡ uploading word.now) }
 {
     match repo_named(alloc, word)? {
-        Some(_) => Ok(Some(Service::Unbuilt)),
+        Some(repo) => Ok(Some(Service::Upload(repo))),
         None => Ok(None),
     }
 }

@@ -4,8 +4,9 @@
 //! - `packets`: packets that are written, refusals, and faults of packets that are read;
 //! - `first_packet`, `asking`: what the first packet asks for;
 //! - `denials`: the texts of denials;
-//! - `opening`: an opening for writing;
-//! - `gate`: what stands between an opening and what follows.
+//! - `opening`: an opening;
+//! - `gate`: what stands between an opening and what follows;
+//! - `laws`: what holds of the rules by which a session is told its denials.
 //!
 //! The rules are in `docs/SESSIONS.md`.
 #![tactic(auto)]
@@ -15,15 +16,17 @@ mod denials;
 mod end;
 mod first_packet;
 mod gate;
+mod laws;
 mod opening;
 mod packets;
 #[cfg(test)]
 mod tests;
 
 pub use asking::ask;
-pub use denials::{push_denial, shown};
+pub use denials::{fitting, push_denial, shown};
 pub use end::SessionEnd;
 pub use first_packet::{Asked, FirstLine, Service, first_line, literal, without_feed};
 pub use gate::{Gate, OpenGate};
+pub use laws::hold_laws;
 pub use opening::enter;
 pub use packets::{end_by, malformed, refuse, say, say_flush};

@@ -1,35 +1,41 @@
 // An opening.
 ghost use Rattle.std.specs.Prelude.{◌≡◌, ◌≤◌, ◌++◌, length, codes, OnOk, IfOk};
+ghost use Rattle.std.specs.Option.{option_copied};
+ghost use Rattle.access_check.specs.Verdicts.{rule_of};
 ghost use Rattle.hub_history.specs.State.{HasShortNames};
 ghost use Rattle.hub_history.specs.History.{Stands};
 ghost use Rattle.hub.specs.Desk.{DeskView};
 ghost use Rattle.interaction_tree.specs.Runs.{Runs};
-ghost use Rattle.session_core.specs.Denials.{denial};
+ghost use Rattle.session_core.specs.Denials.{denial, open_text};
 ghost use Rattle.session_core.specs.End.{TellsEnd, TellsLink, halt_of, outcome_of};
 ghost use Rattle.session_core.specs.Opening.{entering};
 ghost use Rattle.session_core.specs.Packets.{refuse};
+ghost use Rattle.session_core.specs.Rulebook.{RunsByRulebook};
 
 use crate::denials::push_denial;
 use crate::end::SessionEnd;
 use crate::packets::refuse;
+use access_check::{Policy, Request, Rule};
+use base_types::NoMemory;
 use conf_lex::{RepoName, UserName};
 use hub::{Desk, Entered, Pin, Verdict, Want};
 use hub_history::hold_laws;
 use pktline_core::Link;
-use std::alloc::{AllocError, Global};
+use std::alloc::Global;
 
-// The text of a denied opening for writing.
+// The text of a denied opening.
 fn denied_text(
     alloc: Global,
     repo: &RepoName,
     user: &UserName,
-    verdict: Verdict,
-) -> Result<Vec<u8>, AllocError>
-    ensures text { IfOk result (λ v. v.items ≡ codes "ERR " ++ denial (codes "W") (codes "any") repo.now user.now verdict) }
+    want: Want,
+    rule: Option<&Rule>,
+) -> Result<Vec<u8>, NoMemory>
+    ensures text { IfOk result (λ v. v.items ≡ codes "ERR " ++ denial (open_text want) repo.now user.now (option_copied rule.entry)) }
     ensures size { IfOk result (λ v. length v.items ≤ 65516) }
 {
     let mut text = Vec::from_slice(alloc, b"ERR ")?;
-    push_denial(alloc, &mut text, b"W", b"any", repo, user, verdict)?;
+    push_denial(alloc, &mut text, &Request::Open(want), repo, user, rule)?;
     Ok(text)
 }
 
@@ -38,39 +44,50 @@ fn refuse_denied<L: Link>(
     link: &mut L,
     repo: &RepoName,
     user: &UserName,
+    want: Want,
     verdict: Verdict,
+    policy: &Policy,
 ) -> SessionEnd
-    ensures runs { (desk : DeskView) → Runs {A = Unit {0}} (L.state link.old) (L.state link.new) desk desk (refuse (codes "ERR " ++ denial (codes "W") (codes "any") repo.now user.now verdict) SessionEnd.Denied) (Err (halt_of result)) }
+    ensures runs { (desk : DeskView) → Runs {A = Unit {0}} (L.state link.old) (L.state link.new) desk desk (refuse (codes "ERR " ++ denial (open_text want) repo.now user.now (rule_of policy.now.rules verdict)) SessionEnd.Denied) (Err (halt_of result)) }
     ensures tells { TellsEnd (L.state link.old) (L.state link.new) result }
 {
-    match denied_text(alloc, repo, user, verdict) {
+    match denied_text(alloc, repo, user, want, verdict.rule(policy)) {
         Ok(text) => refuse(link, &text, SessionEnd::Denied),
         Err(_) => SessionEnd::NoMemory,
     }
 }
 
-/// Opens a repository for writing. The names of the refs that the pin has are short.
+/// Opens a repository. The names of the refs that the pin has are short.
 pub fn enter<L: Link, K: Desk>(
     alloc: Global,
     link: &mut L,
     desk: &mut K,
     user: &UserName,
     repo: &RepoName,
+    want: Want,
 ) -> Result<Pin, SessionEnd>
-    ensures runs { Runs (L.state link.old) (L.state link.new) (K.view desk.old) (K.view desk.new) (entering ((K.view desk.old).admin) user.now repo.now) (outcome_of result) }
+    ensures runs { RunsByRulebook (L.state link.old) (L.state link.new) (K.view desk.old) (K.view desk.new) (λ book. entering book ((K.view desk.old).admin) user.now repo.now want) (outcome_of result) }
     ensures tells { TellsLink (L.state link.old) (L.state link.new) result }
     ensures same { OnOk result (L.state link.new ≡ L.state link.old) }
     ensures stands { IfOk result (λ pin. Stands pin (K.view desk.new).admin (K.view desk.new).seen) }
-    ensures write { IfOk result (λ pin. pin.pinned.want ≡ Want.Write) }
+    ensures want { IfOk result (λ pin. pin.pinned.want ≡ want) }
     ensures names { IfOk result (λ pin. HasShortNames pin.pinned.repository.refs) }
     ensures goes { K.goes_on desk.old desk.new }
 {
-    // called for its clause that the names of refs stay short
+    // called for its clauses that the names of refs stay short, and that there is one list of rules in force
     hold_laws();
-    match desk.enter(alloc, user, repo, Want::Write) {
+    match desk.enter(alloc, user, repo, want) {
         Entered::Granted(pin) => Ok(pin),
         Entered::Created(pin) => Ok(pin),
-        Entered::Denied(verdict, _) => Err(refuse_denied(alloc, link, repo, user, verdict)),
+        Entered::Denied(verdict, conf) => Err(refuse_denied(
+            alloc,
+            link,
+            repo,
+            user,
+            want,
+            verdict,
+            conf.policy(),
+        )),
         Entered::NoRepo => Err(refuse(link, b"ERR no such repository", SessionEnd::NoRepo)),
         Entered::NoMemory => Err(SessionEnd::NoMemory),
     }

@@ -1,10 +1,13 @@
 // Rows of first packets and of denials, and the numbers of ends.
-use crate::denials::{push_denial, shown};
+use crate::denials::{fitting, push_denial, shown};
 use crate::end::SessionEnd;
 use crate::first_packet::{Asked, FirstLine, Service, first_line, without_feed};
+use crate::laws::hold_laws;
+use access_check::{Request, Want};
 use base_types::NoMemory;
 use conf_lex::{RepoName, UserName};
-use hub::{PermChange, Verdict};
+use git_object::ObjectId;
+use hub::PermChange;
 use raw_pack::PackFault;
 use std::alloc::Global;
 use std::test::Fail;
@@ -21,6 +24,7 @@ fn add_words(text: &mut Vec<u8>, words: &[&[u8]]) -> Result<(), NoMemory> {
 fn service_text(text: &mut Vec<u8>, service: &Service) -> Result<(), NoMemory> {
     match service {
         Service::Receive(repo) => add_words(text, &[b"receive".as_slice(), repo.bytes()]),
+        Service::Upload(repo) => add_words(text, &[b"upload".as_slice(), repo.bytes()]),
         Service::Permit(repo, PermChange::List) => {
             add_words(text, &[b"list".as_slice(), repo.bytes()])
         }
@@ -42,7 +46,7 @@ fn service_text(text: &mut Vec<u8>, service: &Service) -> Result<(), NoMemory> {
                 user.bytes(),
             ],
         ),
-        Service::Unbuilt => add_words(text, &[b"unbuilt".as_slice()]),
+        Service::Look => add_words(text, &[b"look".as_slice()]),
     }
 }
 
@@ -72,8 +76,8 @@ const LINES: [(&str, &str); 38] = [
         "c.d-e_f@g+h git-receive-pack a.git",
         "c.d-e_f@g+h receive a",
     ),
-    ("carol git-upload-pack 'testing'", "carol unbuilt"),
-    ("carol info", "carol unbuilt"),
+    ("carol git-upload-pack 'testing'", "carol upload testing"),
+    ("carol info", "carol look"),
     (
         "alice perms alice/x + READERS bob",
         "alice grant alice/x READERS bob",
@@ -136,16 +140,23 @@ fn a_denial_has_letter_name_repository_and_user(rt: HostRuntime) -> Result<(), F
     let alloc = rt.alloc();
     let repo = RepoName::parse(alloc, b"site")?.ok_or("a repository")?;
     let user = UserName::parse(alloc, b"cal")?.ok_or("a user")?;
-    for (verdict, due) in [
-        (Verdict::Fallthru, "+ a?b? site cal DENIED by fallthru"),
-        (Verdict::DeniedBy(14), "+ a?b? site cal DENIED by rule 14"),
+    for (want, due) in [
+        (Want::Read, "R any site cal DENIED by fallthru"),
+        (Want::Write, "W any site cal DENIED by fallthru"),
     ] {
         let mut text = Vec::new(alloc);
-        push_denial(alloc, &mut text, b"+", b"a\nb\x7f", &repo, &user, verdict)?;
+        push_denial(alloc, &mut text, &Request::Open(want), &repo, &user, None)?;
         assert_eq!(rt; text.as_slice(), due.as_bytes());
     }
-    let long = vec![in alloc; b'n'; 8193]?;
+    Ok(())
+}
+
+#[test]
+fn a_long_text_is_cut(rt: HostRuntime) -> Result<(), Fail> {
+    let long = vec![in rt.alloc(); b'n'; 60_001]?;
     assert_eq!(rt; shown(&long).len(), 8192);
+    assert_eq!(rt; fitting(&long).len(), 60_000);
+    hold_laws();
     Ok(())
 }
 
@@ -157,6 +168,7 @@ fn ends_have_their_numbers(rt: HostRuntime) -> Result<(), Fail> {
         (SessionEnd::NoRepo, 3),
         (SessionEnd::BadCommand, 4),
         (SessionEnd::BadUser, 5),
+        (SessionEnd::NotOurRef(ObjectId::zero()), 6),
         (SessionEnd::Malformed(36), 7),
         (SessionEnd::TooLong(10_001), 8),
         (SessionEnd::Truncated, 9),
@@ -164,7 +176,6 @@ fn ends_have_their_numbers(rt: HostRuntime) -> Result<(), Fail> {
         (SessionEnd::WriteFault, 11),
         (SessionEnd::NoMemory, 12),
         (SessionEnd::BadPack(PackFault::NotAPack), 13),
-        (SessionEnd::NotBuilt, 99),
     ] {
         assert_eq!(rt; end.number(), number);
     }

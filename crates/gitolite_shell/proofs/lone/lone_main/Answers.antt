@@ -8,7 +8,7 @@ use Rattle.gitolite_shell.specs.Lone.{EndsScript}
 use Rattle.gitolite_shell.specs.Words.{script_admin}
 use Rattle.gitolite_shell.specs.declared.status.Status.{Status}
 use Rattle.gitolite_shell.specs.declared.status.Status.TheVariants.{NoMemory}
-use Rattle.gitolite_shell.proofs.LoneLemmas.{by_words, ended_new, legal_none, legal_script, surely, undone}
+use Rattle.gitolite_shell.proofs.LoneLemmas.{admin_named, by_words, ended_new, legal_none, legal_script, recorded_script, surely, undone}
 use Rattle.gitolite_shell.proofs.lone.lone_main.Goals as goal
 
 pub returns-then-is_check-clause-ends : goal.returns-then-is_check-clause-ends
@@ -95,3 +95,15 @@ pub returns-clause-legal : goal.returns-clause-legal
 returns-clause-legal g c =
     legal_script (script_admin (map string_bytes c.args.words.now)) c.in-Some.admin.now (desk_of c.in-Ok.desk) (desk_of c.run_script.new.desk) c.into_log.result
     (sym c.script_admin.ensures.admin ∙ ap option_copied c.in-Some.is) c.in-Ok.ensures c.run_script.ensures.admin c.sound.ensures (c.into_log.ensures ∙ ap (λ (h : HubView). h.log) c.into_hub.ensures)
+
+pub returns-then-is_check-clause-recorded : goal.returns-then-is_check-clause-recorded
+returns-then-is_check-clause-recorded g c = recorded_script c.hold_laws.ensures.recorded _ (admin_named (map string_bytes c.args.words.now)) _ (returns-then-is_check-clause-legal g c)
+
+pub returns-in_default-clause-recorded : goal.returns-in_default-clause-recorded
+returns-in_default-clause-recorded g c = recorded_script c.hold_laws.ensures.recorded _ (admin_named (map string_bytes c.args.words.now)) _ (returns-in_default-clause-legal g c)
+
+pub returns-in_default-new_desk-clause-recorded : goal.returns-in_default-new_desk-clause-recorded
+returns-in_default-new_desk-clause-recorded g c = recorded_script c.hold_laws.ensures.recorded _ (admin_named (map string_bytes c.args.words.now)) _ (returns-in_default-new_desk-clause-legal g c)
+
+pub returns-clause-recorded : goal.returns-clause-recorded
+returns-clause-recorded g c = recorded_script c.hold_laws.ensures.recorded _ (admin_named (map string_bytes c.args.words.now)) _ (returns-clause-legal g c)

@@ -1,7 +1,8 @@
 use Rattle.std.proofs.Common.{rules, ◌≡◌, ◌<◌, ◌≤◌, length, get_or, refl, ◌∙◌}
 use Rattle.std.proofs.lemmas.Result.{err_from_is_err_and}
 use Rattle.session_core.proofs.StepLemmas.{says, says_exits, says_nothing}
-use Rattle.gitolite_shell.proofs.PermLemmas.{roles_all, roles_more, roles_end}
+use Rattle.session_core.proofs.LineLemmas.{lines_all, lines_more, lines_end}
+use Rattle.gitolite_shell.specs.Perms.{role_line}
 use Rattle.gitolite_shell.proofs.perms.say_roles.Goals as goal
 
 pub loop-entry-init : goal.loop-entry-init
@@ -12,7 +13,7 @@ returns-in_err-say_role-clause-runs g c = λ desk.
     let is : c.entry-item.result ≡ get_or c.args.roles.now c.loop-entry.entry-index c.entry-item.result = search rules in
     let within : c.loop-entry.entry-index < length c.args.roles.now = search rules in
     let p = err_from_is_err_and c.from_residual.result c.from_residual.ensures.1 in
-    rw (← roles_all c.args.roles.now) (c.loop-entry.invariant.writes _ desk _ (rw (roles_more c.args.roles.now c.loop-entry.entry-index _ within is) (says_exits _ _ desk _ _ c.say_role.result _ _ _ c.in_err-say_role.was p.1 p.2 (c.say_role.ensures.runs desk))))
+    rw (← lines_all role_line c.args.roles.now) (c.loop-entry.invariant.writes _ desk _ (rw (lines_more role_line c.args.roles.now c.loop-entry.entry-index _ within is) (says_exits _ _ desk _ _ c.say_role.result _ _ _ c.in_err-say_role.was p.1 p.2 (c.say_role.ensures.runs desk))))
 
 pub loop-entry-preserved : goal.loop-entry-preserved
 loop-entry-preserved g c =
@@ -20,7 +21,7 @@ loop-entry-preserved g c =
     let within : c.loop-entry.entry-index < length c.args.roles.now = search rules in
     record {
       writes = λ b desk out ran.
-          c.loop-entry.invariant.writes b desk out (rw (roles_more c.args.roles.now c.loop-entry.entry-index _ within is) (says _ _ desk _ _ c.say_role.result b c.in_ok-say_role.field-0 out c.in_ok-say_role.was (c.say_role.ensures.runs desk) ran));
+          c.loop-entry.invariant.writes b desk out (rw (lines_more role_line c.args.roles.now c.loop-entry.entry-index _ within is) (says _ _ desk _ _ c.say_role.result b c.in_ok-say_role.field-0 out c.in_ok-say_role.was (c.say_role.ensures.runs desk) ran));
       reads = c.in_ok-say_role.ensures.tells.0 ∙ c.loop-entry.invariant.reads;
       puts = c.in_ok-say_role.ensures.tells.1 ∙ c.loop-entry.invariant.puts;
     }
@@ -28,4 +29,4 @@ loop-entry-preserved g c =
 pub returns-clause-runs : goal.returns-clause-runs
 returns-clause-runs g c = λ desk.
     let past : length c.args.roles.now ≤ c.loop-entry.entry-index = search rules in
-    rw (← roles_all c.args.roles.now) (c.loop-entry.invariant.writes _ desk _ (rw (roles_end c.args.roles.now c.loop-entry.entry-index past) (says_nothing _ desk)))
+    rw (← lines_all role_line c.args.roles.now) (c.loop-entry.invariant.writes _ desk _ (rw (lines_end role_line c.args.roles.now c.loop-entry.entry-index past) (says_nothing _ desk)))

@@ -5,14 +5,15 @@ use Rattle.interaction_tree.specs.Interaction.{write}
 use Rattle.interaction_tree.specs.Traces.{Halt}
 use Rattle.interaction_tree.specs.Runs.{Runs}
 use Rattle.session_core.specs.declared.end.SessionEnd.{SessionEnd}
-use Rattle.gitolite_shell.proofs.PermLemmas.{roles_left}
+use Rattle.session_core.proofs.LineLemmas.{lines_left}
+use Rattle.gitolite_shell.specs.Perms.{role_line}
 use Rattle.gitolite_shell.proofs.perms.say_roles.Given as goal
 
 abbrev pub invariant-loop-entry : goal.invariant-loop-entry
 invariant-loop-entry g l = record {
   writes : (b : LinkState) (desk : DeskView) (out : Result (Unit {0}) (Halt SessionEnd))
-      → Runs (g.L.Endpoint.state l.link) b desk desk (write (roles_left (drop l.entry-index l.roles))) out
-      → Runs (g.L.Endpoint.state l.initial.link) b desk desk (write (roles_left l.roles)) out;
+      → Runs (g.L.Endpoint.state l.link) b desk desk (write (lines_left role_line (drop l.entry-index l.roles))) out
+      → Runs (g.L.Endpoint.state l.initial.link) b desk desk (write (lines_left role_line l.roles)) out;
   reads : (g.L.Endpoint.state l.link).read_faults ≡ (g.L.Endpoint.state l.initial.link).read_faults;
   puts : (g.L.Endpoint.state l.link).write_faults ≡ (g.L.Endpoint.state l.initial.link).write_faults;
 }

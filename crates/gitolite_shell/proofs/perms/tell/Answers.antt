@@ -1,4 +1,3 @@
-use Rattle.std.proofs.Common.{append_assoc, sym}
 use Rattle.std.proofs.lemmas.List.{append-nil}
 use Rattle.std.proofs.lemmas.Result.{err_from_is_err_and}
 use Rattle.session_core.proofs.StepLemmas.{says, says_exits}

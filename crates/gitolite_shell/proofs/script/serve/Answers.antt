@@ -10,7 +10,7 @@ returns-in_default-clause-lacks g c =
     let may = ap (λ (m : MemoryState). (memory_state m).may_fail) c.new-link.ensures in
     let cannot = rw (c.new.ensures.items, c.new-2.ensures.items) at may in
     let failed = c.in_default.ensures.none in
-    session_lacks _ _ _ _ c.args.body.items left c.requires c.session-end.ensures.grows (only_memory _ _ _ _ c.session-end.result failed.0 cannot c.session-end.ensures.causes failed.1 c.session-end.ensures.turn)
+    session_lacks _ _ _ _ c.args.body.items left c.requires c.session-end.ensures.grows (only_memory _ _ _ _ _ c.session-end.result failed.0 cannot c.session-end.ensures.causes failed.1 c.session-end.ensures.turn)
 
 pub returns-clause-ok : goal.returns-clause-ok
 returns-clause-ok g c =

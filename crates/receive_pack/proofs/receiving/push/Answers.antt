@@ -1,21 +1,34 @@
-use Rattle.interaction_tree.proofs.RunLemmas.{runs_memory}
+use Rattle.std.proofs.Common.{◌∙◌, subst}
+use Rattle.hub_history.specs.Conf.{AreInForce}
+use Rattle.hub_history.specs.State.{Conf}
+use Rattle.session_core.proofs.RulebookLemmas.{memory_by}
 use Rattle.receive_pack.proofs.PushLemmas.{pushed_then}
 use Rattle.receive_pack.proofs.receiving.push.Goals as goal
 
 pub returns-in_default-clause-runs : goal.returns-in_default-clause-runs
-returns-in_default-clause-runs g c = runs_memory _ _ _
+returns-in_default-clause-runs g c = memory_by _ _ _
+
+pub returns-in_default-reported_push-clause-runs : goal.returns-in_default-reported_push-clause-runs
+returns-in_default-reported_push-clause-runs g c = memory_by _ _ _
 
 pub returns-in_default-judge-clause-runs : goal.returns-in_default-judge-clause-runs
-returns-in_default-judge-clause-runs g c = runs_memory _ _ _
+returns-in_default-judge-clause-runs g c = memory_by _ _ _
 
 pub returns-in-Settled-clause-runs : goal.returns-in-Settled-clause-runs
-returns-in-Settled-clause-runs g c = pushed_then _ _ _ _ c.args.pin c.args.capabilities c.args.pack c.args.commands c.in-Ok.told c.in-Settled.outcomes _ _ c.in-Ok.ensures c.in-Settled.ensures.answers (c.tell.ensures.runs _)
+returns-in-Settled-clause-runs g c =
+    let laws = c.hold_laws.ensures in
+    pushed_then laws.one laws.openings _ _ _ _ c.args.pin c.args.capabilities c.args.pack c.args.commands c.in-Ok-reported_push.told c.in-Settled.outcomes _ c.policy.result.now _ c.requires.stands
+    (λ patterns matching. subst (λ (conf : Conf). AreInForce patterns conf c.policy.result.now) (c.in-Ok.ensures.cases ∙ c.conf.ensures) (c.policy.ensures patterns matching))
+    c.in-Ok-reported_push.ensures c.in-Settled.ensures.answers (c.tell.ensures.runs _)
 
 pub returns-clause-runs : goal.returns-clause-runs
-returns-clause-runs g c = rw c.in-NoMemory.ensures.answers.1 (runs_memory _ _ _)
+returns-clause-runs g c = rw c.in-NoMemory.ensures.answers.1 (memory_by _ _ _)
 
 pub returns-in_default-clause-goes : goal.returns-in_default-clause-goes
 returns-in_default-clause-goes g c = g.met.K.Desk.stays c.args.desk.now
+
+pub returns-in_default-reported_push-clause-goes : goal.returns-in_default-reported_push-clause-goes
+returns-in_default-reported_push-clause-goes g c = g.met.K.Desk.stays c.args.desk.now
 
 pub returns-in_default-judge-clause-goes : goal.returns-in_default-judge-clause-goes
 returns-in_default-judge-clause-goes g c = g.met.K.Desk.stays c.args.desk.now

@@ -1,22 +1,22 @@
-use Rattle.interaction_tree.proofs.RunLemmas.{runs_memory}
 use Rattle.session_core.proofs.StepLemmas.{refused}
+use Rattle.session_core.proofs.RulebookLemmas.{memory_by}
 use Rattle.session_core.proofs.OpeningLemmas.{granted_then, created_then, denied_then, no_repo_then, short_after}
 use Rattle.session_core.proofs.opening.enter.Goals as goal
 
 pub returns-in-Granted-clause-runs : goal.returns-in-Granted-clause-runs
-returns-in-Granted-clause-runs g c = granted_then _ _ _ c.args.user.now c.args.repo.now c.in-Granted.pin c.in-Granted.ensures.answers
+returns-in-Granted-clause-runs g c = granted_then _ _ _ c.args.user.now c.args.repo.now _ c.in-Granted.pin c.in-Granted.ensures.answers
 
 pub returns-in-Created-clause-runs : goal.returns-in-Created-clause-runs
-returns-in-Created-clause-runs g c = created_then _ _ _ c.args.user.now c.args.repo.now c.in-Created.pin c.in-Created.ensures.answers
+returns-in-Created-clause-runs g c = created_then _ _ _ c.args.user.now c.args.repo.now _ c.in-Created.pin c.in-Created.ensures.answers
 
 pub returns-in-Denied-clause-runs : goal.returns-in-Denied-clause-runs
-returns-in-Denied-clause-runs g c = denied_then _ _ _ _ c.args.user.now c.args.repo.now _ c.in-Denied.verdict _ c.in-Denied.ensures.answers (refused _ _ _ _ _ _ (c.refuse_denied.ensures.runs _))
+returns-in-Denied-clause-runs g c = denied_then _ _ _ _ c.args.user.now c.args.repo.now _ _ c.hold_laws.ensures.one c.in-Denied.verdict _ _ c.in-Denied.ensures.answers c.policy.ensures (refused _ _ _ _ _ _ (c.refuse_denied.ensures.runs _))
 
 pub returns-in-NoRepo-clause-runs : goal.returns-in-NoRepo-clause-runs
-returns-in-NoRepo-clause-runs g c = no_repo_then _ _ _ _ c.args.user.now c.args.repo.now _ c.in-NoRepo.ensures.answers (refused _ _ _ _ _ _ (c.refuse.ensures.runs _))
+returns-in-NoRepo-clause-runs g c = no_repo_then _ _ _ _ c.args.user.now c.args.repo.now _ _ c.in-NoRepo.ensures.answers (refused _ _ _ _ _ _ (c.refuse.ensures.runs _))
 
-pub returns-clause-runs : goal.returns-clause-runs
-returns-clause-runs g c = rw c.in-NoMemory.ensures.answers.1 (runs_memory _ _ _)
+pub returns-in-NoMemory-clause-runs : goal.returns-in-NoMemory-clause-runs
+returns-in-NoMemory-clause-runs g c = rw c.in-NoMemory.ensures.answers.1 (memory_by _ _ _)
 
 pub returns-in-Granted-clause-names : goal.returns-in-Granted-clause-names
 returns-in-Granted-clause-names g c = short_after c.hold_laws.ensures.short _ _ _ _ c.in-Granted.pin c.in-Granted.ensures.answers.1 c.in-Granted.ensures.answers.2.stands

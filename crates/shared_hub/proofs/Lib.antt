@@ -1,0 +1,5 @@
+mod ListLemmas
+mod StepLemmas
+mod TurnLemmas
+mod PassLemmas
+pub mod Crosses

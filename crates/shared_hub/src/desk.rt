@@ -1,0 +1,157 @@
+// A pass of a shared hub as a desk.
+ghost use Rattle.std.specs.Prelude.{◌≡◌};
+ghost use Rattle.turn_lock.specs.Lock.{IsSamePass};
+ghost use Rattle.access_check.specs.declared.verdicts.Want.TheVariants as want;
+ghost use Rattle.hub_history.specs.History.{Stands};
+ghost use Rattle.hub_history.specs.Push.{AreWithinLimits};
+ghost use Rattle.push_judging.specs.Judged.{IsJudgement};
+ghost use Rattle.hub.specs.Desk.{Enters, IsSound, KeepsPins, Looks, Permits, Pushes};
+ghost use Rattle.shared_hub.specs.Desk.{desk_of};
+ghost use Rattle.shared_hub.specs.Shared.{IsHubPass};
+
+use crate::shared::{SharedHub, SharedPass};
+use crate::steps::{Asked, Enter, Look, Permit, Push};
+use git_object::ObjectList;
+use hub::{
+    Desk, Entered, Judged, Looked, PermChange, Permitted, Pin, Pushed, RepoName, UserName, Want,
+};
+use ref_store::CommandList;
+use std::alloc::Global;
+use std::marker::Model;
+use std::sync::Wait;
+
+/// A caller of a shared hub. Contracts see it as its pass.
+///
+/// Each of the four calls waits for the turn, and gives it back before it returns.
+#[derive(Drop)]
+pub struct SharedDesk<'a, R: Wait> {
+    rt: &'a R,
+    hub: &'a SharedHub,
+    pass: SharedPass,
+}
+
+impl<'a, R: Wait> Model for SharedDesk<'a, R> {
+    ghost use Rattle.std.specs.Prelude.{◌≡◌};
+    ghost use Rattle.turn_lock.specs.Lock.{PassState};
+    ghost use Rattle.shared_hub.specs.declared.kept.KeptEntry.{KeptEntry};
+    ghost use Rattle.shared_hub.specs.Shared.{IsHubPass};
+
+    ghost Value = { PassState KeptEntry };
+
+    ghost view = { λ d. d.pass };
+
+    ghost invariant = { λ d. (d.pass.lock ≡ d.hub.now) × IsHubPass d.pass };
+}
+
+impl<'a, R: Wait> SharedDesk<'a, R> {
+    pub fn new(rt: &'a R, hub: &'a SharedHub, pass: SharedPass) -> SharedDesk<'a, R>
+        requires of_hub { pass.lock ≡ hub.now }
+        requires hub { IsHubPass pass }
+        ensures { result ≡ pass }
+    {
+        SharedDesk { rt, hub, pass }
+    }
+
+    pub fn into_pass(self) -> SharedPass
+        ensures pass { result ≡ self.entry }
+        ensures hub { IsHubPass result }
+    {
+        let SharedDesk {
+            rt: _,
+            hub: _,
+            pass,
+        } = self;
+        pass
+    }
+}
+
+impl<'a, R: Wait> Desk for SharedDesk<'a, R> {
+    ghost use Rattle.std.specs.Prelude.{refl};
+    ghost use Rattle.std.proofs.Common.{◌∙◌};
+
+    ghost view = { desk_of };
+
+    ghost goes_on = { λ old new. IsSamePass old new };
+
+    fn enter(&mut self, alloc: Global, user: &UserName, repo: &RepoName, want: Want) -> Entered {
+        let mut step = Enter {
+            alloc,
+            caller: self.pass.caller(),
+            user,
+            repo,
+            want,
+        };
+        let hub = self.hub;
+        hub.lock.with_turn(self.rt, &mut self.pass, &mut step)
+    }
+
+    fn push(
+        &mut self,
+        alloc: Global,
+        pin: Pin,
+        pack: ObjectList,
+        commands: CommandList,
+        atomic: bool,
+        judged: Judged,
+    ) -> Pushed {
+        let asked = Asked {
+            pin,
+            pack,
+            commands,
+            atomic,
+            judged,
+        };
+        let mut step = Push::new(alloc, self.pass.caller(), &self.pass, asked);
+        let hub = self.hub;
+        let Some(pushed) = hub.lock.with_turn(self.rt, &mut self.pass, &mut step) else {
+            unreachable!()
+        };
+        pushed
+    }
+
+    fn permit(
+        &mut self,
+        alloc: Global,
+        user: &UserName,
+        repo: &RepoName,
+        change: PermChange,
+    ) -> Permitted {
+        let mut step = Permit {
+            alloc,
+            caller: self.pass.caller(),
+            user,
+            repo,
+            change: Some(change),
+        };
+        let hub = self.hub;
+        let Some(permitted) = hub.lock.with_turn(self.rt, &mut self.pass, &mut step) else {
+            unreachable!()
+        };
+        permitted
+    }
+
+    fn look(&mut self, alloc: Global, user: &UserName) -> Looked {
+        let mut step = Look {
+            alloc,
+            caller: self.pass.caller(),
+            user,
+        };
+        let hub = self.hub;
+        hub.lock.with_turn(self.rt, &mut self.pass, &mut step)
+    }
+
+    fn sound(&self) {
+        // the pass is read so that the proof has what every pass of a desk keeps
+        let _caller = self.pass.caller();
+    }
+
+    ghost stays = { λ desk. record { lock = refl; caller = refl; passes = refl; at_new = refl; numbers = refl } };
+
+    ghost composes = { λ a b c one more. record {
+      lock = more.lock ∙ one.lock;
+      caller = more.caller ∙ one.caller;
+      passes = more.passes ∙ one.passes;
+      at_new = more.at_new ∙ one.at_new;
+      numbers = more.numbers ∙ one.numbers;
+    } };
+}

@@ -1,0 +1,21 @@
+//! A hub that callers on several threads share.
+//!
+//! Each caller has a pass of the lock, and its desk: the calls of `hub::Desk`, each of which takes the turn once.
+//!
+//! - `kept`: a hub as the lock keeps it, whose list is its admin and then its log;
+//! - `shared`: the lock over a hub, and its passes;
+//! - `steps`: what each call of a desk does while it has the turn;
+//! - `desk`: a pass as a desk.
+#![tactic(auto)]
+
+mod desk;
+mod kept;
+mod shared;
+mod steps;
+#[cfg(test)]
+mod tests;
+
+pub use base_types::NoMemory;
+pub use desk::SharedDesk;
+pub use kept::{KeptEntry, KeptHub};
+pub use shared::{SharedHub, SharedPass};

@@ -1,0 +1,167 @@
+// What each call of a desk does while it has the turn.
+ghost use Rattle.std.specs.Prelude.{[]};
+ghost use Rattle.turn_lock.specs.Lock.{seen};
+ghost use Rattle.shared_hub.specs.Steps.{RunsChange, RunsLook, RunsOnce, RunsOpening, RunsPush};
+
+use crate::kept::KeptHub;
+use crate::shared::SharedPass;
+use git_object::ObjectList;
+use hub::{Entered, Judged, Looked, PermChange, Permitted, Pin, Pushed, RepoName, UserName, Want};
+use ref_store::CommandList;
+use std::alloc::Global;
+use std::marker::Model;
+use std::snapshot::Snapshot;
+use turn_lock::Step;
+
+/// An opening.
+#[derive(Drop)]
+pub struct Enter<'a> {
+    pub alloc: Global,
+    pub caller: u64,
+    pub user: &'a UserName,
+    pub repo: &'a RepoName,
+    pub want: Want,
+}
+
+impl Step<KeptHub> for Enter<'_> {
+    type Answer = Entered;
+
+    ghost knows = { λ _. [] };
+
+    ghost caller = { λ s. s.caller };
+
+    ghost relates = { λ s before after answer. RunsOpening s.caller s.user.now s.repo.now s.want before after answer };
+
+    fn run(&mut self, held: &mut KeptHub) -> Entered {
+        held.hub
+            .enter(self.alloc, self.caller, self.user, self.repo, self.want)
+    }
+}
+
+/// What is pushed, and how it was judged.
+#[derive(Drop)]
+pub struct Asked {
+    pub pin: Pin,
+    pub pack: ObjectList,
+    pub commands: CommandList,
+    pub atomic: bool,
+    pub judged: Judged,
+}
+
+/// A push, which has something to push until it is run, and what its caller had seen before.
+#[derive(Drop)]
+pub struct Push {
+    alloc: Global,
+    caller: u64,
+    known: Snapshot<SharedPass>,
+    asked: Option<Asked>,
+}
+
+impl Model for Push {
+    ghost use Rattle.turn_lock.specs.Lock.{seen};
+    ghost use Rattle.shared_hub.specs.Codes.{coded_push};
+    ghost use Rattle.shared_hub.specs.Steps.{MayPushAny, PushState};
+
+    ghost Value = { PushState };
+
+    ghost coded = { coded_push };
+
+    ghost view = { λ s. record { caller = s.caller; known = seen s.known.value; asked = s.asked } };
+
+    ghost invariant = { λ s. MayPushAny (seen s.known.value) s.asked };
+}
+
+impl Push {
+    ghost use Rattle.std.specs.Prelude.{◌≡◌, Some};
+    ghost use Rattle.shared_hub.specs.Steps.{MayPush};
+
+    pub fn new(alloc: Global, caller: u64, pass: &SharedPass, asked: Asked) -> Push
+        requires { MayPush (seen pass.now) asked }
+        ensures { result ≡ record { caller = caller; known = seen pass.now; asked = Some asked } }
+    {
+        Push {
+            alloc,
+            caller,
+            known: Snapshot::of(pass),
+            asked: Some(asked),
+        }
+    }
+}
+
+impl Step<KeptHub> for Push {
+    type Answer = Option<Pushed>;
+
+    ghost knows = { λ s. s.known };
+
+    ghost caller = { λ s. s.caller };
+
+    ghost relates = { λ s before after answer. RunsOnce (RunsPush s.caller) s.asked before after answer };
+
+    fn run(&mut self, held: &mut KeptHub) -> Option<Pushed> {
+        let Some(
+            Asked {
+                pin,
+                pack,
+                commands,
+                atomic,
+                judged,
+            },
+        ) = self.asked.take()
+        else {
+            return None;
+        };
+        Some(held.hub.settle(self.alloc, self.caller, pin, pack, commands, atomic, judged))
+    }
+}
+
+/// A change or a listing of roles, which has something to ask until it is run.
+#[derive(Drop)]
+pub struct Permit<'a> {
+    pub alloc: Global,
+    pub caller: u64,
+    pub user: &'a UserName,
+    pub repo: &'a RepoName,
+    pub change: Option<PermChange>,
+}
+
+impl Step<KeptHub> for Permit<'_> {
+    type Answer = Option<Permitted>;
+
+    ghost knows = { λ _. [] };
+
+    ghost caller = { λ s. s.caller };
+
+    ghost relates = { λ s before after answer. RunsOnce (RunsChange s.caller s.user.now s.repo.now) s.change before after answer };
+
+    fn run(&mut self, held: &mut KeptHub) -> Option<Permitted> {
+        let Some(change) = self.change.take() else {
+            return None;
+        };
+        Some(
+            held.hub
+                .permit(self.alloc, self.caller, self.user, self.repo, change),
+        )
+    }
+}
+
+/// A listing.
+#[derive(Drop)]
+pub struct Look<'a> {
+    pub alloc: Global,
+    pub caller: u64,
+    pub user: &'a UserName,
+}
+
+impl Step<KeptHub> for Look<'_> {
+    type Answer = Looked;
+
+    ghost knows = { λ _. [] };
+
+    ghost caller = { λ s. s.caller };
+
+    ghost relates = { λ s before after answer. RunsLook s.caller s.user.now before after answer };
+
+    fn run(&mut self, held: &mut KeptHub) -> Looked {
+        held.hub.look(self.alloc, self.caller, self.user)
+    }
+}

@@ -1,0 +1,53 @@
+// What a fetch is sent.
+ghost use Rattle.std.specs.Prelude.{◌≡◌, ◌<◌, length, All, IfOk};
+ghost use Rattle.pktline_core.specs.Links.{KeepsReading};
+ghost use Rattle.hub.specs.Desk.{DeskView};
+ghost use Rattle.interaction_tree.specs.Interaction.{write};
+ghost use Rattle.interaction_tree.specs.Runs.{Runs};
+ghost use Rattle.raw_pack.specs.Writing.{objects_at};
+ghost use Rattle.session_core.specs.End.{TellsLink, outcome_of};
+ghost use Rattle.upload_pack.specs.Sending.{pack_bytes, sent};
+
+use ancestry::reach;
+use base_types::NoMemory;
+use git_object::ObjectId;
+use pktline_core::{Link, WriteFault};
+use raw_pack::write_pack;
+use ref_store::Repo;
+use session_core::SessionEnd;
+use std::alloc::Global;
+
+/// Writes the pack of the objects that the wants reach and the haves don't, in store order. It copies no body.
+pub fn send_pack<L: Link>(
+    alloc: Global,
+    link: &mut L,
+    repo: &Repo,
+    wants: &[ObjectId],
+    haves: &[ObjectId],
+) -> Result<(), SessionEnd>
+    ensures runs { (desk : DeskView) → Runs (L.state link.old) (L.state link.new) desk desk (write (pack_bytes repo.now.objects wants.now haves.now)) (outcome_of result) }
+    ensures tells { TellsLink (L.state link.old) (L.state link.new) result }
+{
+    let Ok(places) = places_sent(alloc, repo, wants, haves) else {
+        return Err(SessionEnd::NoMemory);
+    };
+    match write_pack(link, repo, &places) {
+        Ok(()) => Ok(()),
+        Err(WriteFault::Failed) => Err(SessionEnd::WriteFault),
+        Err(WriteFault::NoMemory) => Err(SessionEnd::NoMemory),
+    }
+}
+
+// The places of those objects.
+fn places_sent(
+    alloc: Global,
+    repo: &Repo,
+    wants: &[ObjectId],
+    haves: &[ObjectId],
+) -> Result<Vec<u32>, NoMemory>
+    ensures objects { IfOk result (λ places. objects_at repo.now.objects places.items ≡ sent repo.now.objects wants.now haves.now) }
+    ensures within { IfOk result (λ places. All (λ place. place < length repo.now.objects) places.items) }
+    ensures few { IfOk result (λ places. length places.items < 4294967296) }
+{
+    reach(alloc, repo, repo.count(), wants, haves)
+}

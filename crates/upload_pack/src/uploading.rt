@@ -1,0 +1,151 @@
+// What follows an opening for reading.
+ghost use Rattle.std.specs.Prelude.{◌≡◌, ◌≤◌, length, IfOk};
+ghost use Rattle.pktline_core.specs.Links.{KeepsReading};
+ghost use Rattle.hub.specs.Desk.{DeskView};
+ghost use Rattle.hub_history.specs.State.{HasShortNames, store_of};
+ghost use Rattle.interaction_tree.specs.Interaction.{write};
+ghost use Rattle.interaction_tree.specs.Runs.{Runs};
+ghost use Rattle.session_core.specs.End.{TellsLink, outcome_of};
+ghost use Rattle.session_core.specs.Readers.{IsReady};
+ghost use Rattle.upload_pack.specs.Advertising.{advertisement};
+ghost use Rattle.upload_pack.specs.Wants.{not_our_ref};
+ghost use Rattle.upload_pack.specs.Uploading.{fetching, refusing_want, serving, uploading, wanting};
+
+use crate::advertising::{advertise, not_ours};
+use crate::haves::take_haves;
+use crate::sending::send_pack;
+use crate::wants::{IdList, first_want_in, take_wants};
+use git_object::ObjectId;
+use hub::Pin;
+use pktline_core::{Link, Pkt, PktReader};
+use ref_store::Repo;
+use session_core::{SessionEnd, end_by, say, without_feed};
+use std::alloc::{AllocError, Global};
+
+/// How a fetch that met no fault ends.
+#[derive(Clone, Copy, Debug, PartialEq, Eq)]
+pub enum FetchEnd {
+    /// A flush stood in place of wants, or the pack was written.
+    Served,
+    /// This is the first want that wasn't advertised.
+    NotOurRef(ObjectId),
+}
+
+/// What follows an opening for reading: the advertisement, and a fetch or none.
+pub fn upload<L: Link>(
+    alloc: Global,
+    link: &mut L,
+    reader: &mut PktReader,
+    pin: &Pin,
+) -> Result<FetchEnd, SessionEnd>
+    requires ready { IsReady reader.old (L.state link.old) }
+    requires names { HasShortNames pin.now.pinned.repository.refs }
+    ensures runs { (desk : DeskView) → Runs (L.state link.old) (L.state link.new) desk desk (uploading pin.now reader.old.offset) (outcome_of result) }
+    ensures tells { TellsLink (L.state link.old) (L.state link.new) result }
+{
+    advertise_upload(alloc, link, pin)?;
+    upload_wants(alloc, link, reader, pin)
+}
+
+/// The first part: what may be wanted of the repository as it was at the opening.
+pub fn advertise_upload<L: Link>(alloc: Global, link: &mut L, pin: &Pin) -> Result<(), SessionEnd>
+    requires names { HasShortNames pin.now.pinned.repository.refs }
+    ensures runs { (desk : DeskView) → Runs (L.state link.old) (L.state link.new) desk desk (write (advertisement (store_of pin.now.pinned.repository))) (outcome_of result) }
+    ensures tells { TellsLink (L.state link.old) (L.state link.new) result }
+    ensures reading { KeepsReading (L.state link.old) (L.state link.new) }
+{
+    advertise(alloc, link, pin.repo())
+}
+
+/// The second part: what is wanted, what the client has, and the pack.
+pub fn upload_wants<L: Link>(
+    alloc: Global,
+    link: &mut L,
+    reader: &mut PktReader,
+    pin: &Pin,
+) -> Result<FetchEnd, SessionEnd>
+    requires ready { IsReady reader.old (L.state link.old) }
+    ensures runs { (desk : DeskView) → Runs (L.state link.old) (L.state link.new) desk desk (wanting (store_of pin.now.pinned.repository) reader.old.offset) (outcome_of result) }
+    ensures tells { TellsLink (L.state link.old) (L.state link.new) result }
+{
+    fetch_from(alloc, link, reader, pin.repo())
+}
+
+fn fetch_from<L: Link>(
+    alloc: Global,
+    link: &mut L,
+    reader: &mut PktReader,
+    repo: &Repo,
+) -> Result<FetchEnd, SessionEnd>
+    requires ready { IsReady reader.old (L.state link.old) }
+    ensures runs { (desk : DeskView) → Runs (L.state link.old) (L.state link.new) desk desk (wanting repo.now reader.old.offset) (outcome_of result) }
+    ensures tells { TellsLink (L.state link.old) (L.state link.new) result }
+{
+    let offset = reader.offset();
+    match reader.next(link) {
+        Ok(Pkt::Flush) => Ok(FetchEnd::Served),
+        Ok(Pkt::Line(line)) => {
+            let first = first_want_in(link, offset, without_feed(line))?;
+            fetch(alloc, link, reader, repo, first)
+        }
+        Err(fault) => Err(end_by(link, offset, fault)),
+    }
+}
+
+// The wants from the first on, and what follows them.
+fn fetch<L: Link>(
+    alloc: Global,
+    link: &mut L,
+    reader: &mut PktReader,
+    repo: &Repo,
+    first: ObjectId,
+) -> Result<FetchEnd, SessionEnd>
+    requires ready { IsReady reader.old (L.state link.old) }
+    ensures runs { (desk : DeskView) → Runs (L.state link.old) (L.state link.new) desk desk (fetching repo.now first reader.old.offset) (outcome_of result) }
+    ensures tells { TellsLink (L.state link.old) (L.state link.new) result }
+{
+    let wants = take_wants(alloc, link, reader, first)?;
+    match not_ours(alloc, repo, wants.as_slice()) {
+        Ok(None) => serve(alloc, link, reader, repo, &wants),
+        Ok(Some(id)) => refuse_want(alloc, link, id),
+        Err(_) => Err(SessionEnd::NoMemory),
+    }
+}
+
+// A last packet: this id isn't one of the advertisement.
+fn refuse_want<L: Link>(alloc: Global, link: &mut L, id: ObjectId) -> Result<FetchEnd, SessionEnd>
+    ensures runs { (desk : DeskView) → Runs (L.state link.old) (L.state link.new) desk desk (refusing_want id) (outcome_of result) }
+    ensures tells { TellsLink (L.state link.old) (L.state link.new) result }
+{
+    let Ok(text) = not_our_ref(alloc, id) else {
+        return Err(SessionEnd::NoMemory);
+    };
+    say(link, &text)?;
+    Ok(FetchEnd::NotOurRef(id))
+}
+
+fn not_our_ref(alloc: Global, id: ObjectId) -> Result<Vec<u8>, AllocError>
+    ensures text { IfOk result (λ v. v.items ≡ not_our_ref id) }
+    ensures size { IfOk result (λ v. length v.items ≤ 100) }
+{
+    let mut text = Vec::from_slice(alloc, b"ERR upload-pack: not our ref ")?;
+    text.extend_from_slice(&id.hex())?;
+    Ok(text)
+}
+
+// What the client has, and the pack.
+fn serve<L: Link>(
+    alloc: Global,
+    link: &mut L,
+    reader: &mut PktReader,
+    repo: &Repo,
+    wants: &IdList,
+) -> Result<FetchEnd, SessionEnd>
+    requires ready { IsReady reader.old (L.state link.old) }
+    ensures runs { (desk : DeskView) → Runs (L.state link.old) (L.state link.new) desk desk (serving repo.now wants.now reader.old.offset) (outcome_of result) }
+    ensures tells { TellsLink (L.state link.old) (L.state link.new) result }
+{
+    let common = take_haves(alloc, link, reader, repo)?;
+    send_pack(alloc, link, repo, wants.as_slice(), common.as_slice())?;
+    Ok(FetchEnd::Served)
+}
