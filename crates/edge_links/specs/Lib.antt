@@ -1,4 +1,5 @@
 pub mod Door
 pub mod MemoryDoors
 pub mod MemoryDoorViews
+pub mod Sockets
 pub mod Standard

@@ -2,20 +2,24 @@
 //!
 //! - `door`: what a door is: a trait, whose calls give the next link and take one back;
 //! - `memory_door`: a door over links that are at hand, which fails at the calls that are listed;
-//! - `post`: a worker's place: a door, and a gate;
-//! - `standard`: standard input and output as the two halves of a link, or another reader and writer in their place.
+//! - `standard`: standard input and output as the two halves of a link, or another reader and writer in their place;
+//! - `connection`, `tcp_link`: a TCP connection as a link, which gathers what is put and reads ahead;
+//! - `tcp_door`: a door through which the connections of a listener come.
 #![tactic(auto)]
 
+mod connection;
 mod door;
 mod memory_door;
-mod post;
 mod standard;
+mod tcp_door;
+mod tcp_link;
 
 pub use base_types::NoMemory;
 pub use door::{Door, Next};
 pub use memory_door::MemoryDoor;
-pub use post::Post;
 pub use standard::{StdSink, StdSource};
+pub use tcp_door::TcpDoor;
+pub use tcp_link::TcpLink;
 
 #[cfg(test)]
 mod tests;

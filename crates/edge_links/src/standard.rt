@@ -1,5 +1,6 @@
 // The standard input and the standard output, as the two halves of a link.
-ghost use Rattle.std.specs.Prelude.{◌≡◌, ◌<◌, ◌^◌, length};
+ghost use Rattle.std.specs.Prelude.{◌≡◌, ◌<◌, ◌≤◌, ◌^◌, length};
+ghost use Rattle.base_types.specs.Counts.{one_more};
 ghost use Rattle.pktline_core.specs.Links.{Takes, Puts, IsLater, KeepsReading, KeepsWriting};
 ghost use Rattle.edge_links.specs.Standard.{reader_state, writer_state, faults_after_take, faults_after_put};
 
@@ -15,9 +16,9 @@ const MOST_GIVEN: u64 = (1 << 63) - 1;
 /// A read of 0 bytes is the end, and each error is a fault. So is each call after 2^63 - 1 bytes.
 #[derive(Drop)]
 pub struct StdSource<R = Stdin> {
-    input: R,
-    given: u64,
-    faults: u64,
+    pub(crate) input: R,
+    pub(crate) given: u64,
+    pub(crate) faults: u64,
     ghost given_below: { given < 2 ^ 63 },
 }
 
@@ -31,6 +32,18 @@ impl<R: Read> StdSource<R> {
             given: 0,
             faults: 0,
         }
+    }
+
+    // Counts a fault, and tells it.
+    pub(crate) fn fail(&mut self) -> Taken
+        ensures answer { result ≡ Taken.Failed }
+        ensures faults { self.new.faults ≡ one_more self.old.faults }
+        ensures rises { self.old.faults ≤ self.new.faults }
+        ensures given { self.new.given ≡ self.old.given }
+        ensures input { self.new.input ≡ self.old.input }
+    {
+        self.faults = self.faults.saturating_add(1);
+        Taken::Failed
     }
 }
 
@@ -48,8 +61,7 @@ impl<R: Read> Source for StdSource<R> {
     {
         let most = (MOST_GIVEN - self.given) as usize;
         if most == 0 {
-            self.faults = self.faults.saturating_add(1);
-            return Taken::Failed;
+            return self.fail();
         }
         let within = most.min(room.len());
         match self.input.read(room.split_at_mut(within).0) {
@@ -58,10 +70,7 @@ impl<R: Read> Source for StdSource<R> {
                 self.given += count as u64;
                 Taken::Got(count)
             }
-            Err(_) => {
-                self.faults = self.faults.saturating_add(1);
-                Taken::Failed
-            }
+            Err(_) => self.fail(),
         }
     }
 
@@ -75,8 +84,8 @@ impl<R: Read> Source for StdSource<R> {
 /// a write that takes 0 bytes.
 #[derive(Drop)]
 pub struct StdSink<W = Stdout> {
-    output: W,
-    faults: u64,
+    pub(crate) output: W,
+    pub(crate) faults: u64,
 }
 
 impl<W: Write> StdSink<W> {
@@ -85,6 +94,17 @@ impl<W: Write> StdSink<W> {
         ensures { ⟦<StdSink<W> as Endpoint>⟧.state result ≡ writer_state (W.contents output) 0 }
     {
         StdSink { output, faults: 0 }
+    }
+
+    // Counts a fault, and tells it.
+    pub(crate) fn fail(&mut self) -> Put
+        ensures answer { result ≡ Put.Failed }
+        ensures faults { self.new.faults ≡ one_more self.old.faults }
+        ensures rises { self.old.faults ≤ self.new.faults }
+        ensures output { self.new.output ≡ self.old.output }
+    {
+        self.faults = self.faults.saturating_add(1);
+        Put::Failed
     }
 }
 
@@ -102,10 +122,7 @@ impl<W: Write> Sink for StdSink<W> {
     {
         match self.output.write(piece) {
             Ok(count) if 0 < count => Put::Took(count),
-            _ => {
-                self.faults = self.faults.saturating_add(1);
-                Put::Failed
-            }
+            _ => self.fail(),
         }
     }
 }

@@ -14,7 +14,7 @@ use Rattle.gitolite_shell.specs.RunningScripts.{StopsWriting, TellsOutput}
 use Rattle.gitolite_shell.specs.Check.{EndsCheck, FailsInput, PrintsConf, ReadsAll, StopsReading, TellsReadAll, conf_status, read_status}
 use Rattle.gitolite_shell.specs.Lone.{EndsUsage, TellsStatus}
 use Rattle.gitolite_shell.specs.Status.{status_number, status_of}
-use Rattle.gitolite_shell.specs.Words.{usage_line}
+use Rattle.gitolite_shell.specs.Command.{usage_line}
 use Rattle.gitolite_shell.specs.declared.check.ReadAllFault.{ReadAllFault}
 use Rattle.gitolite_shell.specs.declared.check.ReadAllFault.TheVariants as reading
 use Rattle.gitolite_shell.specs.declared.script.ScriptFault.{ScriptFault}
@@ -77,4 +77,4 @@ pub usage_stopped : (sink sink' : LinkState) (f : ScriptFault) → StopsWriting 
 usage_stopped sink sink' fault.BadScript stops = absurd stops
 usage_stopped sink sink' fault.InputFault stops = absurd stops
 usage_stopped sink sink' fault.OutputFault stops = stops
-usage_stopped sink sink' fault.NoMemory stops = stops
+usage_stopped sink sink' fault.NoMemory stops = (stops.0, inr stops.1)

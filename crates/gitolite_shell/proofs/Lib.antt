@@ -1,9 +1,6 @@
 mod ScriptLemmas
 mod LoneLemmas
 mod ScriptRows
-mod OrderLemmas
-mod PermLemmas
-mod InfoLemmas
-mod FetchLemmas
 mod CheckLemmas
-mod EndLemmas
+mod ServeLemmas
+mod ShellLemmas

@@ -27,7 +27,7 @@ use Rattle.session_core.specs.End.{halt_of, HasCause}
 use Rattle.session_core.specs.Recorded.{IsRecorded, Recorded}
 use Rattle.session_core.specs.Rulebook.{ByRulebook}
 use Rattle.session_core.proofs.RulebookLemmas.{recorded_before}
-use Rattle.gitolite_shell.specs.Session.{session}
+use Rattle.git_session.specs.Session.{session}
 use Rattle.script_frames.specs.Frames.{head_text, frame_text, AreBodies, BeginsNoFrame}
 use Rattle.script_frames.specs.ReadingFrames.{Takes, IsRest, TakesFrame, TakesNoFrame, GoesNoFurther}
 use Rattle.gitolite_shell.specs.Script.{end_word, stop_word, reply_text, fault_text, served_alone, Printed, sessions, bad_offset, last_line, script}

@@ -1,8 +1,7 @@
 -- Rows of a script, worked out.
-use Rattle.std.proofs.Common.{◌≡◌, [], ◌∷◌, Some, None, refl, arith, codes}
+use Rattle.std.proofs.Common.{◌≡◌, [], ◌∷◌, refl, arith, codes}
 use Rattle.std.proofs.lemmas.Fmt.{decimal_digit}
 use Rattle.session_core.specs.declared.end.SessionEnd.TheVariants.{Served}
-use Rattle.gitolite_shell.specs.Words.{is_admin_name, script_admin}
 use Rattle.gitolite_shell.specs.Script.{end_word, reply_text, fault_text, bad_offset, last_line}
 
 a_reply : reply_text 1 (end_word Served) (codes "0000") ≡ codes "session 1 served 4\n0000\n"
@@ -15,17 +14,3 @@ a_fault = rw (decimal_digit 0 (omega arith)) refl
 
 nothing_follows : last_line (bad_offset (codes "abcde" ∷ []) []) ≡ []
 nothing_follows = refl
-
-good_words : script_admin (codes "script" ∷ codes "--admin" ∷ codes "alice" ∷ []) ≡ Some (codes "alice")
-unfolding is_admin_name
-good_words = refl
-
-no_flag : script_admin (codes "script" ∷ codes "alice" ∷ []) ≡ None
-no_flag = refl
-
-a_dash_first : script_admin (codes "script" ∷ codes "--admin" ∷ codes "-alice" ∷ []) ≡ None
-unfolding is_admin_name
-a_dash_first = refl
-
-a_word_more : script_admin (codes "script" ∷ codes "--admin" ∷ codes "alice" ∷ codes "bob" ∷ []) ≡ None
-a_word_more = refl

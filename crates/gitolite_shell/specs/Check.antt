@@ -9,7 +9,7 @@ use Rattle.gitolite_shell.specs.RunningScripts.{WritesPart}
 use Rattle.gitolite_shell.specs.declared.check.ReadAllFault.{ReadAllFault}
 use Rattle.gitolite_shell.specs.declared.check.ReadAllFault.TheVariants as fault
 use Rattle.gitolite_shell.specs.declared.status.Status.{Status}
-use Rattle.gitolite_shell.specs.declared.status.Status.TheVariants.{Done, Usage, InputFault, OutputFault, NoMemory, ConfRefused, BadScript}
+use Rattle.gitolite_shell.specs.declared.status.Status.TheVariants.{Done, Usage, InputFault, OutputFault, NoMemory, DoorFault, ConfRefused, BadScript}
 
 -- the input was read to its end
 pub record ReadsAll (source source' : LinkState) (input : List ℕ) : Type 0 where
@@ -51,6 +51,7 @@ EndsCheck source source' sink sink' InputFault = FailsInput source source' × (s
 EndsCheck source source' sink sink' OutputFault = PrintsPart source source' sink sink' × HasRisen sink.write_faults sink'.write_faults
 EndsCheck source source' sink sink' NoMemory = (LacksInput source source' × (sink' ≡ sink)) ⊎ (PrintsPart source source' sink sink' × IsTrue sink.may_lack)
 EndsCheck source source' sink sink' Usage = ⊥
+EndsCheck source source' sink sink' DoorFault = ⊥
 EndsCheck source source' sink sink' BadScript = ⊥
 
 -- why the input was not read to its end

@@ -1,9 +1,8 @@
-pub mod Perms
-pub mod Info
-pub mod Session
 pub mod Script
 pub mod RunningScripts
 pub mod Status
 pub mod Check
-pub mod Words
+pub mod Serve
+pub mod Command
 pub mod Lone
+pub mod Shell

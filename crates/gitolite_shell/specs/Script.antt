@@ -8,7 +8,7 @@ use Rattle.interaction_tree.specs.Alone.{TurnAlone, turn_alone}
 use Rattle.session_core.specs.declared.end.SessionEnd.{SessionEnd}
 use Rattle.session_core.specs.declared.end.SessionEnd.TheVariants as end
 use Rattle.session_core.specs.Recorded.{Recorded}
-use Rattle.gitolite_shell.specs.Session.{session}
+use Rattle.git_session.specs.Session.{session}
 use Rattle.script_frames.specs.Frames.{frame_text}
 
 -- I. What is printed

@@ -1,9 +1,9 @@
 -- The numbers with which the program ends.
-use Rattle.std.specs.Prelude.{ℕ, Result, Ok, Err}
+use Rattle.std.specs.Prelude.{ℕ, Bool, true, false, Result, Ok, Err}
 use Rattle.gitolite_shell.specs.declared.script.ScriptFault.{ScriptFault}
 use Rattle.gitolite_shell.specs.declared.script.ScriptFault.TheVariants as fault
 use Rattle.gitolite_shell.specs.declared.status.Status.{Status}
-use Rattle.gitolite_shell.specs.declared.status.Status.TheVariants.{Done, Usage, InputFault, OutputFault, NoMemory, ConfRefused, BadScript}
+use Rattle.gitolite_shell.specs.declared.status.Status.TheVariants.{Done, Usage, InputFault, OutputFault, NoMemory, DoorFault, ConfRefused, BadScript}
 
 -- the number with which the program ends
 abbrev pub status_number : Status → ℕ
@@ -12,6 +12,7 @@ status_number Usage = 1
 status_number InputFault = 2
 status_number OutputFault = 3
 status_number NoMemory = 4
+status_number DoorFault = 5
 status_number ConfRefused = 6
 status_number BadScript = 7
 
@@ -22,3 +23,10 @@ status_of (Err fault.BadScript) = BadScript
 status_of (Err fault.InputFault) = InputFault
 status_of (Err fault.OutputFault) = OutputFault
 status_of (Err fault.NoMemory) = NoMemory
+
+-- how the end of `serve` is told: a door's failure comes before want of memory in a session
+abbrev pub served_status : Result (Unit {0}) ScriptFault → Bool → Bool → Status
+served_status (Err why) failed lacked = status_of (Err why)
+served_status (Ok unit) true lacked = DoorFault
+served_status (Ok unit) false true = NoMemory
+served_status (Ok unit) false false = Done

@@ -9,11 +9,11 @@ use std::alloc::Global;
 use std::test::Fail;
 
 // A link over these bytes, of which a call moves seven at most.
-fn link(alloc: Global, input: &[u8]) -> Result<MemoryLink, Fail> {
+pub fn link(alloc: Global, input: &[u8]) -> Result<MemoryLink, Fail> {
     Ok(MemoryLink::new(input.to_vec(alloc)?, 7, Vec::new(alloc), Vec::new(alloc)))
 }
 
-fn words(alloc: Global, given: &[&str]) -> Result<Vec<String>, Fail> {
+pub fn words(alloc: Global, given: &[&str]) -> Result<Vec<String>, Fail> {
     let mut words = Vec::new(alloc);
     for word in given {
         words.push(word.to_string(alloc)?)?;
@@ -35,7 +35,7 @@ fn ends(
     Ok(ended.status == status && sink.written() == output)
 }
 
-const USAGE: &[u8] =
+pub const USAGE: &[u8] =
     b"usage: gitolite_shell script --admin NAME | serve --admin NAME --workers K --sessions N | check | load N START\n";
 
 #[test]

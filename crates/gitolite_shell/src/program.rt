@@ -1,27 +1,90 @@
 // The program.
-ghost use Rattle.std.specs.Prelude.{◌≡◌, map, string_bytes};
-ghost use Rattle.gitolite_shell.specs.Lone.{EndsRun, EndsSurely, IsLegalRun, IsRecordedRun, TellsStatus};
+ghost use Rattle.std.specs.Prelude.{length, map, string_bytes};
+ghost use Rattle.shell_words.specs.Commands.{IsWithinLimits};
+ghost use Rattle.gitolite_shell.specs.Command.{built, command};
+ghost use Rattle.gitolite_shell.specs.Lone.{IsLegalRun, IsRecordedRun, TellsStatus};
+ghost use Rattle.gitolite_shell.specs.Shell.{EndsShell, EndsShellSurely};
 
-use crate::lone::{Ended, lone_main};
-use edge_links::{Door, Post};
+use crate::lone::{Ended, check_alone, refuse, run_alone, unread};
+use crate::serve::run_serve;
+use edge_links::Door;
 use pktline_core::{Link, Sink, Source};
 use session_core::Gate;
+use session_workers::Post;
+use shell_words::{Asked, read_words};
 use std::alloc::Global;
+use std::sync::Wait;
+use std::thread::Threads;
 
-/// Runs the program as the words ask. No command that is built so far takes its sessions through a post.
-pub fn shell_main<I: Source, O: Sink, L: Link + Send, D: Door<L> + Send, G: Gate + Send>(
+// Does what is asked.
+fn run_asked<
+    I: Source,
+    O: Sink,
+    L: Link + Send,
+    D: Door<L> + Send,
+    G: Gate + Send,
+    R: Threads + Wait + Sync,
+>(
+    rt: &R,
+    alloc: Global,
+    asked: Asked,
+    input: &mut I,
+    output: &mut O,
+    posts: &mut [Post<D, G>],
+) -> Ended
+    requires limits { IsWithinLimits asked }
+    ensures ends { EndsShell L.state D.state posts.old posts.new (built (length posts.old) asked) (I.state input.old) (I.state input.new) (O.state output.old) (O.state output.new) result.status result.log }
+    ensures tells { TellsStatus (I.state input.old) (I.state input.new) (O.state output.old) (O.state output.new) result.status }
+    ensures sure { EndsShellSurely L.state D.state posts.old posts.new (built (length posts.old) asked) (I.state input.old) (I.state input.new) (O.state output.old) (O.state output.new) result.status }
+    ensures legal { IsLegalRun (built (length posts.old) asked) result.log }
+{
+    match asked {
+        Asked::Check => check_alone(alloc, input, output),
+        Asked::Script { admin } => run_alone(alloc, &admin, input, output),
+        Asked::Serve {
+            admin,
+            workers,
+            sessions,
+        } => {
+            let workers = workers as usize;
+            if posts.len() < workers {
+                return refuse(alloc, output);
+            }
+            let (used, _) = posts.split_at_mut(workers);
+            run_serve(rt, alloc, output, used, &admin, sessions)
+        }
+        Asked::Load { .. } => refuse(alloc, output),
+    }
+}
+
+/// Runs the program as the words ask. `serve` takes its sessions through the first posts, as many as it has workers; it
+/// is refused where there are fewer.
+pub fn shell_main<
+    I: Source,
+    O: Sink,
+    L: Link + Send,
+    D: Door<L> + Send,
+    G: Gate + Send,
+    R: Threads + Wait + Sync,
+>(
+    rt: &R,
     alloc: Global,
     words: &[String],
     input: &mut I,
     output: &mut O,
-    _posts: &mut Vec<Post<D, G>>,
+    posts: &mut [Post<D, G>],
 ) -> Ended
-    ensures ends { EndsRun (map string_bytes words.now) (I.state input.old) (I.state input.new) (O.state output.old) (O.state output.new) result.status result.log }
+    ensures ends { EndsShell L.state D.state posts.old posts.new (command (length posts.old) (map string_bytes words.now)) (I.state input.old) (I.state input.new) (O.state output.old) (O.state output.new) result.status result.log }
     ensures tells { TellsStatus (I.state input.old) (I.state input.new) (O.state output.old) (O.state output.new) result.status }
-    ensures sure { EndsSurely (map string_bytes words.now) (I.state input.old) (I.state input.new) (O.state output.old) (O.state output.new) result.status }
-    ensures legal { IsLegalRun (map string_bytes words.now) result.log }
-    ensures recorded { IsRecordedRun (map string_bytes words.now) result.log }
-    ensures posts { _posts.new ≡ _posts.old }
+    ensures sure { EndsShellSurely L.state D.state posts.old posts.new (command (length posts.old) (map string_bytes words.now)) (I.state input.old) (I.state input.new) (O.state output.old) (O.state output.new) result.status }
+    ensures legal { IsLegalRun (command (length posts.old) (map string_bytes words.now)) result.log }
+    ensures recorded { IsRecordedRun (command (length posts.old) (map string_bytes words.now)) result.log }
 {
-    lone_main(alloc, words, input, output)
+    // called for their clauses that every legal log records something, and that an admin has a user's name
+    session_core::hold_laws();
+    shell_words::hold_laws();
+    match read_words(alloc, words) {
+        Ok(asked) => run_asked(rt, alloc, asked, input, output, posts),
+        Err(fault) => unread(alloc, fault, output),
+    }
 }

@@ -7,8 +7,8 @@ ghost use Rattle.session_core.specs.End.{halt_of};
 ghost use Rattle.gitolite_shell.specs.Script.{end_word, fault_text, reply_text};
 ghost use Rattle.gitolite_shell.specs.RunningScripts.{AdvancesOne, FindsEnd, LacksSession, RunsScript, Serves, StopsAdvancing, StopsScript, StopsWriting, TellsInput, TellsOutput};
 
-use crate::session::session;
 use base_types::NoMemory;
+use git_session::session;
 use hub::Desk;
 use itoa::Buffer;
 use pktline_core::{MemoryLink, Sink, Source, WriteFault, write_all};

@@ -1,6 +1,6 @@
 // Sessions over a link of memory and the only desk of a new hub.
-use crate::session::session;
 use conf_lex::UserName;
+use git_session::session;
 use hub::{EnterKept, EntryList, Event, Hub, LoneDesk, NoMemory, Outcome};
 use pktline_core::MemoryLink;
 use session_core::{Gate, OpenGate, SessionEnd};
@@ -175,6 +175,18 @@ fn the_gate_stands_behind_an_opening(rt: HostRuntime) -> Result<(), Fail> {
     for (input, due, calls, place) in [
         (denied, SessionEnd::Denied, 0, None),
         (OPENING, SessionEnd::Truncated, 1, Some(1)),
+        (
+            b"0023carol git-upload-pack 'testing'0000",
+            SessionEnd::Served,
+            2,
+            Some(2),
+        ),
+        (
+            b"001acarol perms -l testing",
+            SessionEnd::Served,
+            2,
+            Some(2),
+        ),
     ] {
         let input = input.to_vec(alloc)?;
         let mut link = MemoryLink::new(input, 3, Vec::new(alloc), Vec::new(alloc));

@@ -1,6 +1,6 @@
 // How a run of the program ends.
 ghost use Rattle.std.specs.Prelude.{◌≡◌};
-ghost use Rattle.gitolite_shell.specs.Status.{status_number, status_of};
+ghost use Rattle.gitolite_shell.specs.Status.{served_status, status_number, status_of};
 
 use crate::script::ScriptFault;
 
@@ -15,6 +15,8 @@ pub enum Status {
     /// A write of the output failed.
     OutputFault = 3,
     NoMemory = 4,
+    /// A door failed.
+    DoorFault = 5,
     /// The conf that is checked has no rules: it has a fault.
     ConfRefused = 6,
     /// A frame of the script leaves its form, or the input ends inside it.
@@ -40,5 +42,23 @@ pub fn status_of(end: Result<(), ScriptFault>) -> Status
         Err(ScriptFault::InputFault) => Status::InputFault,
         Err(ScriptFault::OutputFault) => Status::OutputFault,
         Err(ScriptFault::NoMemory) => Status::NoMemory,
+    }
+}
+
+/// How the end of `serve` is told, once its line was printed or not, by whether a door failed and whether memory lacked.
+pub fn served_status(printed: Result<(), ScriptFault>, door_failed: bool, no_memory: bool) -> Status
+    ensures { result ≡ served_status printed door_failed no_memory }
+{
+    match printed {
+        Err(fault) => status_of(Err(fault)),
+        Ok(()) => {
+            if door_failed {
+                return Status::DoorFault;
+            }
+            if no_memory {
+                return Status::NoMemory;
+            }
+            Status::Done
+        }
     }
 }

@@ -1,4 +1,4 @@
-mod ListLemmas
+pub mod ListLemmas
 mod StepLemmas
 mod TurnLemmas
 mod PassLemmas

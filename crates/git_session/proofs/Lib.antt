@@ -1,0 +1,5 @@
+mod OrderLemmas
+mod PermLemmas
+mod InfoLemmas
+mod FetchLemmas
+mod EndLemmas

@@ -1,0 +1,25 @@
+use Rattle.std.proofs.Common.{rules}
+use Rattle.interaction_tree.specs.Interaction.{ends}
+use Rattle.interaction_tree.proofs.RunLemmas.{runs_ends}
+use Rattle.session_core.specs.declared.end.SessionEnd.TheVariants.{Served, NoMemory}
+use Rattle.git_session.specs.Session.{session}
+use Rattle.session_core.proofs.RulebookLemmas.{ends_by, goes_by, memory_by, runs_always}
+use Rattle.git_session.proofs.EndLemmas.{session_keeps}
+use Rattle.git_session.proofs.serving.session.Goals as goal
+
+pub returns-in_default : goal.returns-in_default
+returns-in_default g c =
+    let k = session_keeps _ _ _ _ _ NoMemory c.sound.ensures (memory_by _ _ _) in
+    record { turn = k.turn; tells = search rules; grows = k.grows; sound = k.sound; goes = g.met.K.Desk.stays c.args.desk.now; causes = k.causes; sure = k.sure; later = k.later }
+
+pub returns-in-Ok-serve : goal.returns-in-Ok-serve
+unfolding session
+returns-in-Ok-serve g c =
+    let k = session_keeps _ _ _ _ _ Served c.sound.ensures (goes_by _ _ _ _ _ (λ book u. ends Served) c.serve.result _ _ c.in-Ok-serve.field-0 _ c.in-Ok-serve.is (rw c.in-Ok.ensures.offset at c.serve.ensures.runs) (runs_always _ _ _ _ _ _ (runs_ends _ _ Served))) in
+    record { turn = k.turn; tells = search rules; grows = k.grows; sound = k.sound; goes = c.serve.ensures.goes; causes = k.causes; sure = k.sure; later = k.later }
+
+pub returns : goal.returns
+unfolding session
+returns g c =
+    let k = session_keeps _ _ _ _ _ c.in-Err.end c.sound.ensures (ends_by _ _ _ _ _ (λ book u. ends Served) c.serve.result c.in-Err.end c.in-Err.is (rw c.in-Ok.ensures.offset at c.serve.ensures.runs)) in
+    record { turn = k.turn; tells = search rules; grows = k.grows; sound = k.sound; goes = c.serve.ensures.goes; causes = k.causes; sure = k.sure; later = k.later }

@@ -1,0 +1,3 @@
+pub mod Perms
+pub mod Info
+pub mod Session

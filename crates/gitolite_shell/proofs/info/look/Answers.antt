@@ -1,9 +1,0 @@
-use Rattle.session_core.proofs.RulebookLemmas.{memory_by}
-use Rattle.gitolite_shell.proofs.InfoLemmas.{looked_then}
-use Rattle.gitolite_shell.proofs.info.look.Goals as goal
-
-pub returns-in-Lines-clause-runs : goal.returns-in-Lines-clause-runs
-returns-in-Lines-clause-runs g c = looked_then c.hold_laws.ensures.one _ _ _ _ c.args.user.now c.in-Lines.lines _ c.in-Lines.ensures.answers (c.tell_lines.ensures.runs _)
-
-pub returns-in-NoMemory-clause-runs : goal.returns-in-NoMemory-clause-runs
-returns-in-NoMemory-clause-runs g c = rw c.in-NoMemory.ensures.answers.1 (memory_by _ _ _)

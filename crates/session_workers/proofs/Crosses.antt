@@ -1,0 +1,36 @@
+-- That posts may go from thread to thread, and what their workers share.
+use Rattle.std.proofs.Common.{ℕ, List, [], ◌∷◌}
+use denote.Param.Send.{IsSend, IsSync, recorded_send, recorded_sync, sendable, struct_send, struct_sync}
+use denote.Param.{param}
+use denote.RattleType.{RattleType}
+use denote.Ref.{NamedLft}
+use denote.Struct.Declared.{shape}
+use denote.Struct.Field.{shr_ref_field, u64-field}
+use denote.Struct.Tuple.{TupleAt, type_at}
+use Rattle.std.proofs.Crossing as heap
+use Rattle.std.specs.contracts.alloc.Global as Global
+use Rattle.atomic_table.proofs.shared.Seat.TheSendSync as seat
+use Rattle.shared_hub.specs.contracts.shared.SharedHub as SharedHub
+use Rattle.shared_hub.proofs.Crosses.{kept_send, shared_sync}
+use Rattle.session_workers.specs.contracts.post.Post as Post
+
+pub post_send : (D G : RattleType) → IsSend D → IsSend G → IsSend (Post.the_row D G)
+post_send D G d g =
+    let fields = struct_send (shape (Post.the_type D G)) (
+      search (d, sendable) depth 30,
+      (search (g, sendable) depth 30, (search (kept_send, seat.the_send, sendable) depth 60, (search sendable depth 60, tt))),
+    ) in
+    recorded_send _ _ _ (Post.the_type D G).to_one fields
+
+-- what the workers' closure has taken: references to the runtime, the allocator, the hub and a number
+abbrev pub taken : NamedLft → NamedLft → NamedLft → NamedLft → RattleType → RattleType → List RattleType
+taken a b c d R mark =
+    (shr_ref_field a (param 3 R) tt).row ∷ (shr_ref_field b Global.the_row tt).row ∷ (shr_ref_field c SharedHub.the_row tt).row ∷ (shr_ref_field d (u64-field).row tt).row ∷ mark ∷ []
+
+pub taken_sync : (name : List ℕ) (a b c d : NamedLft) (R mark : RattleType) → IsSync (param 3 R) → IsSync mark → IsSync (TupleAt name (taken a b c d R mark))
+taken_sync name a b c d R mark y m =
+    let fields = struct_sync (shape (type_at name (taken a b c d R mark))) (
+      search (y, sendable) depth 30,
+      (search (heap.crosses, sendable) depth 30, (search (shared_sync, sendable) depth 30, (search sendable depth 30, (search (m, sendable) depth 30, tt)))),
+    ) in
+    recorded_sync _ _ _ (type_at name (taken a b c d R mark)).to_one fields

@@ -1,0 +1,6 @@
+mod Crosses
+mod DoorLemmas
+mod Appended
+mod WorkLemmas
+mod HandLemmas
+mod AllLemmas

@@ -1,0 +1,31 @@
+use Rattle.std.proofs.Common.{refl, ap}
+use Rattle.hub.specs.Desk.{DeskView}
+use Rattle.session_workers.proofs.DoorLemmas.{loses_one, gains_one}
+use Rattle.session_workers.proofs.WorkLemmas.{≤-trans}
+use Rattle.session_workers.proofs.worker.serve_next.Goals as goal
+
+pub returns-in-Link-clause-next : goal.returns-in-Link-clause-next
+returns-in-Link-clause-next g c =
+    let old = g.D.Door.state c.args.door.now in
+    let mid = g.D.Door.state c.next.new.self in
+    let new = g.D.Door.state c.done.new.self in
+    let gives = c.in-Link.ensures.answers in
+    let takes = c.done.ensures.taken in
+    let link = c.in-Link.link in
+    let back = c.session-end.new.link in (
+      record { link = link; back = back; end = c.session-end.result },
+      refl,
+      record {
+        given = loses_one old.left mid.left new.left link gives.given.0 takes.left;
+        back = gains_one old.served mid.served new.served back gives.served takes.served;
+        faults = ≤-trans {a = old.faults} {b = mid.faults} {c = new.faults} gives.faults takes.faults;
+        more = c.session-end.ensures.grows.more;
+        seen = ap (λ (d : DeskView). d.seen) c.session-end.ensures.grows.new_is;
+        session = record {
+          turn = c.session-end.ensures.turn;
+          cause = c.session-end.ensures.causes;
+          tells = c.session-end.ensures.tells;
+          sure = c.session-end.ensures.sure;
+        };
+      },
+    )

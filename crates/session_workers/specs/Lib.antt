@@ -1,0 +1,5 @@
+pub mod Served
+pub mod Visits
+pub mod Passes
+pub mod ServesAll
+pub mod Laws

@@ -1,0 +1,103 @@
+// One worker.
+ghost use Rattle.std.specs.Prelude.{◌≡◌, ◌||◌, [], length};
+ghost use Rattle.turn_lock.specs.Lock.{IsSamePass};
+ghost use Rattle.shared_hub.specs.Kept.{admin_in};
+ghost use Rattle.shared_hub.specs.Shared.{IsHubPass, log_at_new, log_seen};
+ghost use Rattle.session_workers.specs.Visits.{HasWorked, ServesNext, is_lack};
+
+use edge_links::{Door, Next};
+use git_session::session;
+use hub::Desk;
+use pktline_core::Link;
+use session_core::{Gate, SessionEnd};
+use shared_hub::{SharedDesk, SharedHub, SharedPass};
+use std::alloc::Global;
+use std::sync::Wait;
+
+/// How one turn at a door went.
+#[derive(Clone, Copy, Debug)]
+pub enum NextServed {
+    /// A link was served, with this end, and given back.
+    Served(SessionEnd),
+    Closed,
+    Failed,
+}
+
+/// What a worker did.
+#[derive(Clone, Copy, Debug)]
+pub struct Tally {
+    pub sessions: u64,
+    pub door_failed: bool,
+    pub no_memory: bool,
+}
+
+impl Tally {
+    /// Nothing was done as yet.
+    pub const NONE: Tally = Tally {
+        sessions: 0,
+        door_failed: false,
+        no_memory: false,
+    };
+}
+
+// Serves the next link of a door, if there is one, and gives it back.
+fn serve_next<L: Link, K: Desk, D: Door<L>, G: Gate>(
+    alloc: Global,
+    door: &mut D,
+    gate: &mut G,
+    desk: &mut K,
+) -> NextServed
+    ensures next { ServesNext L.state (D.state door.old) (D.state door.new) (K.view desk.old) (K.view desk.new) result }
+    ensures goes { K.goes_on desk.old desk.new }
+{
+    match door.next() {
+        Next::Link(mut link) => {
+            let end = session(alloc, &mut link, desk, gate);
+            door.done(link);
+            NextServed::Served(end)
+        }
+        Next::Closed => NextServed::Closed,
+        Next::Failed => NextServed::Failed,
+    }
+}
+
+// Whether memory has lacked, in a session with this end or before.
+fn lacks(before: bool, end: SessionEnd) -> bool
+    ensures { result ≡ before || is_lack end }
+{
+    before || matches!(end, SessionEnd::NoMemory)
+}
+
+/// Serves the links of a door until so many are served, the door is closed or it failed.
+pub fn work<'a, L: Link, D: Door<L>, G: Gate, R: Wait>(
+    rt: &'a R,
+    alloc: Global,
+    hub: &'a SharedHub,
+    pass: SharedPass,
+    door: &mut D,
+    gate: &mut G,
+    each: u64,
+) -> (SharedPass, Tally)
+    requires of_hub { pass.lock ≡ hub.now }
+    requires hub { IsHubPass pass }
+    requires fresh { pass.since ≡ [] }
+    ensures same_pass { IsSamePass pass result.0 }
+    ensures hub { IsHubPass result.0 }
+    ensures worked { HasWorked L.state (admin_in pass.at_new) pass.caller (length (log_at_new pass)) (log_seen result.0) each (D.state door.old) (D.state door.new) result.1 }
+{
+    let mut desk = SharedDesk::new(rt, hub, pass);
+    let mut tally = Tally::NONE;
+    for sessions in 0..each {
+        tally.sessions = sessions;
+        match serve_next(alloc, door, gate, &mut desk) {
+            NextServed::Served(end) => tally.no_memory = lacks(tally.no_memory, end),
+            NextServed::Closed => return (desk.into_pass(), tally),
+            NextServed::Failed => {
+                tally.door_failed = true;
+                return (desk.into_pass(), tally);
+            }
+        }
+    }
+    tally.sessions = each;
+    (desk.into_pass(), tally)
+}

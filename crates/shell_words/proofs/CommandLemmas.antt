@@ -1,0 +1,19 @@
+-- What further words make of a command.
+use Rattle.std.proofs.Common.{◌≡◌, ◌<◌, ℕ, List, [], ◌∷◌, length, refl, arith}
+use Rattle.std.specs.Prelude.{None}
+use Rattle.shell_words.specs.Options.{Given}
+use Rattle.shell_words.specs.Commands.{script_with, serve_of_three}
+use Rattle.shell_words.specs.declared.options.Flag.{Flag}
+use Rattle.shell_words.specs.declared.options.Flag.TheVariants.{Admin, Workers, Sessions}
+
+-- words behind the option of `script`
+pub script_with-more : (flag : Flag) (value : List ℕ) (rest : List (List ℕ)) → 0 < length rest → script_with flag value rest ≡ None
+script_with-more Admin value [] more = absurd (omega arith)
+script_with-more Admin value (word ∷ rest) more = refl
+script_with-more Workers value rest more = refl
+script_with-more Sessions value rest more = refl
+
+-- words behind the third option of `serve`
+pub serve_of_three-more : (a b c : Given) (rest : List (List ℕ)) → 0 < length rest → serve_of_three a b c rest ≡ None
+serve_of_three-more a b c [] more = absurd (omega arith)
+serve_of_three-more a b c (word ∷ rest) more = refl

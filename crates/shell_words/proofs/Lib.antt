@@ -1,0 +1,4 @@
+pub mod NumberLemmas
+mod CommandLemmas
+mod SpellingLemmas
+mod ReadingLemmas

@@ -1,0 +1,5 @@
+pub mod Numbers
+pub mod Options
+pub mod Given
+pub mod Commands
+pub mod Spelling

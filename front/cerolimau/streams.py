@@ -1,0 +1,86 @@
+"""Reading from file descriptors with a limit on the wait, and keeping bytes aside."""
+import io
+import os
+import signal
+
+IN_MEMORY = 4 << 20
+BUFFER = 1 << 16
+idle_seconds = 0  # that a read may wait; 0 for ever
+
+
+class Refused(Exception):
+    """Why a session ends, in one line for the person at the keyboard."""
+
+
+class Cut(Exception):
+    """The bytes end inside of what is wanted."""
+
+
+def limit_waiting(seconds):
+    """From here on, so many seconds without a byte from either end raise Refused in the main thread."""
+    global idle_seconds
+    idle_seconds = seconds
+
+    def give_up(_signal, _frame):
+        raise Refused("nothing came for %d seconds" % seconds)
+
+    signal.signal(signal.SIGALRM, give_up)
+
+
+class _Descriptor(io.RawIOBase):
+    def __init__(self, number):
+        super().__init__()
+        self.number = number
+
+    def readable(self):
+        return True
+
+    def readinto(self, room):
+        signal.alarm(idle_seconds)
+        try:
+            return os.readv(self.number, [room])
+        except ConnectionResetError:
+            return 0
+
+
+def reader(number):
+    """A buffered reader of a file descriptor. A connection that is reset ends."""
+    return io.BufferedReader(_Descriptor(number), BUFFER)
+
+
+def read_exactly(source, count):
+    data = source.read(count)
+    if len(data) < count:
+        raise Cut
+    return data
+
+
+class Spool:
+    """Bytes that are kept aside and read by their places: in memory while they are few, else in a file without a name."""
+
+    def __init__(self):
+        self.size = 0
+        self._memory = bytearray()
+        self._file = None
+
+    def add(self, data):
+        if self._file is None and self.size + len(data) > IN_MEMORY:
+            self._move_to_file()
+        if self._file is None:
+            self._memory += data
+        else:
+            self._file.write(data)
+        self.size += len(data)
+
+    def read(self, place, count):
+        if self._file is None:
+            return bytes(self._memory[place:place + count])
+        self._file.flush()
+        return os.pread(self._file.fileno(), count, place)
+
+    def _move_to_file(self):
+        import tempfile  # its import would cost every small push more than the rest of it
+
+        self._file = tempfile.TemporaryFile(buffering=BUFFER, dir="/var/tmp")  # /tmp may be memory
+        self._file.write(self._memory)
+        self._memory = None
