@@ -78,3 +78,10 @@ usage_stopped sink sink' fault.BadScript stops = absurd stops
 usage_stopped sink sink' fault.InputFault stops = absurd stops
 usage_stopped sink sink' fault.OutputFault stops = stops
 usage_stopped sink sink' fault.NoMemory stops = (stops.0, inr stops.1)
+
+-- and memory lacked only at a sink that may lack it
+pub usage_lacks : (sink sink' : LinkState) (f : ScriptFault) → StopsWriting sink sink' usage_line f → status_number (status_of (Err f)) ≡ 4 → IsTrue sink.may_lack
+usage_lacks sink sink' fault.BadScript stops four = absurd stops
+usage_lacks sink sink' fault.InputFault stops four = absurd stops
+usage_lacks sink sink' fault.OutputFault stops four = absurd (omega arith)
+usage_lacks sink sink' fault.NoMemory stops four = stops.1

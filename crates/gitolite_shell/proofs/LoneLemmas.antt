@@ -1,6 +1,6 @@
 -- How a command that was run ends the program.
 use Rattle.std.proofs.Common.{◌≡◌, List, ℕ, zero, suc, nat_le, Bool, Option, [], refl, sym, ◌∙◌, ap, subst, true, false, inl, inr, arith}
-use Rattle.std.specs.Prelude.{Result, Ok, Err, Some, None, OnOk, IfErr, IfSome, if◌then◌else◌, option_and_then}
+use Rattle.std.specs.Prelude.{IsTrue, Result, Ok, Err, Some, None, OnOk, IfErr, IfSome, if◌then◌else◌, option_and_then}
 use Rattle.std.proofs.KnownBytes.{Appends-nil, Consumes-nil}
 use Rattle.base_types.specs.Counts.{HasRisen}
 use Rattle.pktline_core.specs.LinkState.{LinkState}
@@ -19,7 +19,7 @@ use Rattle.shell_words.specs.Spelling.{ReadIsSpelled}
 use Rattle.gitolite_shell.specs.Command.{admin_of, built, command, served_at, usage_line}
 use Rattle.gitolite_shell.specs.Script.{sessions}
 use Rattle.gitolite_shell.specs.RunningScripts.{RunsScript, StopsScript}
-use Rattle.gitolite_shell.specs.Lone.{EndsBy, EndsRun, EndsScript, EndsSurely, EndsUnread, EndsUsage, IsDue, new_desk}
+use Rattle.gitolite_shell.specs.Lone.{EndsBy, EndsRun, EndsScript, EndsSurely, EndsUnread, EndsUsage, IsDue, RefusesSurely, new_desk}
 use Rattle.gitolite_shell.specs.Status.{status_number, status_of}
 use Rattle.gitolite_shell.specs.declared.script.ScriptFault.{ScriptFault}
 use Rattle.gitolite_shell.specs.declared.script.ScriptFault.TheVariants as fault
@@ -147,3 +147,10 @@ admin_named read posts words = go (asked words) refl where
 pub recorded_script : LegalLogsAreRecorded → (found : Option Name) → IfSome found (λ a. is_user_name a ≡ true) → (log : List Entry) → IfSome found (λ a. IsLegal a log) → IfSome found (λ a. (recorded : Recorded) × IsRecorded a log recorded)
 recorded_script laws None name log legal = tt
 recorded_script laws (Some admin) name log legal = laws admin log name legal
+
+-- words that aren't read and are no command at all
+pub refuses_unread : (sink : LinkState) (number : ℕ) (asked : Option Asked) (why : WordsFault) → Reads asked (Err why) → (why ≡ words.Usage → number ≡ 4 → IsTrue sink.may_lack) → RefusesSurely asked sink number
+refuses_unread sink number None words.Usage none lacks = lacks refl
+refuses_unread sink number (Some command) words.Usage none lacks = tt
+refuses_unread sink number None words.NoMemory some lacks = absurd (let gone : false ≡ true = some in cc)
+refuses_unread sink number (Some command) words.NoMemory some lacks = tt

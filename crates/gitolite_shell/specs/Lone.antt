@@ -1,5 +1,5 @@
 -- How a run of the program ends.
-use Rattle.std.specs.Prelude.{◌≡◌, ◌⊎◌, ℕ, true, false, List, [], Option, Some, None, IfSome}
+use Rattle.std.specs.Prelude.{◌≡◌, ◌⊎◌, ⊤, ℕ, true, false, IsTrue, List, [], Option, Some, None, IfSome}
 use Rattle.std.specs.Io.KnownBytes.{Appends}
 use Rattle.base_types.specs.Counts.{HasRisen}
 use Rattle.pktline_core.specs.LinkState.{LinkState}
@@ -35,6 +35,11 @@ EndsUsage sink sink' other = ⊥
 abbrev pub EndsUnread : WordsFault → LinkState → LinkState → ℕ → Type 0
 EndsUnread words.Usage sink sink' number = (why : Status) × (number ≡ status_number why) × EndsUsage sink sink' why
 EndsUnread words.NoMemory sink sink' number = (number ≡ 4) × (sink' ≡ sink)
+
+-- Words that are no command at all end with 4 only where the output may lack memory.
+abbrev pub RefusesSurely : Option Asked → LinkState → ℕ → Type 0
+RefusesSurely None sink number = number ≡ 4 → IsTrue sink.may_lack
+RefusesSurely (Some command) sink number = ⊤
 
 -- What holds where a script at a new hub of this admin ended with this status; it ends with no other. Memory may run out before anything is read.
 abbrev pub EndsScript : Name → LinkState → LinkState → LinkState → LinkState → List Entry → Status → Type 0

@@ -1,9 +1,10 @@
 // The program, run by one caller.
-ghost use Rattle.std.specs.Prelude.{◌≡◌, ◌⊎◌, [], IfOk, Some, map, string_bytes};
+ghost use Rattle.std.specs.Prelude.{◌≡◌, ◌⊎◌, [], IfOk, IsTrue, Some, map, string_bytes};
 ghost use Rattle.hub.specs.LoneDesk.{desk_of};
 ghost use Rattle.shell_words.specs.declared.commands.Asked.TheVariants.{Script, Check};
+ghost use Rattle.shell_words.specs.Commands.{asked};
 ghost use Rattle.gitolite_shell.specs.Command.{built, command};
-ghost use Rattle.gitolite_shell.specs.Lone.{EndsRun, EndsSurely, EndsUnread, EndsUsage, IsLegalRun, IsRecordedRun, TellsStatus, new_desk};
+ghost use Rattle.gitolite_shell.specs.Lone.{RefusesSurely, EndsRun, EndsSurely, EndsUnread, EndsUsage, IsLegalRun, IsRecordedRun, TellsStatus, new_desk};
 ghost use Rattle.gitolite_shell.specs.Status.{status_number};
 ghost use Rattle.gitolite_shell.specs.declared.status.Status.{Status};
 ghost use Rattle.hub_history.specs.History.{IsLegal};
@@ -49,6 +50,7 @@ fn new_desk(alloc: Global, admin: &UserName) -> Result<LoneDesk, NoMemory>
 fn print_usage<O: Sink>(output: &mut O) -> Status
     ensures ends { EndsUsage (O.state output.old) (O.state output.new) result }
     ensures tells { (status_number result ≡ 3) ⊎ ((O.state output.new).write_faults ≡ (O.state output.old).write_faults) }
+    ensures lacks { status_number result ≡ 4 → IsTrue (O.state output.old).may_lack }
 {
     match write_text(output, USAGE.as_bytes()) {
         Ok(()) => Status::Usage,
@@ -60,6 +62,7 @@ fn print_usage<O: Sink>(output: &mut O) -> Status
 pub fn refuse<O: Sink>(alloc: Global, output: &mut O) -> Ended
     ensures ends { (why : Status) × (result.status ≡ status_number why) × EndsUsage (O.state output.old) (O.state output.new) why }
     ensures tells { (result.status ≡ 3) ⊎ ((O.state output.new).write_faults ≡ (O.state output.old).write_faults) }
+    ensures lacks { result.status ≡ 4 → IsTrue (O.state output.old).may_lack }
     ensures log { result.log ≡ [] }
 {
     let status = print_usage(output);
@@ -70,6 +73,7 @@ pub fn refuse<O: Sink>(alloc: Global, output: &mut O) -> Ended
 pub fn unread<O: Sink>(alloc: Global, fault: WordsFault, output: &mut O) -> Ended
     ensures ends { EndsUnread fault (O.state output.old) (O.state output.new) result.status }
     ensures tells { (result.status ≡ 3) ⊎ ((O.state output.new).write_faults ≡ (O.state output.old).write_faults) }
+    ensures lacks { fault ≡ WordsFault.Usage → result.status ≡ 4 → IsTrue (O.state output.old).may_lack }
     ensures log { result.log ≡ [] }
 {
     match fault {
@@ -142,6 +146,7 @@ pub fn lone_main<I: Source, O: Sink>(
     ensures tells { TellsStatus (I.state input.old) (I.state input.new) (O.state output.old) (O.state output.new) result.status }
     ensures sure { EndsSurely (command 0 (map string_bytes words.now)) (I.state input.old) (I.state input.new) (O.state output.old) (O.state output.new) result.status }
     ensures legal { IsLegalRun (command 0 (map string_bytes words.now)) result.log }
+    ensures refuses { RefusesSurely (asked (map string_bytes words.now)) (O.state output.old) result.status }
     ensures recorded { IsRecordedRun (command 0 (map string_bytes words.now)) result.log }
 {
     // called for their clauses that every legal log records something, and that an admin has a user's name

@@ -1,8 +1,8 @@
 // The program.
 ghost use Rattle.std.specs.Prelude.{length, map, string_bytes};
-ghost use Rattle.shell_words.specs.Commands.{IsWithinLimits};
+ghost use Rattle.shell_words.specs.Commands.{IsWithinLimits, asked};
 ghost use Rattle.gitolite_shell.specs.Command.{built, command};
-ghost use Rattle.gitolite_shell.specs.Lone.{IsLegalRun, IsRecordedRun, TellsStatus};
+ghost use Rattle.gitolite_shell.specs.Lone.{IsLegalRun, IsRecordedRun, RefusesSurely, TellsStatus};
 ghost use Rattle.gitolite_shell.specs.Shell.{EndsShell, EndsShellSurely};
 
 use crate::lone::{Ended, check_alone, refuse, run_alone, unread};
@@ -78,6 +78,7 @@ pub fn shell_main<
     ensures tells { TellsStatus (I.state input.old) (I.state input.new) (O.state output.old) (O.state output.new) result.status }
     ensures sure { EndsShellSurely L.state D.state posts.old posts.new (command (length posts.old) (map string_bytes words.now)) (I.state input.old) (I.state input.new) (O.state output.old) (O.state output.new) result.status }
     ensures legal { IsLegalRun (command (length posts.old) (map string_bytes words.now)) result.log }
+    ensures refuses { RefusesSurely (asked (map string_bytes words.now)) (O.state output.old) result.status }
     ensures recorded { IsRecordedRun (command (length posts.old) (map string_bytes words.now)) result.log }
 {
     // called for their clauses that every legal log records something, and that an admin has a user's name

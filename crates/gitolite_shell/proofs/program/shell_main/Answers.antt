@@ -3,9 +3,9 @@ use Rattle.std.specs.Prelude.{option_and_then}
 use Rattle.shell_words.specs.declared.commands.Asked.{Asked}
 use Rattle.shell_words.specs.Commands.{asked}
 use Rattle.gitolite_shell.specs.Command.{admin_of, built, command}
-use Rattle.gitolite_shell.specs.Lone.{IsLegalRun}
+use Rattle.gitolite_shell.specs.Lone.{IsLegalRun, RefusesSurely}
 use Rattle.gitolite_shell.specs.Shell.{EndsShell, EndsShellSurely}
-use Rattle.gitolite_shell.proofs.LoneLemmas.{admin_named, legal_none, recorded_script}
+use Rattle.gitolite_shell.proofs.LoneLemmas.{admin_named, legal_none, recorded_script, refuses_unread}
 use Rattle.gitolite_shell.proofs.ShellLemmas.{shell_unread, shell_unread_surely}
 use Rattle.gitolite_shell.proofs.program.shell_main.Goals as goal
 
@@ -43,3 +43,10 @@ returns-in-Err-clause-legal g c = legal_none (admin_of (command (length c.args.p
 
 pub returns-in-Err-clause-recorded : goal.returns-in-Err-clause-recorded
 returns-in-Err-clause-recorded g c = recorded_script c.hold_laws.ensures.recorded _ (admin_named c.hold_laws-2.ensures.read (length c.args.posts.now) (map string_bytes c.args.words.now)) _ (returns-in-Err-clause-legal g c)
+
+pub returns-in-Ok-clause-refuses : goal.returns-in-Ok-clause-refuses
+returns-in-Ok-clause-refuses g c = subst (λ (o : Option Asked). RefusesSurely o (g.O.Endpoint.state c.args.output.now) c.run_asked.result.status) (sym c.in-Ok.ensures.reads) tt
+
+pub returns-in-Err-clause-refuses : goal.returns-in-Err-clause-refuses
+returns-in-Err-clause-refuses g c =
+    refuses_unread (g.O.Endpoint.state c.args.output.now) c.unread.result.status (asked (map string_bytes c.args.words.now)) c.in-Err.fault c.in-Err.ensures.reads c.unread.ensures.lacks
