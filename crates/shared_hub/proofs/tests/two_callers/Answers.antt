@@ -8,7 +8,7 @@ pub close-requires-clause-all : goal.close-requires-clause-all
 close-requires-clause-all g c =
     let first = c.in_ok-shared.ensures.first in
     let second = c.in_ok-second.ensures in
-    let told = c.open_and_push_both-one.ensures in
+    let told = c.in_steps-one.ensures in
     let zero = told.one.0.numbers ∙ (ap (λ (p : PassState KeptEntry). p.numbers) second.counted ∙ ap (λ (p : PassState KeptEntry). p.numbers) first) in
     let next = told.other.0.numbers ∙ (ap (λ (p : PassState KeptEntry). p.numbers) second.next ∙ ap (λ (p : PassState KeptEntry). p.passes ∷ []) first) in
     let numbers : c.join.new.into.numbers ≡ 0 ∷ 1 ∷ [] = ap (λ (p : PassState KeptEntry). p.numbers) c.join.ensures.joined ∙ (λ i. zero i ++ next i) in
