@@ -4,3 +4,4 @@ mod ScriptRows
 mod CheckLemmas
 mod ServeLemmas
 mod ShellLemmas
+mod LoadLemmas

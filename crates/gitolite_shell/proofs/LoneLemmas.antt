@@ -18,6 +18,7 @@ use Rattle.shell_words.specs.declared.commands.WordsFault.TheVariants as words
 use Rattle.shell_words.specs.Spelling.{ReadIsSpelled}
 use Rattle.gitolite_shell.specs.Command.{admin_of, built, command, served_at, usage_line}
 use Rattle.gitolite_shell.specs.Script.{sessions}
+use Rattle.gitolite_shell.specs.Load.{EndsLoad, log_behind}
 use Rattle.gitolite_shell.specs.RunningScripts.{RunsScript, StopsScript}
 use Rattle.gitolite_shell.specs.Lone.{EndsBy, EndsRun, EndsScript, EndsSurely, EndsUnread, EndsUsage, IsDue, RefusesSurely, new_desk}
 use Rattle.gitolite_shell.specs.Status.{status_number, status_of}
@@ -76,7 +77,14 @@ module _ (source source' sink sink' : LinkState) (log : List Entry) where
   due_by (Some (Script admin)) ConfRefused ends reads writes = absurd ends
   due_by (Some (Script admin)) DoorFault ends reads writes = absurd ends
   due_by (Some (Serve admin workers sessions)) status ends reads writes = absurd ends
-  due_by (Some (Load count start)) status ends reads writes = absurd ends
+  due_by (Some (Load count start)) Done ends reads writes = inl refl
+  due_by (Some (Load count start)) NoMemory ends reads writes = inr refl
+  due_by (Some (Load count start)) OutputFault ends reads writes = absurd (writes ends.0.2)
+  due_by (Some (Load count start)) Usage ends reads writes = absurd ends.0
+  due_by (Some (Load count start)) InputFault ends reads writes = absurd ends.0
+  due_by (Some (Load count start)) ConfRefused ends reads writes = absurd ends.0
+  due_by (Some (Load count start)) BadScript ends reads writes = absurd ends.0
+  due_by (Some (Load count start)) DoorFault ends reads writes = absurd ends.0
   due_by None Usage ends reads writes = inl refl
   due_by None NoMemory ends reads writes = inr refl
   due_by None OutputFault ends reads writes = absurd (writes ends.0.1)
@@ -93,6 +101,10 @@ module _ (source source' sink sink' : LinkState) (log : List Entry) where
   pub refused_run : (number : ℕ) → ((why : Status) × (number ≡ status_number why) × EndsUsage sink sink' why) → source' ≡ source → log ≡ [] → EndsRun None source source' sink sink' number log
   refused_run number ends read none = record { status = ends.0; number_is = ends.1; ends = (ends.2, read, none) }
 
+-- the sessions of a generated installation
+pub loaded_run : (source sink sink' : LinkState) (log : List Entry) (number count start : ℕ) → ((why : Status) × (number ≡ status_number why) × EndsLoad count start sink sink' log why) → EndsRun (Some (Load count start)) source source sink sink' number log
+loaded_run source sink sink' log number count start ends = record { status = ends.0; number_is = ends.1; ends = (ends.2, refl) }
+
 -- memory ran out before the words were read
 no_usage : (source sink : LinkState) → EndsBy None source source sink sink [] NoMemory
 no_usage source sink = ((record { bytes = []; short = (usage_line, refl, omega arith); written = Appends-nil sink.written }, inl refl), refl, refl)
@@ -102,7 +114,7 @@ nothing_done source sink None = no_usage source sink
 nothing_done source sink (Some (Script admin)) = undone source sink admin
 nothing_done source sink (Some (Serve admin workers sessions)) = no_usage source sink
 nothing_done source sink (Some Check) = (inl (record { part = []; takes = record { consumed = Consumes-nil source.left; counted = omega arith } }, refl), refl)
-nothing_done source sink (Some (Load count start)) = no_usage source sink
+nothing_done source sink (Some (Load count start)) = (inl (λ recorded of. (log_behind recorded count start count, refl), refl), refl)
 
 -- the words weren't read as a command
 pub unread_run : (source sink sink' : LinkState) (number : ℕ) (log : List Entry) (asked : Option Asked) (why : WordsFault) → Reads asked (Err why) → EndsUnread why sink sink' number → log ≡ []
@@ -141,7 +153,7 @@ admin_named read posts words = go (asked words) refl where
   go (Some (Script admin)) is = (read (Script admin) words is).0
   go (Some (Serve admin workers sessions)) is = served posts admin workers sessions (read (Serve admin workers sessions) words is).0.0
   go (Some Check) is = tt
-  go (Some (Load count start)) is = tt
+  go (Some (Load count start)) is = refl
 
 -- what is recorded by a legal log
 pub recorded_script : LegalLogsAreRecorded → (found : Option Name) → IfSome found (λ a. is_user_name a ≡ true) → (log : List Entry) → IfSome found (λ a. IsLegal a log) → IfSome found (λ a. (recorded : Recorded) × IsRecorded a log recorded)

@@ -116,11 +116,11 @@ if_err P (Err e) p = p
 -- II. Sessions one after the other
 
 -- a session, and sessions, go on from the log before them
-served_grows : (recorded : Recorded) (admin : Name) (body : List ℕ) (log : List Entry) → Begins log (served_alone recorded admin body log).log
+pub served_grows : (recorded : Recorded) (admin : Name) (body : List ℕ) (log : List Entry) → Begins log (served_alone recorded admin body log).log
 unfolding served_alone
 served_grows recorded admin body log = alone_grows recorded.answers (session recorded.book admin) body log
 
-grows_more : (a b c : List Entry) → Begins a b → Begins b c → Begins a c
+pub grows_more : (a b c : List Entry) → Begins a b → Begins b c → Begins a c
 grows_more a b c p q = (p.0 ++ q.0, q.1 ∙ ap (λ (l : List Entry). l ++ q.0) p.1 ∙ append_assoc a p.0 q.0)
 
 sessions_grow : (recorded : Recorded) (admin : Name) (number : ℕ) (bodies : List (List ℕ)) (log : List Entry) → Begins log (sessions recorded admin number bodies log).log
@@ -134,7 +134,7 @@ sessions_grow recorded admin number (body ∷ bodies) log =
 before_sessions : (recorded : Recorded) (admin : Name) (number : ℕ) (bodies : List (List ℕ)) (log log' : List Entry) → log' ≡ (sessions recorded admin number bodies log).log → IsRecorded admin log' recorded → IsRecorded admin log recorded
 before_sessions recorded admin number bodies log log' is of = recorded_before admin log log' recorded (subst (Begins log) (sym is) (sessions_grow recorded admin number bodies log)) of
 
-before_served : (recorded : Recorded) (admin : Name) (body : List ℕ) (log log' : List Entry) → log' ≡ (served_alone recorded admin body log).log → IsRecorded admin log' recorded → IsRecorded admin log recorded
+pub before_served : (recorded : Recorded) (admin : Name) (body : List ℕ) (log log' : List Entry) → log' ≡ (served_alone recorded admin body log).log → IsRecorded admin log' recorded → IsRecorded admin log recorded
 before_served recorded admin body log log' is of = recorded_before admin log log' recorded (subst (Begins log) (sym is) (served_grows recorded admin body log)) of
 
 module _ (recorded : Recorded) where

@@ -46,6 +46,9 @@ module _ {L D G : Type 0} (state : L → LinkState) (door : D → DoorState L) (
   pub shell_runs : (posts : List (Post D G)) (admin : Name) → EndsRun (Some (Script admin)) source source' sink sink' number log → EndsShell state door posts posts (Some (Script admin)) source source' sink sink' number log
   shell_runs posts admin run = record { status = run.status; number_is = run.number_is; ends = (run.ends, refl) }
 
+  pub shell_loads : (posts : List (Post D G)) (count start : ℕ) → EndsRun (Some (Load count start)) source source' sink sink' number log → EndsShell state door posts posts (Some (Load count start)) source source' sink sink' number log
+  shell_loads posts count start run = record { status = run.status; number_is = run.number_is; ends = (run.ends, refl) }
+
   pub shell_refuses : (posts : List (Post D G)) → EndsRun None source source' sink sink' number log → EndsShell state door posts posts None source source' sink sink' number log
   shell_refuses posts run = record { status = run.status; number_is = run.number_is; ends = (run.ends, refl) }
 
@@ -83,7 +86,7 @@ pub shell_does_nothing : {L D G : Type 0} (state : L → LinkState) (door : D �
 shell_does_nothing {L} {D} {G} state door posts source sink None = (nothing_done source sink None, refl)
 shell_does_nothing {L} {D} {G} state door posts source sink (Some (Script admin)) = (nothing_done source sink (Some (Script admin)), refl)
 shell_does_nothing {L} {D} {G} state door posts source sink (Some Check) = (nothing_done source sink (Some Check), refl)
-shell_does_nothing {L} {D} {G} state door posts source sink (Some (Load count start)) = (nothing_done source sink None, refl)
+shell_does_nothing {L} {D} {G} state door posts source sink (Some (Load count start)) = (nothing_done source sink (Some (Load count start)), refl)
 shell_does_nothing {L} {D} {G} state door posts source sink (Some (Serve admin workers each)) = go (length posts) where
   none : (xs : List (Post D G)) → ServesNone state door admin each xs xs sink sink []
   none xs = record { unasked = λ k d. refl; unprinted = refl; no_log = refl }

@@ -1,4 +1,6 @@
 pub mod Script
+pub mod Load
+pub mod RunningLoads
 pub mod RunningScripts
 pub mod Status
 pub mod Check

@@ -15,6 +15,7 @@ use Rattle.shell_words.specs.declared.commands.Asked.TheVariants.{Script, Serve,
 use Rattle.gitolite_shell.specs.Command.{admin_of, usage_line}
 use Rattle.gitolite_shell.specs.RunningScripts.{MayLackAfter, RunsScript, StopsAtRead, StopsAtWrite, StopsForMemory, WritesPart}
 use Rattle.gitolite_shell.specs.Check.{EndsCheck}
+use Rattle.gitolite_shell.specs.Load.{EndsLoad}
 use Rattle.gitolite_shell.specs.Status.{status_number}
 use Rattle.gitolite_shell.specs.declared.status.Status.{Status}
 use Rattle.gitolite_shell.specs.declared.status.Status.TheVariants.{Done, Usage, InputFault, OutputFault, NoMemory, BadScript}
@@ -50,13 +51,13 @@ EndsScript admin source source' sink sink' log OutputFault = StopsAtWrite source
 EndsScript admin source source' sink sink' log NoMemory = StopsForMemory source source' sink sink' admin [] log
 EndsScript admin source source' sink sink' log other = ⊥
 
--- The command decides: a check, which logs nothing; a script; or none, and then the words are refused, and nothing is read or logged. One caller alone does
--- no other.
+-- The command decides: a check, which logs nothing; a script; the sessions of a generated installation, which reads nothing; or none, and then the words are
+-- refused, and nothing is read or logged. One caller alone does no other.
 abbrev pub EndsBy : Option Asked → LinkState → LinkState → LinkState → LinkState → List Entry → Status → Type 0
 EndsBy (Some Check) source source' sink sink' log status = EndsCheck source source' sink sink' status × (log ≡ [])
 EndsBy (Some (Script admin)) source source' sink sink' log status = EndsScript admin source source' sink sink' log status
 EndsBy (Some (Serve admin workers sessions)) source source' sink sink' log status = ⊥
-EndsBy (Some (Load count start)) source source' sink sink' log status = ⊥
+EndsBy (Some (Load count start)) source source' sink sink' log status = EndsLoad count start sink sink' log status × (source' ≡ source)
 EndsBy None source source' sink sink' log status = EndsUsage sink sink' status × (source' ≡ source) × (log ≡ [])
 
 -- A run of this command ended with this number and this log.
@@ -65,12 +66,12 @@ pub record EndsRun (found : Option Asked) (source source' sink sink' : LinkState
   pub number_is : number ≡ status_number status
   pub ends : EndsBy found source source' sink sink' log status
 
--- unless memory runs out, a check ends with 0 or 6, a script with 0 or 7, `serve` with 0, and refused words with 1
+-- unless memory runs out, a check ends with 0 or 6, a script with 0 or 7, `serve` and `load` with 0, and refused words with 1
 abbrev pub IsDue : Option Asked → ℕ → Type 0
 IsDue (Some Check) number = (number ≡ 0) ⊎ (number ≡ 6) ⊎ (number ≡ 4)
 IsDue (Some (Script admin)) number = (number ≡ 0) ⊎ (number ≡ 7) ⊎ (number ≡ 4)
 IsDue (Some (Serve admin workers sessions)) number = (number ≡ 0) ⊎ (number ≡ 4)
-IsDue (Some (Load count start)) number = ⊥
+IsDue (Some (Load count start)) number = (number ≡ 0) ⊎ (number ≡ 4)
 IsDue None number = (number ≡ 1) ⊎ (number ≡ 4)
 
 -- that is so where no fault is counted

@@ -1,6 +1,7 @@
 // The program, run by one caller.
 ghost use Rattle.std.specs.Prelude.{◌≡◌, ◌⊎◌, [], IfOk, IsTrue, Some, map, string_bytes};
 ghost use Rattle.hub.specs.LoneDesk.{desk_of};
+ghost use Rattle.shell_words.specs.Commands.{IsWithinLimits};
 ghost use Rattle.shell_words.specs.declared.commands.Asked.TheVariants.{Script, Check};
 ghost use Rattle.shell_words.specs.Commands.{asked};
 ghost use Rattle.gitolite_shell.specs.Command.{built, command};
@@ -10,6 +11,7 @@ ghost use Rattle.gitolite_shell.specs.declared.status.Status.{Status};
 ghost use Rattle.hub_history.specs.History.{IsLegal};
 
 use crate::check::run_check;
+use crate::load::run_load;
 use crate::script::{run_script, write_text};
 use crate::status::{Status, status_of};
 use base_types::NoMemory;
@@ -121,6 +123,7 @@ fn run_asked<I: Source, O: Sink>(
     input: &mut I,
     output: &mut O,
 ) -> Ended
+    requires { IsWithinLimits asked }
     ensures ends { EndsRun (built 0 asked) (I.state input.old) (I.state input.new) (O.state output.old) (O.state output.new) result.status result.log }
     ensures tells { TellsStatus (I.state input.old) (I.state input.new) (O.state output.old) (O.state output.new) result.status }
     ensures sure { EndsSurely (built 0 asked) (I.state input.old) (I.state input.new) (O.state output.old) (O.state output.new) result.status }
@@ -130,11 +133,12 @@ fn run_asked<I: Source, O: Sink>(
         Asked::Check => check_alone(alloc, input, output),
         Asked::Script { admin } => run_alone(alloc, &admin, input, output),
         Asked::Serve { .. } => refuse(alloc, output),
-        Asked::Load { .. } => refuse(alloc, output),
+        Asked::Load { count, start } => run_load(alloc, count, start, output),
     }
 }
 
-/// Runs the program as the words ask, with one caller: prints the usage, checks a conf, or runs a script at a new hub.
+/// Runs the program as the words ask, with one caller: prints the usage, checks a conf, or runs at a new hub a script or
+/// the sessions of a generated installation.
 /// `serve` is refused, since it wants posts.
 pub fn lone_main<I: Source, O: Sink>(
     alloc: Global,

@@ -22,7 +22,7 @@ pub fn words(alloc: Global, given: &[&str]) -> Result<Vec<String>, Fail> {
 }
 
 // Whether the program ends with this status and this output.
-fn ends(
+pub fn ends(
     alloc: Global,
     given: &[&str],
     input: &[u8],

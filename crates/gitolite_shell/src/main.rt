@@ -1,13 +1,15 @@
-//! The program: sessions from a script or from connections, and confs that are checked.
+//! The program: sessions from a script, from connections or generated, and confs that are checked.
 //!
 //! - `script`: sessions one after the other, and what is printed of them;
 //! - `serve`: workers at their posts, and what is printed behind them;
 //! - `check`: a conf, and what is printed of it;
+//! - `load`, `tally`: the sessions of a generated installation, and what they came to in numbers;
 //! - `status`: how a run of the program ends;
 //! - `lone`, `program`: the program run by one caller, and the program.
 //!
 //! A session is of the crate `git_session`, workers of `session_workers`, the frames of a script of `script_frames`, the
-//! words by which the program is called of `shell_words`, and the edges of `edge_links`.
+//! words by which the program is called of `shell_words`, a generated installation of `installation`, and the edges of
+//! `edge_links`.
 #![tactic(auto)]
 
 mod check;
@@ -15,6 +17,9 @@ mod check;
 mod check_tests;
 #[cfg(test)]
 mod fetch_tests;
+mod load;
+#[cfg(test)]
+mod load_tests;
 mod lone;
 #[cfg(test)]
 mod lone_tests;
@@ -28,6 +33,7 @@ mod serve_tests;
 #[cfg(test)]
 mod session_tests;
 mod status;
+mod tally;
 
 use base_types::NoMemory;
 use edge_links::{StdSink, StdSource, TcpDoor};

@@ -5,6 +5,7 @@ ghost use Rattle.gitolite_shell.specs.Command.{built, command};
 ghost use Rattle.gitolite_shell.specs.Lone.{IsLegalRun, IsRecordedRun, RefusesSurely, TellsStatus};
 ghost use Rattle.gitolite_shell.specs.Shell.{EndsShell, EndsShellSurely};
 
+use crate::load::run_load;
 use crate::lone::{Ended, check_alone, refuse, run_alone, unread};
 use crate::serve::run_serve;
 use edge_links::Door;
@@ -53,7 +54,7 @@ fn run_asked<
             let (used, _) = posts.split_at_mut(workers);
             run_serve(rt, alloc, output, used, &admin, sessions)
         }
-        Asked::Load { .. } => refuse(alloc, output),
+        Asked::Load { count, start } => run_load(alloc, count, start, output),
     }
 }
 

@@ -39,10 +39,10 @@ impl From<NoMemory> for ScriptFault {
 }
 
 // How many bytes a call on a session's link moves at most.
-const MOST_MOVED: usize = 65_536;
+pub(crate) const MOST_MOVED: usize = 65_536;
 
 // The word for an end that a session comes to by itself. Over a link that can't fail only want of memory is another.
-fn word(end: SessionEnd) -> Option<&'static str>
+pub(crate) fn word(end: SessionEnd) -> Option<&'static str>
     ensures some { IfSome result (λ word. (word.now ≡ end_word end) × (halt_of end ≡ Ended end)) }
     ensures none { IfNone result ((failure : Failure) × (halt_of end ≡ Failed failure)) }
 {

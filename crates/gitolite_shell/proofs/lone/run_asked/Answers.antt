@@ -2,7 +2,7 @@ use Rattle.std.proofs.Common.{refl, inr, subst, sym}
 use Rattle.shell_words.specs.declared.commands.Asked.{Asked}
 use Rattle.gitolite_shell.specs.Command.{built}
 use Rattle.gitolite_shell.specs.Lone.{EndsRun, IsLegalRun}
-use Rattle.gitolite_shell.proofs.LoneLemmas.{refused_run, surely}
+use Rattle.gitolite_shell.proofs.LoneLemmas.{loaded_run, refused_run, surely}
 use Rattle.gitolite_shell.proofs.lone.run_asked.Goals as goal
 
 pub returns-in-Check-clause-ends : goal.returns-in-Check-clause-ends
@@ -48,15 +48,15 @@ pub returns-clause-ends : goal.returns-clause-ends
 returns-clause-ends g c =
     let source = g.I.Endpoint.state c.args.input.now in
     let sink = g.O.Endpoint.state c.args.output.now in
-    let sink' = g.O.Endpoint.state c.refuse-in-Load.new.output in
-    subst (λ (a : Asked). EndsRun (built 0 a) source source sink sink' c.refuse-in-Load.result.status c.refuse-in-Load.result.log) (sym c.in-Load.is)
-    (refused_run source source sink sink' c.refuse-in-Load.result.log c.refuse-in-Load.result.status c.refuse-in-Load.ensures.ends refl c.refuse-in-Load.ensures.log)
+    let sink' = g.O.Endpoint.state c.run_load.new.output in
+    subst (λ (a : Asked). EndsRun (built 0 a) source source sink sink' c.run_load.result.status c.run_load.result.log) (sym c.in-Load.is)
+    (loaded_run source sink sink' c.run_load.result.log c.run_load.result.status c.in-Load.count c.in-Load.start c.run_load.ensures.ends)
 
 pub returns-clause-tells : goal.returns-clause-tells
-returns-clause-tells g c = (inr refl, c.refuse-in-Load.ensures.tells)
+returns-clause-tells g c = (inr refl, c.run_load.ensures.tells)
 
 pub returns-clause-sure : goal.returns-clause-sure
 returns-clause-sure g c = surely _ _ _ _ _ _ _ (returns-clause-ends g c)
 
 pub returns-clause-legal : goal.returns-clause-legal
-returns-clause-legal g c = subst (λ (a : Asked). IsLegalRun (built 0 a) c.refuse-in-Load.result.log) (sym c.in-Load.is) tt
+returns-clause-legal g c = subst (λ (a : Asked). IsLegalRun (built 0 a) c.run_load.result.log) (sym c.in-Load.is) c.run_load.ensures.legal

@@ -1,6 +1,6 @@
 use Rattle.std.proofs.Common.{◌≡◌, ◌⊎◌, Option, List, ◌++◌, inr, refl, subst, sym, length, take, drop, arith, ◌∙◌, ap}
 use Rattle.shell_words.specs.declared.commands.Asked.{Asked}
-use Rattle.shell_words.specs.declared.commands.Asked.TheVariants.{Script, Serve, Check}
+use Rattle.shell_words.specs.declared.commands.Asked.TheVariants.{Script, Serve, Check, Load}
 use Rattle.shell_words.specs.Commands.{IsWithinLimits}
 use Rattle.std.specs.Prelude.{Some, None}
 use Rattle.base_types.specs.Counts.{HasRisen}
@@ -11,8 +11,8 @@ use Rattle.gitolite_shell.specs.Status.{status_number}
 use Rattle.gitolite_shell.specs.declared.status.Status.{Status}
 use Rattle.gitolite_shell.specs.Lone.{IsLegalRun}
 use Rattle.gitolite_shell.specs.Shell.{EndsShell, EndsShellSurely}
-use Rattle.gitolite_shell.proofs.LoneLemmas.{refused_run}
-use Rattle.gitolite_shell.proofs.ShellLemmas.{refused_there, served_there, shell_checks, shell_refuses, shell_runs, shell_serves, shell_serves_surely, shell_surely}
+use Rattle.gitolite_shell.proofs.LoneLemmas.{loaded_run, refused_run}
+use Rattle.gitolite_shell.proofs.ShellLemmas.{refused_there, served_there, shell_checks, shell_loads, shell_refuses, shell_runs, shell_serves, shell_serves_surely, shell_surely}
 use Rattle.gitolite_shell.proofs.program.run_asked.Goals as goal
 
 pub returns-in-Check-clause-ends : goal.returns-in-Check-clause-ends
@@ -145,24 +145,24 @@ pub returns-in-Load-clause-ends : goal.returns-in-Load-clause-ends
 returns-in-Load-clause-ends g c =
     let source = g.I.Endpoint.state c.args.input.now in
     let sink = g.O.Endpoint.state c.args.output.now in
-    let sink' = g.O.Endpoint.state c.refuse-in-Load.new.output in
+    let sink' = g.O.Endpoint.state c.run_load.new.output in
     let posts = c.args.posts.now in
-    subst (λ (a : Asked). EndsShell g.L.Endpoint.state g.D.Door.state posts posts (built (length posts) a) source source sink sink' c.refuse-in-Load.result.status c.refuse-in-Load.result.log) (sym c.in-Load.is)
-    (shell_refuses g.L.Endpoint.state g.D.Door.state source source sink sink' c.refuse-in-Load.result.log c.refuse-in-Load.result.status posts
-    (refused_run source source sink sink' c.refuse-in-Load.result.log c.refuse-in-Load.result.status c.refuse-in-Load.ensures.ends refl c.refuse-in-Load.ensures.log))
+    subst (λ (a : Asked). EndsShell g.L.Endpoint.state g.D.Door.state posts posts (built (length posts) a) source source sink sink' c.run_load.result.status c.run_load.result.log) (sym c.in-Load.is)
+    (shell_loads g.L.Endpoint.state g.D.Door.state source source sink sink' c.run_load.result.log c.run_load.result.status posts c.in-Load.count c.in-Load.start
+    (loaded_run source sink sink' c.run_load.result.log c.run_load.result.status c.in-Load.count c.in-Load.start c.run_load.ensures.ends))
 
 pub returns-in-Load-clause-tells : goal.returns-in-Load-clause-tells
-returns-in-Load-clause-tells g c = (inr refl, c.refuse-in-Load.ensures.tells)
+returns-in-Load-clause-tells g c = (inr refl, c.run_load.ensures.tells)
 
 pub returns-in-Load-clause-sure : goal.returns-in-Load-clause-sure
 returns-in-Load-clause-sure g c =
     let source = g.I.Endpoint.state c.args.input.now in
     let sink = g.O.Endpoint.state c.args.output.now in
-    let sink' = g.O.Endpoint.state c.refuse-in-Load.new.output in
+    let sink' = g.O.Endpoint.state c.run_load.new.output in
     let posts = c.args.posts.now in
-    subst (λ (a : Asked). EndsShellSurely g.L.Endpoint.state g.D.Door.state posts posts (built (length posts) a) source source sink sink' c.refuse-in-Load.result.status) (sym c.in-Load.is)
-    (shell_surely g.L.Endpoint.state g.D.Door.state source source sink sink' c.refuse-in-Load.result.log c.refuse-in-Load.result.status posts None
-    (refused_run source source sink sink' c.refuse-in-Load.result.log c.refuse-in-Load.result.status c.refuse-in-Load.ensures.ends refl c.refuse-in-Load.ensures.log))
+    subst (λ (a : Asked). EndsShellSurely g.L.Endpoint.state g.D.Door.state posts posts (built (length posts) a) source source sink sink' c.run_load.result.status) (sym c.in-Load.is)
+    (shell_surely g.L.Endpoint.state g.D.Door.state source source sink sink' c.run_load.result.log c.run_load.result.status posts (Some (Load c.in-Load.count c.in-Load.start))
+    (loaded_run source sink sink' c.run_load.result.log c.run_load.result.status c.in-Load.count c.in-Load.start c.run_load.ensures.ends))
 
 pub returns-in-Load-clause-legal : goal.returns-in-Load-clause-legal
-returns-in-Load-clause-legal g c = subst (λ (a : Asked). IsLegalRun (built (length c.args.posts.now) a) c.refuse-in-Load.result.log) (sym c.in-Load.is) tt
+returns-in-Load-clause-legal g c = subst (λ (a : Asked). IsLegalRun (built (length c.args.posts.now) a) c.run_load.result.log) (sym c.in-Load.is) c.run_load.ensures.legal

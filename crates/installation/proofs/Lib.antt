@@ -1,0 +1,3 @@
+pub mod ConfLemmas
+mod ObjectLemmas
+mod NameLemmas
