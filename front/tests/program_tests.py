@@ -1,0 +1,82 @@
+"""The program as the system runs it: its words, its streams, and the status with which it ends."""
+import os
+import resource
+import subprocess
+
+SCRIPT = "script", "--admin", "admin"
+USAGE = b"usage: gitolite_shell script --admin NAME | serve --admin NAME --workers K --sessions N | check | load N START\n"
+EMPTY = b"session 0\n\n"
+SERVED = b"session 1 truncated 0\n\n"
+
+
+def ends(here, words, status, printed=b"", given=b"", **how):
+    """Runs the program, and compares its status and what it prints."""
+    if "stdin" not in how:
+        how["input"] = given
+    how = {"stdout": subprocess.PIPE, "stderr": subprocess.PIPE, "timeout": 60, **how}
+    ran = subprocess.run([here.program, *words], **how)
+    found = ran.returncode, ran.stdout, ran.stderr
+    assert found == (status, None if how["stdout"] != subprocess.PIPE else printed, b""), (words, found)
+
+
+def words(here):
+    """Words that are no command."""
+    for given in (), ("script",), ("script", "--admin"), ("script", "--admin", "a", "b"), ("--help",), ("-h",), ("help",), ("--version",), ("check", "a"):
+        ends(here, given, 1, USAGE)
+    for given in (b"\xff",), ("serve", "--admin", "a", "--workers", "9", "--sessions", "1"), ("load", "0", "1"), ("load", "5001", "1"), ("load", "01", "1"):
+        ends(here, given, 1, USAGE)
+
+
+def scripts(here):
+    """Scripts that end well, and a bad one."""
+    ends(here, SCRIPT, 0)
+    ends(here, ("script", "--admin=admin"), 0, SERVED, EMPTY)
+    ends(here, SCRIPT, 7, b"bad script at 0\n", b"session 5\nabc")
+    ends(here, SCRIPT, 7, SERVED + b"bad script at 11\n", EMPTY + b"x")
+
+
+def confs(here):
+    """A good conf, and a bad one."""
+    ends(here, ("check",), 0, b"1 a RW refs/.* b gitolite.conf 2\nok 1 rules, 1 repositories\n", b"repo a\n RW = b\n")
+    ends(here, ("check",), 6, b"gitolite.conf line 1: rule before repo\n", b"RW = b\n")
+
+
+def installations(here):
+    """Generated installations, whose lines were reckoned apart from the program."""
+    for number, start, line in (3, 2, "done 2, denied 2, refused 0, refs 2"), (300, 7, "done 42, denied 259, refused 0, refs 41"), (5000, 1, "done 694, denied 4307, refused 0, refs 665"):
+        ends(here, ("load", str(number), str(start)), 0, b"load %d %d: sessions %d, %s\n" % (number, start, number + 1, line.encode()))
+
+
+def failing_input(here):
+    """A folder as input, and an input that is closed."""
+    room = os.open(here.room, os.O_RDONLY)
+    ends(here, SCRIPT, 2, stdin=room)
+    ends(here, ("check",), 2, stdin=room)
+    os.close(room)
+    ends(here, SCRIPT, 2, stdin=None, preexec_fn=lambda: os.close(0))
+
+
+def failing_output(here):
+    """A full device, an output that is closed, and one that nobody reads any more."""
+    with open("/dev/full", "wb") as full:
+        for given, text in (SCRIPT, EMPTY), (SCRIPT, b"x"), (("check",), b"repo a\n"), (("load", "1", "1"), b""), ((), b""):
+            ends(here, given, 3, given=text, stdout=full)
+    ends(here, SCRIPT, 3, given=EMPTY, stdout=None, preexec_fn=lambda: os.close(1))
+    reader, writer = os.pipe()
+    os.close(reader)
+    ends(here, SCRIPT, 3, given=EMPTY, stdout=writer)
+    os.close(writer)
+
+
+def too_little_memory(here):
+    """An address space of eight megabytes."""
+    eight = 8 << 20
+    ends(here, ("load", "5000", "1"), 4, preexec_fn=lambda: resource.setrlimit(resource.RLIMIT_AS, (eight, eight)))
+
+
+def address_in_use(here):
+    """A second server at the same address."""
+    ends(here, ("serve", "--admin", "admin", "--workers", "1", "--sessions", "1"), 5, b"served 0 sessions, 0 events\n")
+
+
+TESTS = words, scripts, confs, installations, failing_input, failing_output, too_little_memory, address_in_use
