@@ -205,8 +205,10 @@ def other_accounts(here):
 
 
 def has_listener(process):
+    """Whether it listens at 9418 in a network of its own: until it has one, it sees the other server."""
     with contextlib.suppress(OSError):
-        return ":24CA 00000000:0000 0A" in pathlib.Path("/proc/%d/net/tcp" % process).read_text()  # 9418, listening
+        apart = os.readlink("/proc/%d/ns/net" % process) != os.readlink("/proc/self/ns/net")
+        return apart and ":24CA 00000000:0000 0A" in pathlib.Path("/proc/%d/net/tcp" % process).read_text()
     return False
 
 
