@@ -42,10 +42,10 @@ IsEmptyList None = ⊤
 IsEmptyList (Some xs) = xs ≡ []
 
 -- `Link` is the first of the links left, and is out from then on; `Closed` comes only where none is left, and alone
--- makes it true that the door has closed; `Failed` comes only where the count rose.
+-- makes it true that the door has closed; the count rose where `Failed` came, and nowhere else.
 abbrev pub Gives : {L : Type 0} → DoorState L → DoorState L → Next L → Type 0
-Gives old new (next.Link link) = LosesFirst old.left new.left link × (new.closed ≡ old.closed) × (new.out ≡ true)
-Gives old new next.Closed = IsEmptyList old.left × KeepsList old.left new.left × (new.closed ≡ true) × (new.out ≡ old.out)
+Gives old new (next.Link link) = LosesFirst old.left new.left link × (new.closed ≡ old.closed) × (new.out ≡ true) × (new.faults ≡ old.faults)
+Gives old new next.Closed = IsEmptyList old.left × KeepsList old.left new.left × (new.closed ≡ true) × (new.out ≡ old.out) × (new.faults ≡ old.faults)
 Gives old new next.Failed = HasRisen old.faults new.faults × KeepsList old.left new.left × (new.closed ≡ old.closed) × (new.out ≡ old.out)
 
 -- What one call of `next` did.
@@ -58,5 +58,5 @@ pub record Answers {L : Type 0} (old new : DoorState L) (result : Next L) : Type
 pub record TakesBack {L : Type 0} (old new : DoorState L) (link : L) : Type 0 where
   pub served : GainsLast old.served new.served link
   pub left : KeepsList old.left new.left
-  pub faults : old.faults ≤ new.faults
+  pub faults : new.faults ≡ old.faults
   pub closed : new.closed ≡ old.closed

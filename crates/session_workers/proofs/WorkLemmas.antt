@@ -36,9 +36,6 @@ fresh_none pass fresh =
     ap (λ l. entries_of pass.caller (start_of pass) (log_in l)) (ap (λ l. pass.at_new ++ l) fresh ∙ append-nil pass.at_new)
     ∙ ap (λ l. filter (λ (e : Entry). nat_eq e.caller pass.caller) l) (drop-length (log_in pass.at_new))
 
-pub ≤-trans : {a b c : ℕ} → a ≤ b → b ≤ c → a ≤ c
-≤-trans h k = omega (arith, h, k)
-
 list_any-append : {X : Type 0} (f : X → Bool) (xs ys : List X) → list_any f (xs ++ ys) ≡ list_any f xs || list_any f ys
 list_any-append f [] ys = refl
 list_any-append f (x ∷ xs) ys = go (f x) (list_any-append f xs ys) where
@@ -92,7 +89,7 @@ module _ {L : Type 0} (state : L → LinkState) where
           served =
               subst (λ l. Served admin caller start desk'.seen l) (sym (map-append (served_link state) visits last))
               (subst (λ l. Served admin caller start l (map (served_link state) visits ++ served_link state visit ∷ [])) (sym serves.seen) served);
-          faults = ≤-trans before.faults serves.faults;
+          faults = omega (arith, before.faults, serves.faults);
         };
         counted = ap (λ k. k + 1) so_far.counted ∙ sym (length-append visits last);
         lacked_is =
@@ -110,7 +107,7 @@ module _ {L : Type 0} (state : L → LinkState) where
       given = keeps_front old.left mid.left new.left _ so_far.served.given none.left;
       back = keeps_back old.served mid.served new.served _ so_far.served.back none.served;
       served = so_far.served.served;
-      faults = ≤-trans so_far.served.faults none.faults;
+      faults = omega (arith, so_far.served.faults, none.faults);
     };
     counted = so_far.counted;
     lacked_is = so_far.lacked_is;

@@ -55,7 +55,7 @@ GainsBack (Some xs) (Some ys) links = ys ≡ xs ++ links
 pub record ServesLink {L : Type 0} (state : L → LinkState) (old new : DoorState L) (desk desk' : DeskView) (visit : Visit L) : Type 0 where
   pub given : LosesFront old.left new.left (visit.link ∷ [])
   pub back : GainsBack old.served new.served (visit.back ∷ [])
-  pub faults : old.faults ≤ new.faults
+  pub faults : new.faults ≡ old.faults
   pub more : List Entry
   pub seen : desk'.seen ≡ desk.seen ++ more
   pub session : IsSession desk.admin desk.caller (length desk.seen) desk'.seen (served_link state visit)
@@ -70,7 +70,7 @@ pub record ServesNone {L : Type 0} (old new : DoorState L) (desk desk' : DeskVie
 -- how one turn at a door went
 abbrev pub ServesNext : {L : Type 0} → (L → LinkState) → DoorState L → DoorState L → DeskView → DeskView → NextServed → Type 0
 ServesNext state old new desk desk' (next.Served end) = (visit : Visit _) × (visit.end ≡ end) × ServesLink state old new desk desk' visit
-ServesNext state old new desk desk' next.Closed = ServesNone old new desk desk' × (new.closed ≡ true)
+ServesNext state old new desk desk' next.Closed = ServesNone old new desk desk' × (new.closed ≡ true) × (new.faults ≡ old.faults)
 ServesNext state old new desk desk' next.Failed = ServesNone old new desk desk' × HasRisen old.faults new.faults
 
 -- Links were given and given back, in their order, and a caller's entries past a start are those of their sessions.
@@ -80,10 +80,10 @@ pub record HasServed {L : Type 0} (state : L → LinkState) (admin : Name) (call
   pub served : Served admin caller start log (map (served_link state) visits)
   pub faults : old.faults ≤ new.faults
 
--- as many were served as were asked for, or the door is closed; or it failed
+-- as many were served as were asked for, or the door is closed, and it didn't fail; or it failed
 abbrev pub HasDone : {L : Type 0} → DoorState L → DoorState L → ℕ → ℕ → Bool → Type 0
 HasDone old new each count true = HasRisen old.faults new.faults
-HasDone old new each count false = (count ≡ each) ⊎ (new.closed ≡ true)
+HasDone old new each count false = ((count ≡ each) ⊎ (new.closed ≡ true)) × (new.faults ≡ old.faults)
 
 -- a worker's tally is that of its visits
 pub record IsTally {L : Type 0} (visits : List (Visit L)) (tally : Tally) : Type 0 where

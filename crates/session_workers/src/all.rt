@@ -1,5 +1,5 @@
 // All posts over one hub.
-ghost use Rattle.std.specs.Prelude.{◌≡◌, ◌*◌, ◌^◌, ◌<◌, ℕ, All, IfNone, IfSome, IsTrue, None, length, slice_index_or};
+ghost use Rattle.std.specs.Prelude.{◌≡◌, ◌*◌, ◌^◌, ◌<◌, ℕ, All, IfNone, IfSome, IsTrue, None, false, length, slice_index_or, true};
 ghost use Rattle.std.specs.List.{list_any, sum_by};
 ghost use Rattle.session_workers.specs.Passes.{IsIdle};
 ghost use Rattle.session_workers.specs.ServesAll.{ServesAll};
@@ -54,7 +54,7 @@ fn have_lacked<D, G>(posts: &[Post<D, G>]) -> bool
 
 // There was no memory for the lock or the passes.
 fn without_memory() -> ServedAll
-    ensures { (result.hub ≡ None) × IsTrue result.no_memory }
+    ensures { result ≡ record { hub = None; sessions = 0; door_failed = false; no_memory = true } }
 {
     ServedAll {
         hub: None,
@@ -80,7 +80,7 @@ pub fn serve_all<L: Link + Send, D: Door<L> + Send, G: Gate + Send, R: Threads +
     requires few { length posts.old < 2 ^ 32 }
     requires fits { length posts.old * each < 2 ^ 64 }
     ensures served { IfSome result.hub (λ after. ServesAll L.state D.state hub after posts.old posts.new each result.sessions result.door_failed result.no_memory) }
-    ensures none { IfNone result.hub (IsTrue result.no_memory) }
+    ensures none { IfNone result.hub ((result.sessions ≡ 0) × (result.door_failed ≡ false) × IsTrue result.no_memory) }
     ensures unasked { IfNone result.hub ((k : ℕ) (d : _) → (slice_index_or posts.new k d).door ≡ (slice_index_or posts.old k d).door) }
     ensures idle { All (λ post. IsIdle post) posts.new }
 {

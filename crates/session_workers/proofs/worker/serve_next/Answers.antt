@@ -1,7 +1,6 @@
-use Rattle.std.proofs.Common.{refl, ap}
+use Rattle.std.proofs.Common.{◌∙◌, refl, ap}
 use Rattle.hub.specs.Desk.{DeskView}
 use Rattle.session_workers.proofs.DoorLemmas.{loses_one, gains_one}
-use Rattle.session_workers.proofs.WorkLemmas.{≤-trans}
 use Rattle.session_workers.proofs.worker.serve_next.Goals as goal
 
 pub returns-in-Link-clause-next : goal.returns-in-Link-clause-next
@@ -18,7 +17,7 @@ returns-in-Link-clause-next g c =
       record {
         given = loses_one old.left mid.left new.left link gives.given.0 takes.left;
         back = gains_one old.served mid.served new.served back gives.served takes.served;
-        faults = ≤-trans {a = old.faults} {b = mid.faults} {c = new.faults} gives.faults takes.faults;
+        faults = takes.faults ∙ gives.given.3;
         more = c.session-end.ensures.grows.more;
         seen = ap (λ (d : DeskView). d.seen) c.session-end.ensures.grows.new_is;
         session = record {

@@ -16,6 +16,7 @@ loop-sessions-init g c =
       served = none_served g.L.Endpoint.state (admin_in pass.at_new) pass.caller (start_of pass) (log_seen c.new-desk.result) (g.D.Door.state c.args.door.now)
           (ap (λ (p : PassState KeptEntry). entries_of pass.caller (start_of pass) (log_seen p)) same ∙ fresh_none pass c.requires.fresh);
       unfailed = refl;
+      unrisen = refl;
     }
 
 pub loop-sessions-preserved : goal.loop-sessions-preserved
@@ -30,4 +31,5 @@ loop-sessions-preserved g c =
       served = subst (λ b. SoFar g.L.Endpoint.state (admin_in pass.at_new) pass.caller (start_of pass) (log_seen q) old new (c.loop-sessions.sessions + 1) b) (sym c.lacks.ensures)
           (one_served g.L.Endpoint.state pass c.loop-sessions.desk q old (g.D.Door.state c.loop-sessions.door) new c.loop-sessions.sessions c.loop-sessions.tally.no_memory c.in-Served.end so_far.same so_far.served c.in-Served.ensures.next);
       unfailed = so_far.unfailed;
+      unrisen = c.in-Served.ensures.next.2.faults ∙ so_far.unrisen;
     }
