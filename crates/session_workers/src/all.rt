@@ -64,9 +64,9 @@ fn without_memory() -> ServedAll
     }
 }
 
-/// Serves the links of all posts over one hub, each post by a worker on a thread of its own, which ends once it has
-/// served so many, its door is closed or its door fails. Entries that a post's sessions log bear its place as their
-/// number.
+/// Serves the links of all posts over one hub, each post by a worker, on a thread of its own where the system gives one
+/// (one of them runs on the caller's). A worker ends once it has served so many, its door is closed or its door fails.
+/// Entries that a post's sessions log bear its place as their number.
 ///
 /// A link's fault, or want of memory in a session, ends that session alone. The turn of the hub is taken once for each
 /// entry. Memory for the lock and the passes is taken first.

@@ -1,6 +1,6 @@
 //! Workers: one for each post, over one hub that they share.
 //!
-//! - `post`: a post, and its worker on a thread of its own;
+//! - `post`: a post, and its worker, on a thread of its own where the system gives one;
 //! - `worker`: links of a door, served one after the other;
 //! - `hand`: passes of the hub, handed to the posts, and joined behind;
 //! - `all`: all posts;

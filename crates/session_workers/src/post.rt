@@ -59,7 +59,7 @@ fn serve_post<L: Link, D: Door<L>, G: Gate, R: Wait>(
     post.tally = tally;
 }
 
-/// Serves the posts, each by a worker on a thread of its own.
+/// Serves the posts, each by a worker, on a thread of its own where the system gives one.
 pub fn serve_posts<L: Link + Send, D: Door<L> + Send, G: Gate + Send, R: Threads + Wait + Sync>(
     rt: &R,
     alloc: Global,
