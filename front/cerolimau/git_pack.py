@@ -3,7 +3,7 @@ import hashlib
 import zlib
 
 from .delta import BadDelta, read_sizes, result_pieces
-from .raw_pack import KIND_NAMES, MAX_BODIES, MAX_BODY, MAX_ENTRIES, begin_name, entry_head, pack_header, read_entry_head
+from .raw_pack import KIND_NAMES, MAX_BODIES, MAX_BODY, MAX_ENTRIES, begin_name, entry_head, pack_header, read_entry_head, with_trailer
 from .streams import Cut, Spool
 
 OFFSET_DELTA, REFERENCE_DELTA = 6, 7
@@ -229,15 +229,11 @@ class _PackInput:
 
 def git_pack(count, objects):
     """A pack of Git of these kinds and bodies, in pieces."""
+    return with_trailer(_git_pieces(count, objects))
+
+
+def _git_pieces(count, objects):
     keep_freed_memory()
-    sha1 = hashlib.sha1()
-    for piece in _unsigned_pieces(count, objects):
-        sha1.update(piece)
-        yield piece
-    yield sha1.digest()
-
-
-def _unsigned_pieces(count, objects):
     yield pack_header(count)
     for kind, body in objects:
         yield entry_head(kind, len(body)) + deflate(body)

@@ -75,14 +75,19 @@ class RawPackReader:
 
 def raw_pack(count, entries):
     """A raw pack in pieces; the entries are kinds and bodies."""
+    return with_trailer(_raw_pieces(count, entries))
+
+
+def with_trailer(pieces):
+    """These pieces, and behind them the SHA-1 of them all, by which packs of both forms end."""
     sha1 = hashlib.sha1()
-    for piece in _unsigned_pieces(count, entries):
+    for piece in pieces:
         sha1.update(piece)
         yield piece
     yield sha1.digest()
 
 
-def _unsigned_pieces(count, entries):
+def _raw_pieces(count, entries):
     yield pack_header(count)
     for kind, body in entries:
         yield entry_head(kind, len(body))

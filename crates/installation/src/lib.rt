@@ -1,4 +1,4 @@
-//! A generated installation: a conf with any number of repositories, and sessions that push to them.
+//! A generated installation: a conf of up to 5,000 repositories, and sessions that push to them.
 //!
 //! - `draws`: numbers that are the same in each run;
 //! - `conf`: the conf, and the names of users and repositories;
