@@ -23,11 +23,12 @@ use Rattle.hub_history.specs.Push.{ByConf, ByConfIf, ByRules, Judges, by_command
 use Rattle.hub_history.specs.State.{same_name}
 use Rattle.hub_history.proofs.HistoryLemmas.{some_same}
 
--- what is told by the refs alone
+-- what is told by the refs just before, or beside another's refusal
 abbrev pub is_by_refs : Outcome → Bool
 is_by_refs Done = true
 is_by_refs (Stale id) = true
 is_by_refs (DirFile r) = true
+is_by_refs (AtomicOther first) = true
 is_by_refs other = false
 
 -- an outcome by the opening is none of these
@@ -141,7 +142,7 @@ not_done ManyPaths is = refl
 not_done (ConfRefused fault) is = refl
 not_done (Stale id) is = absurd cc
 not_done (DirFile r) is = absurd cc
-not_done (AtomicOther i) is = refl
+not_done (AtomicOther i) is = absurd cc
 not_done (Collided id) is = refl
 not_done (Full n) is = refl
 

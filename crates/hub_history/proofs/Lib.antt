@@ -13,6 +13,9 @@ pub mod GrowthLemmas
 pub mod WholeLogs
 pub mod MovedRefs
 pub mod MovedLogs
+mod NoZero
+mod FirstAtOdds
+mod InTheWay
 mod AnswerLemmas
 mod ConfLemmas
 pub mod RoleSets

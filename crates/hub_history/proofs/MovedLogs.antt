@@ -177,7 +177,7 @@ module _ (ps : Patterns) (ok : AreTrue ps) (admin : Name) (before : List Entry) 
   abbrev state : State
   state = replay admin before
 
-  due_here : IsDuePush ps state pinned pack cs atomic os made
+  pub due_here : IsDuePush ps state pinned pack cs atomic os made
   due_here =
       let due : IsDue ps (history admin before) (Pushed place pack cs atomic os made) = subst (IsDue ps (history admin before)) is_push (due_last admin before entry legal ps ok) in
       subst (λ (o : Option Pinned). IsDueAfter ps state o pack cs atomic os made) opening due

@@ -1,5 +1,5 @@
 -- Which refs a push moves.
-use Rattle.std.proofs.Common.{◌≡◌, ◌≤◌, ◌+◌, ℕ, zero, suc, Bool, true, false, ◌||◌, not, cond, List, [], ◌∷◌, map, length, refl, sym, ◌∙◌, ap, subst, arith}
+use Rattle.std.proofs.Common.{◌≡◌, ◌⊎◌, inl, inr, ◌≤◌, ◌+◌, ℕ, zero, suc, Bool, true, false, ◌||◌, not, cond, List, [], ◌∷◌, map, length, take, refl, sym, ◌∙◌, ap, subst, arith}
 use Rattle.std.specs.Prelude.{Option, Some, None, nat_lt, if◌then◌else◌}
 use Rattle.std.specs.List.{count_by, list_any, position, position_from, slice_get}
 use Rattle.std.specs.Option.{unwrap_or}
@@ -27,7 +27,7 @@ use Rattle.hub_history.proofs.PushLemmas.{done_in_order, none_alike, none_beside
 
 -- ---- one ref
 
-abbrev is_for : Name → Command → Bool
+abbrev pub is_for : Name → Command → Bool
 is_for name c = same_name name c.name
 
 moved_other : (refs : Refs) (k name : Name) (new : ObjectId) → same_name name k ≡ false → value (moved refs k new) name ≡ value refs name
@@ -51,7 +51,7 @@ moved_here refs k new = by_zero (same_id new zero_id) refl
     by_zero false is = ap (λ (o : Option ObjectId). unwrap_or o zero_id) (get-insert nat_list_cmp_total refs k new k ∙ ap (λ (b : Bool). cond b (Some new) (get refs k)) here)
 
 -- a command for another ref leaves the ref
-after_other : (refs : Refs) (c : Command) (o : Outcome) (name : Name) → is_for name c ≡ false → value (refs_after refs c o) name ≡ value refs name
+pub after_other : (refs : Refs) (c : Command) (o : Outcome) (name : Name) → is_for name c ≡ false → value (refs_after refs c o) name ≡ value refs name
 after_other refs c o name other = by_done (is_done o)
   where
     by_done : (b : Bool) → value (if b then moved refs c.name c.new else refs) name ≡ value refs name
@@ -80,7 +80,7 @@ done_is (Full n) is = cc
 abbrev as_one : Bool → ℕ
 as_one b = cond b 1 0
 
-count_more : (name : Name) (c : Command) (cs : List Command) → count_by (is_for name) (c ∷ cs) ≡ as_one (is_for name c) + count_by (is_for name) cs
+pub count_more : (name : Name) (c : Command) (cs : List Command) → count_by (is_for name) (c ∷ cs) ≡ as_one (is_for name c) + count_by (is_for name) cs
 count_more name c cs = sum_by-cons (λ (d : Command). as_one (is_for name d)) c cs
 
 itself : (name : Name) → same_name name name ≡ true
@@ -106,7 +106,7 @@ left_other refs (c ∷ cs) (o ∷ os) name none = by_name (is_for name c) refl (
     by_name false is rest = rest (omega (arith, none, count_more name c cs)) ∙ after_other refs c o name is
 
 -- where a command is the only one for its ref, none before it is for that
-none_before : (d : Command) (cs : List Command) (k : ℕ) (c : Command) → slice_get cs k ≡ Some c → count_by (is_for c.name) (d ∷ cs) ≤ 1 → (is_for c.name d ≡ false) × (count_by (is_for c.name) cs ≤ 1)
+pub none_before : (d : Command) (cs : List Command) (k : ℕ) (c : Command) → slice_get cs k ≡ Some c → count_by (is_for c.name) (d ∷ cs) ≤ 1 → (is_for c.name d ≡ false) × (count_by (is_for c.name) cs ≤ 1)
 none_before d cs k c is once = (by_name (is_for c.name d) refl, omega (arith, once, count_more c.name d cs))
   where
     by_name : (b : Bool) → is_for c.name d ≡ b → b ≡ false
@@ -116,16 +116,20 @@ none_before d cs k c is once = (by_name (is_for c.name d) refl, omega (arith, on
 none_behind : (c : Command) (cs : List Command) → count_by (is_for c.name) (c ∷ cs) ≤ 1 → count_by (is_for c.name) cs ≡ 0
 none_behind c cs once = omega (arith, once, count_more c.name c cs, ap as_one (itself c.name))
 
+-- the refs at the turn of the command at a place
+abbrev pub refs_at : Refs → List Command → List Outcome → ℕ → Refs
+refs_at refs cs os k = refs_left refs (take k cs) (take k os)
+
 -- the only command for a ref meets the value that the ref had at first
 pub met_at : (refs : Refs) (cs : List Command) (js : List (Option Outcome)) (k : ℕ) (c : Command) (o : Outcome) → count_by (is_for c.name) cs ≤ 1 → slice_get cs k ≡ Some c → slice_get (in_order refs cs js) k ≡ Some o
-    → (j : Option Outcome) × (slice_get js k ≡ Some j) × (met : Refs) × (value met c.name ≡ value refs c.name) × (o ≡ by_refs met c j)
+    → (j : Option Outcome) × (slice_get js k ≡ Some j) × (value (refs_at refs cs (in_order refs cs js) k) c.name ≡ value refs c.name) × (o ≡ by_refs (refs_at refs cs (in_order refs cs js) k) c j)
 met_at refs [] js k c o once is told = cc
 met_at refs (d ∷ cs) [] k c o once is told = cc
-met_at refs (d ∷ cs) (j ∷ js) zero c o once is told = (j, refl, refs, refl, sym (some_same told) ∙ ap (λ (e : Command). by_refs refs e j) (some_same is))
+met_at refs (d ∷ cs) (j ∷ js) zero c o once is told = (j, refl, refl, sym (some_same told) ∙ ap (λ (e : Command). by_refs refs e j) (some_same is))
 met_at refs (d ∷ cs) (j ∷ js) (suc k) c o once is told =
     let before = none_before d cs k c is once in
     let later = met_at (refs_after refs d (by_refs refs d j)) cs js k c o before.1 is told in
-    (later.0, later.1, later.2, later.3 ∙ after_other refs d (by_refs refs d j) c.name before.0, later.4)
+    (later.0, later.1, later.2 ∙ after_other refs d (by_refs refs d j) c.name before.0, later.3)
 
 -- and where it is done the ref has the new one in the end
 pub left_at : (refs : Refs) (cs : List Command) (os : List Outcome) (k : ℕ) (c : Command) → count_by (is_for c.name) cs ≤ 1 → slice_get cs k ≡ Some c → slice_get os k ≡ Some Done → value (refs_left refs cs os) c.name ≡ c.new
@@ -181,7 +185,7 @@ told_at refs (c ∷ cs) [] k o told = cc
 told_at refs (c ∷ cs) (j ∷ js) zero o told = (j, refl, λ x is. sym (ap (by_refs refs c) is) ∙ some_same told)
 told_at refs (c ∷ cs) (j ∷ js) (suc k) o told = told_at (refs_after refs c (by_refs refs c j)) cs js k o told
 
-same_alike : (a b : ObjectId) → a ≡ b → same_id a b ≡ true
+pub same_alike : (a b : ObjectId) → a ≡ b → same_id a b ≡ true
 same_alike a b same = (bytes_decides a.bytes b.bytes).1 (ap (λ (id : ObjectId). id.bytes) same)
 
 met_done : (refs : Refs) (c : Command) → Done ≡ by_refs refs c None → value refs c.name ≡ c.old
@@ -212,6 +216,24 @@ met_stale refs c v is = by_old (same_id (value refs c.name) c.old) refl is
         let same : v ≡ value refs c.name = stale_same v (value refs c.name) is in
         (same, λ alike. let yes : true ≡ false = sym (same_alike (value refs c.name) c.old (sym same ∙ alike)) ∙ other in cc)
 
+-- what an outcome was before those of an atomic push were taken together
+pub was_alone : (atomic : Bool) (os : List Outcome) (k : ℕ) (o : Outcome) → slice_get (together atomic os) k ≡ Some o → (slice_get os k ≡ Some o) ⊎ ((slice_get os k ≡ Some Done) × (first : ℕ) × (o ≡ AtomicOther first))
+was_alone false os k o is = inl is
+was_alone true os k o is = by_first (position (λ x. not (is_done x)) os) is
+  where
+    among : (first : ℕ) (xs : List Outcome) (i : ℕ) → slice_get (map (beside first) xs) i ≡ Some o → (slice_get xs i ≡ Some o) ⊎ ((slice_get xs i ≡ Some Done) × (first : ℕ) × (o ≡ AtomicOther first))
+    among first [] i is = cc
+    among first (x ∷ xs) zero is = by_done (is_done x) refl (some_same is)
+      where
+        by_done : (b : Bool) → is_done x ≡ b → (if b then AtomicOther first else x) ≡ o → (Some x ≡ Some o) ⊎ ((Some x ≡ Some Done) × (first : ℕ) × (o ≡ AtomicOther first))
+        by_done true done same = inr (ap (λ (y : Outcome). Some y) (done_is x done), first, sym same)
+        by_done false other same = inl (ap (λ (y : Outcome). Some y) same)
+    among first (x ∷ xs) (suc i) is = among first xs i is
+
+    by_first : (p : Option ℕ) → slice_get (beside_first p os) k ≡ Some o → (slice_get os k ≡ Some o) ⊎ ((slice_get os k ≡ Some Done) × (first : ℕ) × (o ≡ AtomicOther first))
+    by_first None is = inl is
+    by_first (Some first) is = among first os k is
+
 module _ (ps : Patterns) (now : Repository) (pinned : Pinned) (pack : List Content) (cs : List Command) (atomic : Bool) (js : List (Option Outcome)) (judges : JudgesAll ps pinned pack cs js) where
   abbrev told : List Outcome
   told = outcomes_in now pack cs atomic js
@@ -219,20 +241,19 @@ module _ (ps : Patterns) (now : Repository) (pinned : Pinned) (pack : List Conte
   abbrev run : List Outcome
   run = in_order now.refs cs js
 
-  -- An outcome that is told by the refs is of a command of which the opening says nothing, so of the only one for its ref, and is told by the value that this had at first
-  pub record IsByRefs (c : Command) (o : Outcome) : Type 0 where
+  -- An outcome that is told by the refs is of a command of which the opening says nothing, so of the only one for its ref, and is told by the refs at its turn, where this has the value that it had at first
+  pub record IsByRefs (k : ℕ) (c : Command) (o : Outcome) : Type 0 where
     pub untold : Judges ps pinned pack cs c None
-    pub met : Refs
-    pub same : value met c.name ≡ value now.refs c.name
-    pub told_is : o ≡ by_refs met c None
+    pub same : value (refs_at now.refs cs run k) c.name ≡ value now.refs c.name
+    pub told_is : o ≡ by_refs (refs_at now.refs cs run k) c None
 
-  pub by_refs_at : (k : ℕ) (c : Command) (o : Outcome) → slice_get cs k ≡ Some c → slice_get run k ≡ Some o → is_by_refs o ≡ true → IsByRefs c o
+  pub by_refs_at : (k : ℕ) (c : Command) (o : Outcome) → slice_get cs k ≡ Some c → slice_get run k ≡ Some o → is_by_refs o ≡ true → IsByRefs k c o
   by_refs_at k c o is ran by = go first.0 first.1 first.2
     where
       first : (j : Option Outcome) × (slice_get js k ≡ Some j) × ((x : Outcome) → j ≡ Some x → x ≡ o)
       first = told_at now.refs cs js k o ran
 
-      go : (j : Option Outcome) → slice_get js k ≡ Some j → ((x : Outcome) → j ≡ Some x → x ≡ o) → IsByRefs c o
+      go : (j : Option Outcome) → slice_get js k ≡ Some j → ((x : Outcome) → j ≡ Some x → x ≡ o) → IsByRefs k c o
       go (Some x) e same =
           let here : Judges ps pinned pack cs c (Some x) = judged_at (Judges ps pinned pack cs) cs js judges k c (Some x) is e in
           let fails : is_by_refs o ≡ false = ap is_by_refs (sym (same x refl)) ∙ by_opening ps pinned pack cs c (Some x) here in
@@ -241,72 +262,51 @@ module _ (ps : Patterns) (now : Repository) (pinned : Pinned) (pack : List Conte
           let here : Judges ps pinned pack cs c None = judged_at (Judges ps pinned pack cs) cs js judges k c None is e in
           let met = met_at now.refs cs js k c o (once_untold ps pinned pack cs c here) is ran in
           let none : met.0 ≡ None = some_same (sym met.1 ∙ e) in
-          record { untold = here; met = met.2; same = met.3; told_is = met.4 ∙ ap (by_refs met.2 c) none }
+          record { untold = here; same = met.2; told_is = met.3 ∙ ap (by_refs (refs_at now.refs cs run k) c) none }
 
   done_ran : (k : ℕ) → slice_get told k ≡ Some Done → told ≡ run
   done_ran k done = (done_in_order now pack cs atomic js (done_among told k done)).1
 
-  pub done_by_refs : (k : ℕ) (c : Command) → slice_get cs k ≡ Some c → slice_get told k ≡ Some Done → IsByRefs c Done
+  pub done_by_refs : (k : ℕ) (c : Command) → slice_get cs k ≡ Some c → slice_get told k ≡ Some Done → IsByRefs k c Done
   done_by_refs k c is done = by_refs_at k c Done is (ap (λ (os : List Outcome). slice_get os k) (sym (done_ran k done)) ∙ done) refl
 
   -- a command that is done
   pub done_met : (k : ℕ) (c : Command) → slice_get cs k ≡ Some c → slice_get told k ≡ Some Done → (value now.refs c.name ≡ c.old) × (value (refs_left now.refs cs told) c.name ≡ c.new)
   done_met k c is done =
       let met = done_by_refs k c is done in
-      (sym met.same ∙ met_done met.met c met.told_is, left_at now.refs cs told k c (once_untold ps pinned pack cs c met.untold) is done)
+      (sym met.same ∙ met_done (refs_at now.refs cs run k) c met.told_is, left_at now.refs cs told k c (once_untold ps pinned pack cs c met.untold) is done)
 
-  -- what stays stale was stale in order
-  stale_ran : (k : ℕ) (v : ObjectId) → slice_get told k ≡ Some (Stale v) → slice_get run k ≡ Some (Stale v)
-  stale_ran k v is = by_collision (collision now.objects pack) is
+  -- where one is told by the refs or beside another's refusal, the outcomes are those in order, together
+  pub told_together : (k : ℕ) (o : Outcome) → slice_get told k ≡ Some o → is_by_refs o ≡ true → told ≡ together atomic run
+  told_together k o is by = by_collision (collision now.objects pack) is
     where
-      not_alike : (o : Outcome) → (Some (Stale v) ≡ Some o → ⊥) → (ds : List Command) (i : ℕ) → slice_get (map (λ (c : Command). o) ds) i ≡ Some (Stale v) → ⊥
-      not_alike o other [] i is = cc
-      not_alike o other (d ∷ ds) zero is = other (sym is)
-      not_alike o other (d ∷ ds) (suc i) is = not_alike o other ds i is
+      alike : (a : Outcome) → is_by_refs a ≡ false → (ds : List Command) (i : ℕ) → slice_get (map (λ (d : Command). a) ds) i ≡ Some o → ⊥
+      alike a fails [] i is = cc
+      alike a fails (d ∷ ds) zero is = let bad : false ≡ true = sym fails ∙ ap is_by_refs (some_same is) ∙ by in cc
+      alike a fails (d ∷ ds) (suc i) is = alike a fails ds i is
 
-      beside_stale : (first : ℕ) (o : Outcome) → beside first o ≡ Stale v → o ≡ Stale v
-      beside_stale first Done is = cc
-      beside_stale first BadName is = cc
-      beside_stale first Twice is = cc
-      beside_stale first NoChange is = cc
-      beside_stale first (NotAdvertised id) is = cc
-      beside_stale first (Missing id) is = cc
-      beside_stale first (WrongKind id) is = cc
-      beside_stale first (Denied verdict letter name) is = cc
-      beside_stale first ManyPaths is = cc
-      beside_stale first (ConfRefused fault) is = cc
-      beside_stale first (Stale id) is = is
-      beside_stale first (DirFile r) is = cc
-      beside_stale first (AtomicOther i) is = cc
-      beside_stale first (Collided id) is = cc
-      beside_stale first (Full n) is = cc
+      by_full : (b : Bool) → slice_get (if b then map (λ c. Full (length (with_pack now.objects pack))) cs else together atomic run) k ≡ Some o
+          → (if b then map (λ c. Full (length (with_pack now.objects pack))) cs else together atomic run) ≡ together atomic run
+      by_full true is = absurd (alike (Full (length (with_pack now.objects pack))) refl cs k is)
+      by_full false is = refl
 
-      among : (first : ℕ) (os : List Outcome) (i : ℕ) → slice_get (map (beside first) os) i ≡ Some (Stale v) → slice_get os i ≡ Some (Stale v)
-      among first [] i is = cc
-      among first (o ∷ os) zero is = ap (λ (x : Outcome). Some x) (beside_stale first o (some_same is))
-      among first (o ∷ os) (suc i) is = among first os i is
-
-      by_first : (p : Option ℕ) → slice_get (beside_first p run) k ≡ Some (Stale v) → slice_get run k ≡ Some (Stale v)
-      by_first None is = is
-      by_first (Some first) is = among first run k is
-
-      by_atomic : (a : Bool) → slice_get (together a run) k ≡ Some (Stale v) → slice_get run k ≡ Some (Stale v)
-      by_atomic false is = is
-      by_atomic true is = by_first (position (λ o. not (is_done o)) run) is
-
-      by_full : (b : Bool) → slice_get (if b then map (λ c. Full (length (with_pack now.objects pack))) cs else together atomic run) k ≡ Some (Stale v) → slice_get run k ≡ Some (Stale v)
-      by_full true is = absurd (not_alike (Full (length (with_pack now.objects pack))) (λ same. cc) cs k is)
-      by_full false is = by_atomic atomic is
-
-      by_collision : (o : Option ObjectId) → slice_get (unless_collided o cs (unless_full (length (with_pack now.objects pack)) cs (together atomic run))) k ≡ Some (Stale v) → slice_get run k ≡ Some (Stale v)
-      by_collision (Some id) is = absurd (not_alike (Collided id) (λ same. cc) cs k is)
+      by_collision : (x : Option ObjectId) → slice_get (unless_collided x cs (unless_full (length (with_pack now.objects pack)) cs (together atomic run))) k ≡ Some o
+          → unless_collided x cs (unless_full (length (with_pack now.objects pack)) cs (together atomic run)) ≡ together atomic run
+      by_collision (Some id) is = absurd (alike (Collided id) refl cs k is)
       by_collision None is = by_full (nat_lt 4294967295 (length (with_pack now.objects pack))) is
+
+  -- and what isn't told beside another's was told in order
+  pub own_ran : (k : ℕ) (o : Outcome) → slice_get told k ≡ Some o → is_by_refs o ≡ true → ((first : ℕ) → ¬ (o ≡ AtomicOther first)) → slice_get run k ≡ Some o
+  own_ran k o is by other = elim (was_alone atomic run k o (ap (λ (os : List Outcome). slice_get os k) (sym (told_together k o is by)) ∙ is)) [
+    | inl same ↦ same
+    | inr w ↦ absurd (other w.1 w.2)
+  ]
 
   -- a command that is stale
   pub stale_met : (k : ℕ) (c : Command) (v : ObjectId) → slice_get cs k ≡ Some c → slice_get told k ≡ Some (Stale v) → (v ≡ value now.refs c.name) × ¬ (v ≡ c.old)
   stale_met k c v is stale =
-      let met = by_refs_at k c (Stale v) is (stale_ran k v stale) refl in
-      let was = met_stale met.met c v met.told_is in
+      let met = by_refs_at k c (Stale v) is (own_ran k (Stale v) stale refl (λ first same. cc)) refl in
+      let was = met_stale (refs_at now.refs cs run k) c v met.told_is in
       (was.0 ∙ met.same, was.1)
 
 -- where none is refused each is done

@@ -35,7 +35,7 @@ none_passing p q (n ∷ names) none some = by_tests (p n) (eq_by_cmp (slice_cmp 
     by_tests false true t same none some rest = ap p (same_bytes q n (texts_ties q n ∙ same)) ∙ t
     by_tests false false t same none some rest = rest none some
 
-none_first : (refs : Refs) (name : Name) → first_at_odds refs name ≡ None → HasNoneAtOdds refs name
+pub none_first : (refs : Refs) (name : Name) → first_at_odds refs name ≡ None → HasNoneAtOdds refs name
 none_first refs name none q some odds =
     let fails : are_at_odds q name ≡ false = none_passing (λ r. are_at_odds r name) q (keys refs) none (sym (contains_key-keys refs q) ∙ some) in
     let passes : are_at_odds q name ≡ true = test_of_odds q name odds in

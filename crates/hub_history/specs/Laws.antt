@@ -1,5 +1,5 @@
 -- Laws of the definitions.
-use Rattle.std.specs.Prelude.{◌≡◌, ◌↔◌, ◌⊎◌, ℕ, ◌+◌, ◌≤◌, Bool, true, List, [], ◌∷◌, ◌++◌, length, take, Option, Some}
+use Rattle.std.specs.Prelude.{◌≡◌, ◌↔◌, ◌⊎◌, ℕ, ◌+◌, ◌<◌, ◌≤◌, Bool, true, List, [], ◌∷◌, ◌++◌, length, take, Option, Some}
 use Rattle.std.specs.List.{slice_get}
 use Rattle.std.specs.FinMap.{get}
 use Rattle.git_object.specs.Content.{Content}
@@ -7,7 +7,7 @@ use Rattle.git_object.specs.declared.object_id.ObjectId.{ObjectId}
 use Rattle.conf_lex.specs.Names.{is_user_name}
 use Rattle.ancestry.specs.declared.facts.Facts.{Facts}
 use Rattle.ref_store.specs.Objects.{HasNamesOnce}
-use Rattle.ref_store.specs.Refs.{HasRefsApart, Name, value}
+use Rattle.ref_store.specs.Refs.{AreAtOdds, HasNoZero, HasRefsApart, IsLe, Name, Refs, value, zero_id}
 use Rattle.ref_store.specs.declared.command.Command.{Command}
 use Rattle.rule_compile.specs.Flat.{Flat}
 use Rattle.rule_compile.specs.Patterns.{AreTrue, Patterns}
@@ -23,13 +23,13 @@ use Rattle.hub_history.specs.declared.entry.PermsKept.{PermsKept}
 use Rattle.hub_history.specs.declared.entry.Event.{Event}
 use Rattle.hub_history.specs.declared.entry.Event.TheVariants.{Entered, Pushed}
 use Rattle.hub_history.specs.declared.outcome.Outcome.{Outcome}
-use Rattle.hub_history.specs.declared.outcome.Outcome.TheVariants.{Done, Stale}
+use Rattle.hub_history.specs.declared.outcome.Outcome.TheVariants.{AtomicOther, DirFile, Done, Stale}
 use Rattle.hub_history.specs.Conf.{AreInForce}
 use Rattle.hub_history.specs.History.{IsDue, IsDuePush, IsLegal, Stands, history, opening_at, pinned_by, replay}
 use Rattle.hub_history.specs.Opening.{IsDueOpening, Opening, Pinned, pinned_in}
 use Rattle.hub_history.specs.Push.{HasWholeRefs, Judges}
 use Rattle.hub_history.specs.Roles.{IsDueChange}
-use Rattle.hub_history.specs.State.{Conf, HasShortNames, Repository, State, conf_branch, conf_repository, repository_at, start, wild_of}
+use Rattle.hub_history.specs.State.{Conf, HasShortNames, Repository, State, conf_branch, conf_repository, repository_at, wild_of}
 
 -- ---- logs and their beginnings
 
@@ -97,6 +97,10 @@ RefsStayWhole = OfEachRepository HasWholeRefs
 abbrev pub RefsStayApart : Type 0
 RefsStayApart = OfEachRepository (λ repository. HasRefsApart repository.refs)
 
+-- no ref has the value zero, which stands for none
+abbrev pub RefsStayNonzero : Type 0
+RefsStayNonzero = OfEachRepository (λ repository. HasNoZero repository.refs)
+
 -- ---- what happens to a ref
 
 -- a ref's value in a repository, zero where there is none
@@ -143,6 +147,66 @@ abbrev pub StaleIsStale : Type 0
 StaleIsStale =
     (admin : Name) (before : List Entry) (entry : Entry) (pinned : Pinned) (command : Command) (is : ObjectId) → IsLegal admin (before ++ entry ∷ [])
     → TellsCommand admin before entry pinned command (Stale is) → (is ≡ ref_in (replay admin before) pinned.repo command.name) × ¬ (is ≡ command.old)
+
+-- a command has no refusal of its own: it is done, or is told only that another of its atomic push is refused
+abbrev pub HasNoRefusal : Outcome → Type 0
+HasNoRefusal outcome = (outcome ≡ Done) ⊎ ((first : ℕ) × (outcome ≡ AtomicOther first))
+
+-- the moment just before a command of a push: the refs just before the push, the push's commands with their outcomes, and the command's place among them
+pub record Moment : Type 0 where
+  pub refs : Refs
+  pub commands : List Command
+  pub outcomes : List Outcome
+  pub index : ℕ
+
+-- an earlier command of the push moves the ref to this value, and has no refusal of its own
+pub record IsMovedBefore (moment : Moment) (name : Name) (id : ObjectId) : Type 0 where
+  pub command : Command
+  pub outcome : Outcome
+  pub place : ℕ
+  pub earlier : place < moment.index
+  pub command_is : slice_get moment.commands place ≡ Some command
+  pub outcome_is : slice_get moment.outcomes place ≡ Some outcome
+  pub unrefused : HasNoRefusal outcome
+  pub for_ref : command.name ≡ name
+  pub to : command.new ≡ id
+
+-- no such command does
+abbrev pub IsUnmovedBefore : Moment → Name → Type 0
+IsUnmovedBefore moment name = (id : ObjectId) → ¬ IsMovedBefore moment name id
+
+-- a ref's value at the moment, zero where there is none: the one that an earlier command moves it to, and where none does the one just before the push
+abbrev pub IsValueAt : Moment → Name → ObjectId → Type 0
+IsValueAt moment name id = IsMovedBefore moment name id ⊎ (IsUnmovedBefore moment name × (value moment.refs name ≡ id))
+
+-- a ref is there at the moment
+abbrev pub IsThereAt : Moment → Name → Type 0
+IsThereAt moment name = (id : ObjectId) × IsValueAt moment name id × ¬ (id ≡ zero_id)
+
+-- A command creates a ref that isn't there, and this one is in its way: of the refs that are there it is the least, in byte order, that is a directory of the other or stands below it
+pub record IsInTheWay (moment : Moment) (command : Command) (r : Name) : Type 0 where
+  pub create : command.old ≡ zero_id
+  pub absent : value moment.refs command.name ≡ zero_id
+  pub unmoved : IsUnmovedBefore moment command.name
+  pub there : IsThereAt moment r
+  pub at_odds : AreAtOdds r command.name
+  pub least : (q : Name) → IsThereAt moment q → AreAtOdds q command.name → IsLe r q
+
+-- the moment just before a command of a push behind a log
+abbrev pub moment_of : {admin : Name} {before : List Entry} {entry : Entry} {pinned : Pinned} {command : Command} {outcome : Outcome} → TellsCommand admin before entry pinned command outcome → Moment
+moment_of {admin} {before} {entry} {pinned} tells = record { refs = (repository_at (replay admin before) pinned.repo).refs; commands = tells.commands; outcomes = tells.outcomes; index = tells.index }
+
+-- a command that is told of a directory conflict is told of the ref that is in its way
+abbrev pub DirFileIsInTheWay : Type 0
+DirFileIsInTheWay =
+    (admin : Name) (before : List Entry) (entry : Entry) (pinned : Pinned) (command : Command) (r : Name) → IsLegal admin (before ++ entry ∷ [])
+    → (tells : TellsCommand admin before entry pinned command (DirFile r)) → IsInTheWay (moment_of tells) command r
+
+-- a create that is done has no ref in its way
+abbrev pub DoneHasNoneInTheWay : Type 0
+DoneHasNoneInTheWay =
+    (admin : Name) (before : List Entry) (entry : Entry) (pinned : Pinned) (command : Command) → IsLegal admin (before ++ entry ∷ [])
+    → (tells : TellsCommand admin before entry pinned command Done) → command.old ≡ zero_id → (q : Name) → IsThereAt (moment_of tells) q → ¬ AreAtOdds q command.name
 
 -- an atomic push of which a command isn't done changes nothing
 abbrev pub RefusedAtomicChangesNothing : Type 0

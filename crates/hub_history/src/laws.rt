@@ -1,5 +1,5 @@
 // What holds of the definitions themselves.
-ghost use Rattle.hub_history.specs.Laws.{BeginningIsLegal, ChangesAreDone, ConfChangesAreDone, ConfStaysGood, DoneIsLet, DoneMoves, LegalByPlaces, NamesStayOnce, NamesStayShort, ObjectsOnlyGrow, OneAnswer, OpeningStays, PinsAreOfOpenings, PinsOfItsPlace, RefsStayApart, RefsStayWhole, RefusedAtomicChangesNothing, RepositoriesStay, StaleIsStale, StateStays};
+ghost use Rattle.hub_history.specs.Laws.{BeginningIsLegal, ChangesAreDone, ConfChangesAreDone, ConfStaysGood, DirFileIsInTheWay, DoneHasNoneInTheWay, DoneIsLet, DoneMoves, LegalByPlaces, NamesStayOnce, NamesStayShort, ObjectsOnlyGrow, OneAnswer, OpeningStays, PinsAreOfOpenings, PinsOfItsPlace, RefsStayApart, RefsStayNonzero, RefsStayWhole, RefusedAtomicChangesNothing, RepositoriesStay, StaleIsStale, StateStays};
 ghost use Rattle.hub_history.specs.RoleLaws.{AnswersTellOfRoles, ChangesAreOfOneRole, CreatedIsNew, CreatorsOpened, NewIsEmpty, RolesChangeThere, RolesStaySets};
 
 use rule_compile::some_patterns_are_true;
@@ -16,12 +16,15 @@ pub fn hold_laws()
     ensures names { NamesStayOnce }
     ensures apart { RefsStayApart }
     ensures whole { RefsStayWhole }
+    ensures nonzero { RefsStayNonzero }
     ensures grow { ObjectsOnlyGrow }
     ensures there { RepositoriesStay }
     ensures allowed { DoneIsLet }
     ensures moves { DoneMoves }
     ensures changes { ChangesAreDone }
     ensures stale { StaleIsStale }
+    ensures directory { DirFileIsInTheWay }
+    ensures room { DoneHasNoneInTheWay }
     ensures atomic { RefusedAtomicChangesNothing }
     ensures good { ConfStaysGood }
     ensures conf { ConfChangesAreDone }

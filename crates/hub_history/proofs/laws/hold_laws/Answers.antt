@@ -8,6 +8,8 @@ use Rattle.hub_history.proofs.AnswerLemmas.{one_answer}
 use Rattle.hub_history.proofs.ConfLemmas.{conf_changes, stays_good}
 use Rattle.hub_history.proofs.GrowthLemmas.{log_grows, objects_follow, stays_there}
 use Rattle.hub_history.proofs.WholeLogs.{refs_whole}
+use Rattle.hub_history.proofs.InTheWay.{directory_is, done_clear}
+use Rattle.hub_history.proofs.NoZero.{refs_nonzero}
 use Rattle.hub_history.proofs.MovedLogs.{changes_are_done, done_let, done_moves, refused_atomic, stale_is}
 use Rattle.hub_history.proofs.RoleLemmas.{answers_tell, change_of_one, created_is_new, creators_opened, new_is_empty, roles_change_there, roles_sets}
 use Rattle.hub_history.proofs.ObjectLemmas.{names_once}
@@ -45,6 +47,9 @@ returns-clause-apart c = refs_apart c.some_patterns_are_true.ensures.0 c.some_pa
 pub returns-clause-whole : goal.returns-clause-whole
 returns-clause-whole c = refs_whole c.some_patterns_are_true.ensures.0 c.some_patterns_are_true.ensures.1
 
+pub returns-clause-nonzero : goal.returns-clause-nonzero
+returns-clause-nonzero c = refs_nonzero c.some_patterns_are_true.ensures.0 c.some_patterns_are_true.ensures.1
+
 pub returns-clause-grow : goal.returns-clause-grow
 returns-clause-grow c = λ admin log more legal repo.
     objects_follow (replay admin log) (replay admin (log ++ more)) (log_grows c.some_patterns_are_true.ensures.0 c.some_patterns_are_true.ensures.1 admin log more legal) repo
@@ -67,6 +72,12 @@ returns-clause-changes c = λ admin before entry repo name legal differs.
 pub returns-clause-stale : goal.returns-clause-stale
 returns-clause-stale c = λ admin before entry pinned command is legal tells.
     stale_is c.some_patterns_are_true.ensures.0 c.some_patterns_are_true.ensures.1 admin before entry legal pinned command is tells
+
+pub returns-clause-directory : goal.returns-clause-directory
+returns-clause-directory c = λ admin before entry pinned command r legal tells. directory_is c.some_patterns_are_true.ensures.0 c.some_patterns_are_true.ensures.1 admin before entry legal pinned command r tells
+
+pub returns-clause-room : goal.returns-clause-room
+returns-clause-room c = λ admin before entry pinned command legal tells. done_clear c.some_patterns_are_true.ensures.0 c.some_patterns_are_true.ensures.1 admin before entry legal pinned command tells
 
 pub returns-clause-atomic : goal.returns-clause-atomic
 returns-clause-atomic c = λ admin before caller place pack commands outcomes made index outcome legal at refused.
