@@ -32,6 +32,3 @@ pub use opening::{first_stage, may_create, unborn_stage};
 pub use rule_compile::{Policy, Rule};
 pub use verdicts::{Verdict, Vref, Want};
 pub use wild_perms::Wild;
-
-#[cfg(test)]
-mod tests;

@@ -40,6 +40,4 @@ pub use walks::Walks;
 pub use wholeness::{Wholeness, whole};
 
 #[cfg(test)]
-mod history_tests;
-#[cfg(test)]
 mod tests;

@@ -18,6 +18,3 @@ pub use item_list::ItemList;
 pub use name_map::NameMap;
 pub use no_memory::NoMemory;
 pub use text::Text;
-
-#[cfg(test)]
-mod tests;

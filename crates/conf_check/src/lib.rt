@@ -12,6 +12,3 @@ mod report;
 pub use base_types::NoMemory;
 pub use lines::flat_text;
 pub use report::{Report, check_conf, conf_texts_agree};
-
-#[cfg(test)]
-mod tests;

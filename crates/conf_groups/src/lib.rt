@@ -31,6 +31,3 @@ pub use laws::hold_laws;
 pub use limits::{MAX_FILE_BYTES, MAX_FILES, MAX_LINES, MAX_SPLICED_BYTES};
 pub use placed::{Placed, PlacedLine, PlacedList, Scope};
 pub use splicing::expand;
-
-#[cfg(test)]
-mod tests;

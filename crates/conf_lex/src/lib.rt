@@ -35,6 +35,3 @@ pub use repo_words::{RepoWordKind, kind_of, repo_word};
 pub use statement::{Statement, TextList};
 pub use user_name::{MAX_USER_NAME, UserName};
 pub use words::MAX_WORD;
-
-#[cfg(test)]
-mod tests;

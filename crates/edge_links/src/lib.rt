@@ -20,6 +20,3 @@ pub use memory_door::MemoryDoor;
 pub use standard::{StdSink, StdSource};
 pub use tcp_door::TcpDoor;
 pub use tcp_link::TcpLink;
-
-#[cfg(test)]
-mod tests;

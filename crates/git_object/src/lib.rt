@@ -30,6 +30,3 @@ pub use object::{MAX_BODY, Object, ObjectList, share};
 pub use object_id::ObjectId;
 pub use spelling::{commits_are_as_written, tags_are_as_written, trees_are_as_written};
 pub use tree::{TreeEntries, TreeEntry};
-
-#[cfg(test)]
-mod tests;

@@ -31,9 +31,7 @@ fn say_hello<L: Link>(alloc: Global, link: &mut L, user: &UserName) -> Result<()
     ensures runs { (desk : DeskView) → Runs (L.state link.old) (L.state link.new) desk desk (write (packet (hello user.now))) (outcome_of result) }
     ensures tells { TellsLink (L.state link.old) (L.state link.new) result }
 {
-    let Ok(text) = hello_text(alloc, user) else {
-        return Err(SessionEnd::NoMemory);
-    };
+    let text = hello_text(alloc, user)?;
     say(link, &text)
 }
 
@@ -41,9 +39,7 @@ fn say_line<L: Link>(alloc: Global, link: &mut L, line: &LookLine) -> Result<(),
     ensures runs { (desk : DeskView) → Runs (L.state link.old) (L.state link.new) desk desk (write (packet (look_line line.now))) (outcome_of result) }
     ensures tells { TellsLink (L.state link.old) (L.state link.new) result }
 {
-    let Ok(text) = line_text(alloc, line) else {
-        return Err(SessionEnd::NoMemory);
-    };
+    let text = line_text(alloc, line)?;
     say(link, fitting(text.bytes()))
 }
 

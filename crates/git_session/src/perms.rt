@@ -41,9 +41,7 @@ fn say_role<L: Link>(alloc: Global, link: &mut L, entry: &RoleEntry) -> Result<(
     ensures runs { (desk : DeskView) → Runs (L.state link.old) (L.state link.new) desk desk (write (packet (role_line entry.now))) (outcome_of result) }
     ensures tells { TellsLink (L.state link.old) (L.state link.new) result }
 {
-    let Ok(text) = role_text(alloc, entry) else {
-        return Err(SessionEnd::NoMemory);
-    };
+    let text = role_text(alloc, entry)?;
     say(link, &text)
 }
 

@@ -1,7 +1,9 @@
-// Fetches up to their limits. The shipped script has the rows of what each is told.
+// Fetches up to their limits, and fetches that are cut off. The shipped script has the rows of what each is told.
 use crate::session_tests::{first_push, new_desk, serve};
-use hub::NoMemory;
-use session_core::SessionEnd;
+use git_session::session;
+use hub::{LoneDesk, NoMemory};
+use pktline_core::MemoryLink;
+use session_core::{OpenGate, SessionEnd};
 use std::alloc::Global;
 use std::test::Fail;
 
@@ -50,5 +52,89 @@ fn as_many_wants_and_flushes_are_taken_as_there_may_be(rt: HostRuntime) -> Resul
         let (end, written) = serve(alloc, &mut desk, &fetch_of(alloc, wants, flushes)?, 65_520)?;
         assert!(rt; end == due && written.ends_with(text));
     }
+    Ok(())
+}
+
+// A desk at a hub with the first push.
+fn pushed_desk(alloc: Global) -> Result<LoneDesk, NoMemory> {
+    let mut desk = new_desk(alloc)?;
+    let (_, _) = serve(alloc, &mut desk, &first_push(alloc)?, 65_520)?;
+    Ok(desk)
+}
+
+// How many bytes are due of a fetch of one want and two flushes, of which so many bytes were read: the first packet has
+// 35 and leads to the advertisement, of 147; the second flush, up to byte 93, to a `NAK`, of 8; and `done`, up to byte
+// 102, to another and the pack, of 191.
+fn due_of(read: u64) -> usize {
+    match read {
+        0..35 => 0,
+        35..93 => 147,
+        93..102 => 155,
+        _ => 354,
+    }
+}
+
+// The end of that fetch over a link that moves a byte a call and fails at these, and how many bytes were written.
+fn fetch_failing(
+    alloc: Global,
+    desk: &mut LoneDesk,
+    takes: &[u64],
+    puts: &[u64],
+) -> Result<(SessionEnd, usize), NoMemory> {
+    let input = fetch_of(alloc, 1, 2)?;
+    let mut link = MemoryLink::new(input, 1, takes.to_vec(alloc)?, puts.to_vec(alloc)?);
+    let end = session(alloc, &mut link, desk, &mut OpenGate);
+    Ok((end, link.written().len()))
+}
+
+#[test]
+fn a_fetch_whose_input_ends_early_has_its_end(rt: HostRuntime) -> Result<(), Fail> {
+    let alloc = rt.alloc();
+    let mut desk = pushed_desk(alloc)?;
+    let input = fetch_of(alloc, 1, 2)?;
+    assert_eq!(rt; input.len(), 102);
+    for size in 0..103u64 {
+        let part = input.split_at((size as usize).min(input.len())).0;
+        let (end, written) = serve(alloc, &mut desk, part, 1)?;
+        let due = if size < 102 {
+            SessionEnd::Truncated
+        } else {
+            SessionEnd::Served
+        };
+        assert!(rt; end == due && written.len() == due_of(size), "{size}");
+    }
+    assert_eq!(rt; desk.into_hub().into_log().len(), 2 + 68);
+    Ok(())
+}
+
+#[test]
+fn each_read_that_fails_ends_a_fetch(rt: HostRuntime) -> Result<(), Fail> {
+    let alloc = rt.alloc();
+    let mut desk = pushed_desk(alloc)?;
+    for call in 0..102u64 {
+        let due = (SessionEnd::ReadFault, due_of(call));
+        assert!(rt;
+            fetch_failing(alloc, &mut desk, &[call], &[])? == due,
+            "take {call}"
+        );
+    }
+    let served = fetch_failing(alloc, &mut desk, &[102], &[354])?;
+    assert!(rt; served == (SessionEnd::Served, 354));
+    assert_eq!(rt; desk.into_hub().into_log().len(), 2 + 68);
+    Ok(())
+}
+
+#[test]
+fn each_write_that_fails_ends_a_fetch(rt: HostRuntime) -> Result<(), Fail> {
+    let alloc = rt.alloc();
+    let mut desk = pushed_desk(alloc)?;
+    for call in 0..354u64 {
+        let due = (SessionEnd::WriteFault, call as usize);
+        assert!(rt;
+            fetch_failing(alloc, &mut desk, &[], &[call])? == due,
+            "put {call}"
+        );
+    }
+    assert_eq!(rt; desk.into_hub().into_log().len(), 2 + 354);
     Ok(())
 }

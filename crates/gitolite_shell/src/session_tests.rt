@@ -23,7 +23,7 @@ const TRAILER: [u8; 20] = [
 pub const EMPTY: &[u8] =
     b"00660000000000000000000000000000000000000000 capabilities^{}\0report-status delete-refs no-thin atomic\n0000";
 
-const MASTER: &[u8] =
+pub const MASTER: &[u8] =
     b"00681c73cda3964d5dd51bdaad94efd235c910cf59de refs/heads/master\0report-status delete-refs no-thin atomic\n0000";
 
 pub const DONE: &[u8] = b"000eunpack ok\n0019ok refs/heads/master\n0000";
@@ -163,8 +163,9 @@ fn each_write_that_fails_ends_a_session(rt: HostRuntime) -> Result<(), Fail> {
     Ok(())
 }
 
+// Where the first write fails nothing of the session is written, and the gate was called before.
 #[test]
-fn the_gate_stands_behind_an_opening(rt: HostRuntime) -> Result<(), Fail> {
+fn the_gate_stands_between_an_opening_and_what_is_written(rt: HostRuntime) -> Result<(), Fail> {
     let alloc = rt.alloc();
     let mut desk = new_desk(alloc)?;
     let mut gate = LastPlace {
@@ -172,26 +173,27 @@ fn the_gate_stands_behind_an_opening(rt: HostRuntime) -> Result<(), Fail> {
         place: None,
     };
     let denied = b"002bcarol git-receive-pack 'gitolite-admin'".as_slice();
-    for (input, due, calls, place) in [
-        (denied, SessionEnd::Denied, 0, None),
-        (OPENING, SessionEnd::Truncated, 1, Some(1)),
-        (
-            b"0023carol git-upload-pack 'testing'0000",
-            SessionEnd::Served,
-            2,
-            Some(2),
-        ),
+    let fetch = b"0023carol git-upload-pack 'testing'0000".as_slice();
+    for (input, failing, due, calls, place) in [
+        (denied, 99, SessionEnd::Denied, 0, None),
+        (OPENING, 99, SessionEnd::Truncated, 1, Some(1)),
+        (OPENING, 0, SessionEnd::WriteFault, 2, Some(2)),
+        (fetch, 99, SessionEnd::Served, 3, Some(3)),
+        (fetch, 0, SessionEnd::WriteFault, 4, Some(4)),
         (
             b"001acarol perms -l testing",
+            99,
             SessionEnd::Served,
-            2,
-            Some(2),
+            4,
+            Some(4),
         ),
     ] {
-        let input = input.to_vec(alloc)?;
-        let mut link = MemoryLink::new(input, 3, Vec::new(alloc), Vec::new(alloc));
+        let mut puts = Vec::new(alloc);
+        puts.push(failing)?;
+        let mut link = MemoryLink::new(input.to_vec(alloc)?, 3, Vec::new(alloc), puts);
         assert_eq!(rt; session(alloc, &mut link, &mut desk, &mut gate), due);
         assert!(rt; gate.calls == calls && gate.place == place);
+        assert!(rt; link.written().is_empty() == (failing == 0));
     }
     Ok(())
 }

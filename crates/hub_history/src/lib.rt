@@ -17,6 +17,3 @@ pub use conf_lex::{RepoName, UserName};
 pub use entry::{EnterKept, Entry, EntryList, Event, PermChange, PermsKept, RepoList};
 pub use laws::hold_laws;
 pub use outcome::{Outcome, OutcomeList};
-
-#[cfg(test)]
-mod tests;

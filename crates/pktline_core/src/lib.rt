@@ -25,6 +25,3 @@ pub use memory_link::MemoryLink;
 pub use packets::{MAX_PAYLOAD, Pkt, PktFault};
 pub use reading::PktReader;
 pub use writing::{write_flush, write_pkt};
-
-#[cfg(test)]
-mod tests;

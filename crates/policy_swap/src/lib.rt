@@ -25,6 +25,3 @@ pub use laws::hold_laws;
 pub use ref_store::Lens;
 pub use rows::MAX_ROWS;
 pub use rule_compile::{Policy, PolicyFault};
-
-#[cfg(test)]
-mod tests;

@@ -28,6 +28,3 @@ pub use laws::hold_laws;
 pub use reader::PackReader;
 pub use reading::read_pack;
 pub use writing::write_pack;
-
-#[cfg(test)]
-mod tests;

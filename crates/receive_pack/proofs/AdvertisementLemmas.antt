@@ -1,11 +1,9 @@
 -- An advertisement, ref by ref.
-use Rattle.std.proofs.Common.{◌≡◌, ℕ, ◌≤◌, suc, Bool, true, false, cond, List, [], ◌∷◌, ◌++◌, length, map, codes, refl, ◌∙◌, ap, append_assoc, arith, subst}
+use Rattle.std.proofs.Common.{◌≡◌, ℕ, ◌≤◌, suc, Bool, true, false, cond, List, [], ◌∷◌, ◌++◌, length, map, codes, refl, ap, append_assoc, arith, subst}
 use Rattle.std.proofs.lemmas.List.{append-nil}
 use Rattle.std.specs.List.{All, flat_map}
 use Rattle.std.specs.FinMap.{entries}
 use Rattle.git_object.specs.declared.object_id.ObjectId.{ObjectId}
-use Rattle.pktline_core.specs.LinkState.{LinkState}
-use Rattle.pktline_core.specs.Links.{KeepsReading}
 use Rattle.pktline_core.specs.Packets.{spelling, Flush}
 use Rattle.ref_store.specs.Refs.{Name, Refs, zero_id}
 use Rattle.session_core.specs.Packets.{packet}
@@ -44,11 +42,3 @@ short_rest refs ref rest is short = λ k d within. subst AreShort is short (suc 
 
 pub short_first : (refs : List (Name × ObjectId)) (ref : Name × ObjectId) (rest : List (Name × ObjectId)) → refs ≡ ref ∷ rest → AreShort refs → length ref.0 ≤ 1024
 short_first refs ref rest is short = subst AreShort is short 0 ref (omega arith)
-
--- ---- the link
-
-pub keeps_same : (a : LinkState) → KeepsReading a a
-keeps_same a = record { left = refl; given = refl; read_faults = refl }
-
-pub keeps_more : (a b c : LinkState) → KeepsReading a b → KeepsReading b c → KeepsReading a c
-keeps_more a b c p q = record { left = q.left ∙ p.left; given = q.given ∙ p.given; read_faults = q.read_faults ∙ p.read_faults }

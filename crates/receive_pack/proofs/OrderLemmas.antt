@@ -11,12 +11,12 @@ use Rattle.interaction_tree.specs.Order.{EntriesFirst}
 use Rattle.interaction_tree.proofs.OrderLemmas.{order_then}
 use Rattle.session_core.specs.declared.end.SessionEnd.{SessionEnd}
 use Rattle.session_core.specs.FirstPacket.{without_feed}
-use Rattle.session_core.specs.Packets.{malformed, next_packet, refuse}
+use Rattle.session_core.specs.Packets.{malformed, next_packet, or_malformed, refuse}
 use Rattle.session_core.specs.Rulebook.{Rulebook}
 use Rattle.session_core.proofs.OrderLemmas.{ReadLast, order_next}
 use Rattle.receive_pack.specs.declared.changes.Capabilities.{Capabilities}
 use Rattle.receive_pack.specs.Changes.{all_delete, change, first_capabilities, first_command}
-use Rattle.receive_pack.specs.Receiving.{commanded, commanding, further_in, no_more, or_malformed, pack_in, pack_unless, pushing, reading_pack, receiving, refusing_pack, taking_commands, taking_further, taking_pack, taking_push, taking_rest, up_to_flush}
+use Rattle.receive_pack.specs.Receiving.{commanded, commanding, further_in, no_more, pack_in, pack_unless, pushing, reading_pack, receiving, refusing_pack, taking_commands, taking_further, taking_pack, taking_push, taking_rest, up_to_flush}
 
 order_or_malformed : {A : Type 0} (offset : ℕ) (a : Option A) → EntriesFirst false (or_malformed offset a) ReadLast
 unfolding EntriesFirst ◌>>=◌ write refuse malformed ReadLast

@@ -15,18 +15,13 @@ use Rattle.session_core.specs.declared.end.SessionEnd.{SessionEnd}
 use Rattle.session_core.specs.declared.end.SessionEnd.TheVariants as end
 use Rattle.session_core.specs.FirstPacket.{without_feed}
 use Rattle.session_core.specs.Rulebook.{Rulebook}
-use Rattle.session_core.specs.Packets.{malformed, next_packet, refuse}
+use Rattle.session_core.specs.Packets.{next_packet, or_malformed, refuse}
 use Rattle.receive_pack.specs.declared.changes.Capabilities.{Capabilities}
 use Rattle.receive_pack.specs.declared.reports.ReportedPush.{ReportedPush}
 use Rattle.receive_pack.specs.Changes.{all_delete, change, first_capabilities, first_command}
 use Rattle.receive_pack.specs.Texts.{advertisement, bad_report, report}
 
 -- I. The commands
-
--- what the packet at this offset has to say
-abbrev pub or_malformed : {A : Type 0} → ℕ → Option A → Interaction SessionEnd A
-or_malformed offset None = malformed offset
-or_malformed offset (Some value) = gives value
 
 -- a command behind the first, in the packet at this offset; a flush gives none
 abbrev pub further_in : ℕ → packets.Packet → Interaction SessionEnd (Option Command)

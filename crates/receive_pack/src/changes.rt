@@ -2,14 +2,13 @@
 ghost use Rattle.std.specs.Prelude.{◌≡◌, ◌<◌, ◌==◌, not, length, position, IfOk, IfSome};
 ghost use Rattle.std.specs.List.{list_all};
 ghost use Rattle.std.specs.Option.{option_map};
-ghost use Rattle.git_object.specs.ObjectId.{hex_id};
 ghost use Rattle.git_object.specs.Reader.{up_to};
 ghost use Rattle.receive_pack.specs.Changes.{all_delete, before_zero, behind_zero, capabilities, change, deletes, first_capabilities, first_command, has_word, HasShortName, is_ref_text, parts};
 
 use base_types::{NoMemory, Text};
 use git_object::ObjectId;
 use ref_store::{Command, CommandList};
-use session_core::literal;
+use session_core::{hex_id, literal};
 use std::alloc::Global;
 
 /// What the client asks for of what the server can do.
@@ -76,16 +75,6 @@ fn parts_of(line: &[u8]) -> Option<Parts<'_>>
     let (new, end) = hex_id(digits)?;
     let text = literal(end, b" ")?;
     Some(Parts { old, new, text })
-}
-
-// The id of forty digits at the front, and what follows them.
-#[tactic(auto, unfolding(git_object::specs::ObjectId::hex_id))]
-fn hex_id(bytes: &[u8]) -> Option<(ObjectId, &[u8])>
-    ensures { option_map (λ r. (r.0, r.1.now)) result ≡ hex_id bytes.now }
-{
-    let (digits, rest) = bytes.split_at_checked(40)?;
-    let id = ObjectId::from_hex(digits)?;
-    Some((id, rest))
 }
 
 /// The first command of a push, if its line has one. Its ref's name is then short.

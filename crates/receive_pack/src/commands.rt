@@ -5,9 +5,10 @@ ghost use Rattle.hub.specs.Desk.{DeskView};
 ghost use Rattle.hub_history.specs.Push.{AreWithinLimits};
 ghost use Rattle.interaction_tree.specs.Runs.{Runs};
 ghost use Rattle.session_core.specs.End.{TellsLink, outcome_at, outcome_of};
+ghost use Rattle.session_core.specs.Packets.{or_malformed};
 ghost use Rattle.session_core.specs.Readers.{IsReady};
 ghost use Rattle.receive_pack.specs.Changes.{HasShortName, change, first_command};
-ghost use Rattle.receive_pack.specs.Receiving.{further_in, no_commands, no_more, or_malformed, taking_commands, taking_further};
+ghost use Rattle.receive_pack.specs.Receiving.{further_in, no_commands, no_more, taking_commands, taking_further};
 
 use crate::changes::{change, first_command};
 use pktline_core::{Link, Pkt, PktReader};

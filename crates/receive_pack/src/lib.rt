@@ -3,7 +3,7 @@
 //! - `changes`: what a line says that has a command, and what the client asks for;
 //! - `text`, `reports`: the texts that are written, and the report of a push;
 //! - `commands`: the commands of a push, up to the flush that ends them;
-//! - `receiving`: the advertisement, the pack and the push.
+//! - `receiving`: the whole of it, and its two parts: the advertisement, and the push.
 //!
 //! The rules are in `docs/SESSIONS.md`.
 #![tactic(auto)]
@@ -16,4 +16,4 @@ mod reports;
 mod tests;
 mod text;
 
-pub use receiving::receive;
+pub use receiving::{advertise_receive, receive, receive_commands};

@@ -152,8 +152,8 @@ fn take_push<L: Link, K: Desk>(
     push(alloc, link, desk, pin, capabilities, commands, pack)
 }
 
-// What follows the advertisement.
-fn receive_command<L: Link, K: Desk>(
+/// The second part: the commands, the pack and the push, with its report.
+pub fn receive_commands<L: Link, K: Desk>(
     alloc: Global,
     link: &mut L,
     desk: &mut K,
@@ -180,7 +180,7 @@ fn receive_command<L: Link, K: Desk>(
     }
 }
 
-/// What follows an opening: the advertisement, and a push or none.
+/// What follows an opening for writing: the advertisement, and a push or none.
 pub fn receive<L: Link, K: Desk>(
     alloc: Global,
     link: &mut L,
@@ -196,11 +196,20 @@ pub fn receive<L: Link, K: Desk>(
     ensures tells { TellsLink (L.state link.old) (L.state link.new) result }
     ensures goes { K.goes_on desk.old desk.new }
 {
-    advertise(alloc, link, pin.repo())?;
-    receive_command(alloc, link, desk, reader, pin)
+    advertise_receive(alloc, link, &pin)?;
+    receive_commands(alloc, link, desk, reader, pin)
 }
 
-// The refs of a repository, in the byte order of their names.
+/// The first part: the refs of the repository as it was at the opening, in the byte order of their names.
+pub fn advertise_receive<L: Link>(alloc: Global, link: &mut L, pin: &Pin) -> Result<(), SessionEnd>
+    requires names { HasShortNames pin.now.pinned.repository.refs }
+    ensures runs { (desk : DeskView) → Runs (L.state link.old) (L.state link.new) desk desk (write (advertisement pin.now.pinned.repository.refs)) (outcome_of result) }
+    ensures tells { TellsLink (L.state link.old) (L.state link.new) result }
+    ensures reading { KeepsReading (L.state link.old) (L.state link.new) }
+{
+    advertise(alloc, link, pin.repo())
+}
+
 fn advertise<L: Link>(alloc: Global, link: &mut L, repo: &Repo) -> Result<(), SessionEnd>
     requires names { HasShortNames repo.now.refs }
     ensures runs { (desk : DeskView) → Runs (L.state link.old) (L.state link.new) desk desk (write (advertisement repo.now.refs)) (outcome_of result) }
@@ -228,9 +237,7 @@ fn advertise_ref<L: Link>(
     ensures tells { TellsLink (L.state link.old) (L.state link.new) result }
     ensures reading { KeepsReading (L.state link.old) (L.state link.new) }
 {
-    let Ok(line) = ref_line(alloc, name, id, first) else {
-        return Err(SessionEnd::NoMemory);
-    };
+    let line = ref_line(alloc, name, id, first)?;
     say(link, &line)
 }
 

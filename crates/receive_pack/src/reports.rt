@@ -100,9 +100,7 @@ fn report_one<L: Link>(
     ensures runs { (desk : DeskView) → Runs (L.state link.old) (L.state link.new) desk desk (write (packet (status_text policy.now.rules push.now command.now.name outcome.now))) (outcome_of result) }
     ensures tells { TellsLink (L.state link.old) (L.state link.new) result }
 {
-    let Ok(line) = status_line(alloc, policy, push, command, outcome) else {
-        return Err(SessionEnd::NoMemory);
-    };
+    let line = status_line(alloc, policy, push, command, outcome)?;
     say(link, &line)
 }
 
@@ -164,9 +162,7 @@ fn say_fault<L: Link>(alloc: Global, link: &mut L, fault: PackFault) -> Result<(
     ensures tells { TellsLink (L.state link.old) (L.state link.new) result }
     ensures reading { KeepsReading (L.state link.old) (L.state link.new) }
 {
-    let Ok(line) = unpack_line(alloc, fault) else {
-        return Err(SessionEnd::NoMemory);
-    };
+    let line = unpack_line(alloc, fault)?;
     say(link, &line)
 }
 
@@ -193,8 +189,6 @@ fn report_error<L: Link>(alloc: Global, link: &mut L, command: &Command) -> Resu
     ensures tells { TellsLink (L.state link.old) (L.state link.new) result }
     ensures reading { KeepsReading (L.state link.old) (L.state link.new) }
 {
-    let Ok(line) = error_line(alloc, command) else {
-        return Err(SessionEnd::NoMemory);
-    };
+    let line = error_line(alloc, command)?;
     say(link, &line)
 }

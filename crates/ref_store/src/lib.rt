@@ -33,6 +33,3 @@ pub use lens::Lens;
 pub use ref_name::RefName;
 pub use repo::{Added, Applied, Compared, Repo};
 pub use salt::Salt;
-
-#[cfg(test)]
-mod tests;

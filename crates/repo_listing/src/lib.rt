@@ -20,6 +20,3 @@ pub use lines::{LookLine, LookList, line_text};
 pub use listing::{push_patterns, push_repo};
 pub use rule_compile::Policy;
 pub use wild_perms::Wild;
-
-#[cfg(test)]
-mod tests;

@@ -48,10 +48,3 @@ pub use refex::RefexFault;
 pub use rule::{OptionLine, RepoWord, Rule, UserWord};
 pub use rules_for::RulesFor;
 pub use warning::{Warning, WarningList};
-
-#[cfg(test)]
-mod index_tests;
-#[cfg(test)]
-mod limit_tests;
-#[cfg(test)]
-mod tests;

@@ -11,6 +11,3 @@
 mod frames;
 
 pub use frames::{Frame, FrameFault, read_frame, scripts_differ};
-
-#[cfg(test)]
-mod tests;

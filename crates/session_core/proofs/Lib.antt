@@ -1,4 +1,5 @@
 mod FirstLemmas
+pub mod LinkLemmas
 pub mod StepLemmas
 pub mod LineLemmas
 pub mod RulebookLemmas

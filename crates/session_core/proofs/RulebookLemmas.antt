@@ -1,6 +1,7 @@
 -- The rules in force along a log, and calls of a session that go by them.
 use Rattle.std.proofs.Common.{◌≡◌, ℕ, zero, suc, ◌+◌, ◌<◌, ◌≤◌, List, [], ◌∷◌, ◌++◌, length, take, Some, Result, Ok, Err, refl, sym, ◌∙◌, ap, subst, arith, append-nil, append_assoc, length-append}
 use Rattle.std.specs.List.{slice_get}
+use Rattle.std.specs.Result.{IsErrAnd}
 use Rattle.std.proofs.KnownBytes.{Appends-nil, Consumes-nil}
 use Rattle.std.proofs.lemmas.List.{take-append-le, take_all}
 use Rattle.pktline_core.specs.LinkState.{LinkState}
@@ -28,11 +29,12 @@ use Rattle.interaction_tree.specs.Laws.{LogsHaveAnswers}
 use Rattle.interaction_tree.proofs.AnswerLemmas.{agrees_front}
 use Rattle.interaction_tree.proofs.TraceLemmas.{trace_bind, trace_halts, trace_memory}
 use Rattle.session_core.specs.declared.end.SessionEnd.{SessionEnd}
+use Rattle.session_core.specs.declared.end.SessionEnd.TheVariants as end
 use Rattle.session_core.specs.End.{halt_of, outcome_at, outcome_of}
 use Rattle.session_core.specs.Packets.{EndsBy, next_packet}
 use Rattle.session_core.specs.Recorded.{IsRecorded, LegalLogsAreRecorded, Recorded}
 use Rattle.session_core.specs.Rulebook.{IsRulebook, LegalLogsHaveRulebooks, Rulebook, RulebooksAgree, RunsByRulebook}
-use Rattle.session_core.proofs.StepLemmas.{packet_ends, packet_read}
+use Rattle.session_core.proofs.StepLemmas.{packet_ends, packet_read, told_as}
 
 -- a log's rulebook is that of each beginning of it
 pub rulebook_front : (admin : Name) (log more : List Entry) (book : Rulebook) → IsRulebook admin (log ++ more) book → IsRulebook admin log book
@@ -104,6 +106,10 @@ memory_by a d t = record {
   later = later_same a;
   caused = tt;
 }
+
+-- the same told on by `?`
+pub lacks_by : {A : Type 0} (a : LinkState) (d : DeskView) (t : Rulebook → Interaction SessionEnd A) (r : Result A SessionEnd) → IsErrAnd r (λ (y : SessionEnd). y ≡ end.NoMemory) → RunsByRulebook a a d d t (outcome_of r)
+lacks_by {A} a d t r is = told_as end.NoMemory (λ (r : Result A SessionEnd). RunsByRulebook a a d d t (outcome_of r)) (memory_by a d t) r is
 
 -- by one rulebook
 pub runs_by : {A : Type 0} (a b : LinkState) (d e : DeskView) (t : Rulebook → Interaction SessionEnd A) (out : Result A (Halt SessionEnd)) (book : Rulebook) → IsRulebook e.admin e.seen book → RunsByRulebook a b d e t out → Runs a b d e (t book) out

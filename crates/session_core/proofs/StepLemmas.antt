@@ -1,7 +1,11 @@
 -- Calls of a session, one after the other.
 use Rattle.std.proofs.Common.{◌≡◌, ◌+◌, inl, inr, ℕ, List, [], ◌++◌, length, Option, Result, Ok, Err, refl, sym, ◌∙◌, ap, subst, arith, append_assoc, length-append}
+use Rattle.std.specs.Result.{IsErrAnd}
+use Rattle.std.proofs.lemmas.Result.{err_from_is_err_and}
 use Rattle.pktline_core.specs.LinkState.{LinkState}
-use Rattle.pktline_core.specs.Links.{IsLater, KeepsWriting}
+use Rattle.pktline_core.specs.Links.{IsLater, KeepsReading, KeepsWriting, TellsWriting, Writes}
+use Rattle.pktline_core.specs.declared.links.WriteFault.{WriteFault}
+use Rattle.pktline_core.specs.declared.links.WriteFault.TheVariants as unwritten
 use Rattle.pktline_core.specs.Packets as packets
 use Rattle.pktline_core.specs.Reading.{ReadsPacket, TellsFault, packet_of, answer_of}
 use Rattle.pktline_core.specs.declared.packets.Pkt.{Pkt}
@@ -13,11 +17,11 @@ use Rattle.interaction_tree.specs.Requests.{OwnEntry}
 use Rattle.interaction_tree.specs.Interaction.{Interaction, gives, ends, writes, ◌>>=◌, write, read}
 use Rattle.interaction_tree.specs.Traces.{Reading, Writing, Memory, Halt, Ended, Failed, Begins, FallsShort, IsTrace}
 use Rattle.interaction_tree.specs.Runs.{Runs, TakesOnly}
-use Rattle.interaction_tree.proofs.RunLemmas.{runs_still, runs_bind, runs_gives, runs_ends, runs_halts, runs_read, runs_failed, runs_cut}
+use Rattle.interaction_tree.proofs.RunLemmas.{runs_still, runs_bind, runs_gives, runs_ends, runs_halts, runs_memory, runs_read, runs_failed, runs_cut, runs_written}
 use Rattle.session_core.specs.declared.end.SessionEnd.{SessionEnd}
 use Rattle.session_core.specs.declared.end.SessionEnd.TheVariants as end
-use Rattle.session_core.specs.End.{TellsEnd, halt_of, outcome_of, outcome_at}
-use Rattle.session_core.specs.Packets.{EndsBy, cut_short, malformed, next_packet, packet_in, refuse}
+use Rattle.session_core.specs.End.{TellsEnd, TellsLink, halt_of, outcome_of, outcome_at}
+use Rattle.session_core.specs.Packets.{EndsBy, cut_short, end_of_write, malformed, next_packet, packet_in, refuse}
 
 -- ---- one after the other
 
@@ -44,6 +48,42 @@ refused {B} a b d text end halt ran =
 pub malformed_here : {B : Type 0} (a b : LinkState) (d : DeskView) (offset : ℕ) (halt : Halt SessionEnd) → Runs {A = Unit {0}} a b d d (malformed offset) (Err halt) → Runs {A = B} a b d d (malformed offset) (Err halt)
 unfolding malformed
 malformed_here a b d offset halt ran = refused a b d _ _ halt ran
+
+-- ---- a fault of another type that `?` makes an end
+
+-- what holds of an end holds of it as it is told
+pub told_as : {A : Type 0} (end : SessionEnd) (P : Result A SessionEnd → Type 0) → P (Err end) → (r : Result A SessionEnd) → IsErrAnd r (λ (y : SessionEnd). y ≡ end) → P r
+told_as end P here r is = let p = err_from_is_err_and r is in subst P (sym (p.1 ∙ ap (λ (x : SessionEnd). Err x) p.2)) here
+
+-- out of memory, before anything is read or written
+module _ {A : Type 0} (a : LinkState) (d : DeskView) where
+  pub lacks : (t : Interaction SessionEnd A) (r : Result A SessionEnd) → IsErrAnd r (λ (y : SessionEnd). y ≡ end.NoMemory) → Runs a a d d t (outcome_of r)
+  lacks t r is = told_as end.NoMemory (λ (r : Result A SessionEnd). Runs a a d d t (outcome_of r)) (runs_memory a d t) r is
+
+  pub lacks_at : (t : Interaction SessionEnd (A × ℕ)) (r : Result A SessionEnd) (offset : ℕ) → IsErrAnd r (λ (y : SessionEnd). y ≡ end.NoMemory) → Runs a a d d t (outcome_at r offset)
+  lacks_at t r offset is = told_as end.NoMemory (λ (r : Result A SessionEnd). Runs a a d d t (outcome_at r offset)) (runs_memory a d t) r is
+
+module _ (a b : LinkState) (result : Result (Unit {0}) WriteFault) where
+  module _ (d : DeskView) (bytes : List ℕ) (w : Writes a b bytes result) (keeps : KeepsReading a b) (later : IsLater a b) where
+    written_by : (cause : WriteFault) → result ≡ Err cause → Runs a b d d (write bytes) (Err (halt_of (end_of_write cause)))
+    written_by unwritten.Failed was = runs_written SessionEnd a b d bytes result (Err unwritten.Failed) was w keeps later
+    written_by unwritten.NoMemory was = runs_written SessionEnd a b d bytes result (Err unwritten.NoMemory) was w keeps later
+
+    -- bytes that aren't written
+    pub write_exits : (cause : WriteFault) → result ≡ Err cause → (r : Result (Unit {0}) SessionEnd) → IsErrAnd r (λ (y : SessionEnd). y ≡ end_of_write cause) → Runs a b d d (write bytes) (outcome_of r)
+    write_exits cause was r is = told_as (end_of_write cause) (λ (r : Result (Unit {0}) SessionEnd). Runs a b d d (write bytes) (outcome_of r)) (written_by cause was) r is
+
+    -- bytes that are
+    pub write_goes : (u : Unit {0}) → result ≡ Ok u → Runs {E = SessionEnd} a b d d (write bytes) (Ok tt)
+    write_goes u was = runs_written SessionEnd a b d bytes result (Ok u) was w keeps later
+
+  -- no failure is hidden by bytes that aren't written
+  write_tells_end : (cause : WriteFault) → TellsWriting a b (Err cause) → KeepsReading a b → TellsEnd a b (end_of_write cause)
+  write_tells_end unwritten.Failed tells keeps = keeps.read_faults
+  write_tells_end unwritten.NoMemory tells keeps = (keeps.read_faults, tells)
+
+  pub write_tells : {A : Type 0} (cause : WriteFault) → result ≡ Err cause → (r : Result A SessionEnd) → IsErrAnd r (λ (y : SessionEnd). y ≡ end_of_write cause) → TellsWriting a b result → KeepsReading a b → TellsLink a b r
+  write_tells {A} cause was r is tells keeps = told_as (end_of_write cause) (λ (r : Result A SessionEnd). TellsLink a b r) (write_tells_end cause (subst (TellsWriting a b) was tells) keeps) r is
 
 -- ---- bytes in parts
 

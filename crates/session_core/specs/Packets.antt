@@ -1,8 +1,10 @@
 -- What a session writes and reads, packet by packet.
-use Rattle.std.specs.Prelude.{◌≡◌, ℕ, ◌+◌, List, [], Result, Ok, Err, codes}
+use Rattle.std.specs.Prelude.{◌≡◌, ℕ, ◌+◌, List, [], Option, Some, None, Result, Ok, Err, codes}
 use Rattle.pktline_core.specs.LinkState.{LinkState}
 use Rattle.pktline_core.specs.Packets as packets
 use Rattle.pktline_core.specs.Packets.{spelling, Line}
+use Rattle.pktline_core.specs.declared.links.WriteFault.{WriteFault}
+use Rattle.pktline_core.specs.declared.links.WriteFault.TheVariants.{Failed, NoMemory}
 use Rattle.pktline_core.specs.declared.packets.PktFault.{PktFault}
 use Rattle.pktline_core.specs.declared.packets.PktFault.TheVariants.{Truncated, BadLength, ReadFault}
 use Rattle.hub.specs.Desk.{DeskView}
@@ -17,6 +19,11 @@ use Rattle.session_core.specs.End.{halt_of}
 abbrev pub packet : List ℕ → List ℕ
 packet payload = spelling (Line payload)
 
+-- the end where bytes aren't written
+abbrev pub end_of_write : WriteFault → SessionEnd
+end_of_write Failed = end.WriteFault
+end_of_write NoMemory = end.NoMemory
+
 -- a last packet, and the end
 unfoldable pub refuse : {A : Type 0} → List ℕ → SessionEnd → Interaction SessionEnd A
 refuse text end = do
@@ -26,6 +33,11 @@ refuse text end = do
 -- the packet at this offset leaves the form
 unfoldable pub malformed : {A : Type 0} → ℕ → Interaction SessionEnd A
 malformed offset = refuse (codes "ERR malformed input") (end.Malformed offset)
+
+-- what the packet at this offset has to say; it leaves the form where it says nothing
+abbrev pub or_malformed : {A : Type 0} → ℕ → Option A → Interaction SessionEnd A
+or_malformed offset None = malformed offset
+or_malformed offset (Some value) = gives value
 
 -- where the input ends inside what is wanted nothing more is written
 abbrev pub cut_short : {F : Type 0} → F → CutOff SessionEnd

@@ -9,7 +9,8 @@ ghost use Rattle.session_core.specs.FirstPacket.{first_line};
 ghost use Rattle.session_core.specs.Readers.{IsReady};
 
 use crate::end::SessionEnd;
-use crate::first_packet::{Asked, FirstLine, first_line, without_feed};
+use crate::first_packet::{Asked, FirstLine, first_line};
+use crate::lines::without_feed;
 use crate::packets::{end_by, refuse};
 use pktline_core::{Link, Pkt, PktReader};
 use std::alloc::Global;
@@ -27,11 +28,10 @@ fn asked_in_line<L: Link>(alloc: Global, link: &mut L, line: &[u8]) -> Result<As
     ensures tells { TellsLink (L.state link.old) (L.state link.new) result }
     ensures same { OnOk result (L.state link.new ≡ L.state link.old) }
 {
-    match first_line(alloc, line) {
-        Ok(FirstLine::Asks(asked)) => Ok(asked),
-        Ok(FirstLine::BadCommand) => Err(bad_command(link)),
-        Ok(FirstLine::BadUser) => Err(refuse(link, b"ERR bad user", SessionEnd::BadUser)),
-        Err(_) => Err(SessionEnd::NoMemory),
+    match first_line(alloc, line)? {
+        FirstLine::Asks(asked) => Ok(asked),
+        FirstLine::BadCommand => Err(bad_command(link)),
+        FirstLine::BadUser => Err(refuse(link, b"ERR bad user", SessionEnd::BadUser)),
     }
 }
 

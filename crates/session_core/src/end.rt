@@ -2,8 +2,11 @@
 ghost use Rattle.std.specs.Prelude.{◌≡◌};
 ghost use Rattle.session_core.specs.End.{end_number};
 
+use base_types::NoMemory;
 use git_object::ObjectId;
+use pktline_core::WriteFault;
 use raw_pack::PackFault;
+use std::alloc::AllocError;
 
 /// How a session ends.
 #[derive(Clone, Copy, Debug, PartialEq, Eq)]
@@ -55,6 +58,39 @@ impl SessionEnd {
             SessionEnd::WriteFault => 11,
             SessionEnd::NoMemory => 12,
             SessionEnd::BadPack(_) => 13,
+        }
+    }
+}
+
+impl From<NoMemory> for SessionEnd {
+    ghost use Rattle.session_core.specs.declared.end.SessionEnd.TheVariants as end;
+
+    ghost from_gives = { λ _ e. e ≡ end.NoMemory };
+
+    fn from(_error: NoMemory) -> SessionEnd {
+        SessionEnd::NoMemory
+    }
+}
+
+impl From<AllocError> for SessionEnd {
+    ghost use Rattle.session_core.specs.declared.end.SessionEnd.TheVariants as end;
+
+    ghost from_gives = { λ _ e. e ≡ end.NoMemory };
+
+    fn from(_error: AllocError) -> SessionEnd {
+        SessionEnd::NoMemory
+    }
+}
+
+impl From<WriteFault> for SessionEnd {
+    ghost use Rattle.session_core.specs.Packets.{end_of_write};
+
+    ghost from_gives = { λ fault end. end ≡ end_of_write fault };
+
+    fn from(fault: WriteFault) -> SessionEnd {
+        match fault {
+            WriteFault::Failed => SessionEnd::WriteFault,
+            WriteFault::NoMemory => SessionEnd::NoMemory,
         }
     }
 }

@@ -2,9 +2,10 @@
 ghost use Rattle.std.specs.Prelude.{◌≡◌, ◌<◌, ◌==◌, length, position, IfOk, IfSome};
 ghost use Rattle.std.specs.Option.{option_copied, option_map};
 ghost use Rattle.std.specs.List.{list_all};
-ghost use Rattle.git_object.specs.Reader.{literal, up_to};
-ghost use Rattle.session_core.specs.FirstPacket.{behind_user, changing, first_line, granting, inside_quotes, is_role_byte, is_role_word, listing, looking, permitting, receiving, repo_named, revoking, role_and_user, role_change, service, unquoted, uploading, user_word, without_feed, without_slash};
+ghost use Rattle.git_object.specs.Reader.{up_to};
+ghost use Rattle.session_core.specs.FirstPacket.{behind_user, changing, first_line, granting, inside_quotes, is_role_byte, is_role_word, listing, looking, permitting, receiving, repo_named, revoking, role_and_user, role_change, service, unquoted, uploading, user_word, without_slash};
 
+use crate::lines::literal;
 use base_types::{NoMemory, Text};
 use conf_lex::{RepoName, UserName, repo_word};
 use hub::PermChange;
@@ -261,14 +262,6 @@ fn is_role_byte(c: u8) -> bool
     c.is_ascii_alphanumeric() || c == b'-' || c == b'_'
 }
 
-/// What follows this word at the front.
-#[tactic(auto, unfolding(git_object::specs::Reader::literal))]
-pub fn literal<'a>(bytes: &'a [u8], word: &[u8]) -> Option<&'a [u8]>
-    ensures { option_copied result ≡ literal word.now bytes.now }
-{
-    bytes.strip_prefix(word)
-}
-
 #[tactic(auto, unfolding(git_object::specs::Reader::up_to))]
 fn up_to_space(bytes: &[u8]) -> Option<(&[u8], &[u8])>
     ensures { option_map (λ r. (r.0.now, r.1.now)) result ≡ up_to 32 bytes.now }
@@ -301,15 +294,4 @@ fn quote_place(bytes: &[u8]) -> Option<usize>
     ensures within { IfSome result (λ at. at < length bytes.now) }
 {
     bytes.iter().position(|b| *b == b'\'')
-}
-
-/// The payload without one line feed at its end.
-#[tactic(auto, unfolding(crate::specs::FirstPacket::without_feed))]
-pub fn without_feed(payload: &[u8]) -> &[u8]
-    ensures { result.now ≡ without_feed payload.now }
-{
-    match payload.strip_suffix(b"\n") {
-        Some(text) => text,
-        None => payload,
-    }
 }

@@ -1,6 +1,7 @@
 //! What every session has: its first packet, its opening, its packets and its ends.
 //!
 //! - `end`: how a session ends;
+//! - `lines`: what a line of a client begins and ends with;
 //! - `packets`: packets that are written, refusals, and faults of packets that are read;
 //! - `first_packet`, `asking`: what the first packet asks for;
 //! - `denials`: the texts of denials;
@@ -17,16 +18,16 @@ mod end;
 mod first_packet;
 mod gate;
 mod laws;
+mod lines;
 mod opening;
 mod packets;
-#[cfg(test)]
-mod tests;
 
 pub use asking::ask;
 pub use denials::{fitting, push_denial, shown};
 pub use end::SessionEnd;
-pub use first_packet::{Asked, FirstLine, Service, first_line, literal, without_feed};
+pub use first_packet::{Asked, FirstLine, Service, first_line};
 pub use gate::{Gate, OpenGate};
 pub use laws::hold_laws;
+pub use lines::{hex_id, literal, without_feed};
 pub use opening::enter;
 pub use packets::{end_by, malformed, refuse, say, say_flush};

@@ -10,7 +10,7 @@ ghost use Rattle.session_core.specs.End.{TellsEnd, TellsLink, halt_of, outcome_o
 ghost use Rattle.session_core.specs.Packets.{EndsBy, malformed, packet, refuse};
 
 use crate::end::SessionEnd;
-use pktline_core::{Link, PktFault, WriteFault, write_flush, write_pkt};
+use pktline_core::{Link, PktFault, write_flush, write_pkt};
 
 /// Writes a packet of a line.
 pub fn say<L: Link>(link: &mut L, payload: &[u8]) -> Result<(), SessionEnd>
@@ -19,11 +19,8 @@ pub fn say<L: Link>(link: &mut L, payload: &[u8]) -> Result<(), SessionEnd>
     ensures tells { TellsLink (L.state link.old) (L.state link.new) result }
     ensures reading { KeepsReading (L.state link.old) (L.state link.new) }
 {
-    match write_pkt(link, payload) {
-        Ok(()) => Ok(()),
-        Err(WriteFault::Failed) => Err(SessionEnd::WriteFault),
-        Err(WriteFault::NoMemory) => Err(SessionEnd::NoMemory),
-    }
+    write_pkt(link, payload)?;
+    Ok(())
 }
 
 /// Writes a flush.
@@ -32,11 +29,8 @@ pub fn say_flush<L: Link>(link: &mut L) -> Result<(), SessionEnd>
     ensures tells { TellsLink (L.state link.old) (L.state link.new) result }
     ensures reading { KeepsReading (L.state link.old) (L.state link.new) }
 {
-    match write_flush(link) {
-        Ok(()) => Ok(()),
-        Err(WriteFault::Failed) => Err(SessionEnd::WriteFault),
-        Err(WriteFault::NoMemory) => Err(SessionEnd::NoMemory),
-    }
+    write_flush(link)?;
+    Ok(())
 }
 
 /// Writes the last packet, and says how the session ends.

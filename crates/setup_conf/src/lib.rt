@@ -13,6 +13,3 @@ pub use conf_lex::UserName;
 pub use laws::hold_laws;
 pub use rule_compile::Policy;
 pub use setup::{setup_files, setup_policy};
-
-#[cfg(test)]
-mod tests;

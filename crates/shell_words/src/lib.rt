@@ -14,6 +14,3 @@ mod options;
 
 pub use commands::{Asked, USAGE, WordsFault, read_words};
 pub use laws::hold_laws;
-
-#[cfg(test)]
-mod tests;

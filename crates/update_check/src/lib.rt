@@ -18,6 +18,3 @@ pub use check::UpdateCheck;
 pub use laws::hold_laws;
 pub use ref_store::{Command, Lens};
 pub use refusal::Refusal;
-
-#[cfg(test)]
-mod tests;

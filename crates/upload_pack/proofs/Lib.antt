@@ -1,4 +1,3 @@
-mod LinkLemmas
 mod AdvertisingLemmas
 mod IdLemmas
 mod WantLemmas

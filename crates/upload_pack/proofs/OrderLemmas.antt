@@ -12,13 +12,13 @@ use Rattle.interaction_tree.specs.Order.{EntriesFirst}
 use Rattle.interaction_tree.proofs.OrderLemmas.{order_then}
 use Rattle.session_core.specs.declared.end.SessionEnd.{SessionEnd}
 use Rattle.session_core.specs.FirstPacket.{without_feed}
-use Rattle.session_core.specs.Packets.{malformed, next_packet, refuse}
+use Rattle.session_core.specs.Packets.{malformed, next_packet, or_malformed, refuse}
 use Rattle.session_core.proofs.OrderLemmas.{order_next}
 use Rattle.upload_pack.specs.declared.haves.Inquiry.{Inquiry}
 use Rattle.upload_pack.specs.declared.haves.Inquiry.TheVariants.{Have}
 use Rattle.upload_pack.specs.declared.uploading.FetchEnd.{FetchEnd}
 use Rattle.upload_pack.specs.Lines.{first_want, have, is_done, want}
-use Rattle.upload_pack.specs.Wants.{by_want, not_ours, or_malformed, taking_want, taking_wants, too_many_wants, want_in}
+use Rattle.upload_pack.specs.Wants.{by_want, not_ours, taking_want, taking_wants, too_many_wants, want_in}
 use Rattle.upload_pack.specs.Haves.{common_after, ending_haves, inquiry_in, inquiry_in_line, replying, taking_haves, taking_inquiry, too_many_haves, unless_done}
 use Rattle.upload_pack.specs.Uploading.{fetching, refusing_want, serving, unless_foreign, uploading, wanted, wanting}
 

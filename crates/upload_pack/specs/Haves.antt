@@ -9,11 +9,10 @@ use Rattle.interaction_tree.specs.Interaction.{Interaction, gives, ◌>>=◌, wr
 use Rattle.session_core.specs.declared.end.SessionEnd.{SessionEnd}
 use Rattle.session_core.specs.declared.end.SessionEnd.TheVariants as end
 use Rattle.session_core.specs.FirstPacket.{without_feed}
-use Rattle.session_core.specs.Packets.{next_packet, packet, refuse}
+use Rattle.session_core.specs.Packets.{next_packet, or_malformed, packet, refuse}
 use Rattle.upload_pack.specs.declared.haves.Inquiry.{Inquiry}
 use Rattle.upload_pack.specs.declared.haves.Inquiry.TheVariants.{Have, Flush}
 use Rattle.upload_pack.specs.Lines.{have, is_done}
-use Rattle.upload_pack.specs.Wants.{or_malformed}
 
 -- I. What the client asks
 

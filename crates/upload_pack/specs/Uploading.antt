@@ -8,12 +8,12 @@ use Rattle.hub_history.specs.State.{store_of}
 use Rattle.interaction_tree.specs.Interaction.{Interaction, gives, ◌>>=◌, write}
 use Rattle.session_core.specs.declared.end.SessionEnd.{SessionEnd}
 use Rattle.session_core.specs.FirstPacket.{without_feed}
-use Rattle.session_core.specs.Packets.{next_packet, packet}
+use Rattle.session_core.specs.Packets.{next_packet, or_malformed, packet}
 use Rattle.upload_pack.specs.declared.uploading.FetchEnd.{FetchEnd}
 use Rattle.upload_pack.specs.declared.uploading.FetchEnd.TheVariants.{Served, NotOurRef}
 use Rattle.upload_pack.specs.Advertising.{advertisement}
 use Rattle.upload_pack.specs.Lines.{first_want}
-use Rattle.upload_pack.specs.Wants.{not_our_ref, not_ours, or_malformed, taking_wants}
+use Rattle.upload_pack.specs.Wants.{not_our_ref, not_ours, taking_wants}
 use Rattle.upload_pack.specs.Haves.{taking_haves}
 use Rattle.upload_pack.specs.Sending.{pack_bytes}
 

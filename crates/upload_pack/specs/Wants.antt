@@ -10,14 +10,9 @@ use Rattle.interaction_tree.specs.Interaction.{Interaction, gives, ◌>>=◌}
 use Rattle.session_core.specs.declared.end.SessionEnd.{SessionEnd}
 use Rattle.session_core.specs.declared.end.SessionEnd.TheVariants as end
 use Rattle.session_core.specs.FirstPacket.{without_feed}
-use Rattle.session_core.specs.Packets.{malformed, next_packet, refuse}
+use Rattle.session_core.specs.Packets.{next_packet, or_malformed, refuse}
 use Rattle.upload_pack.specs.Advertising.{advertised_ids}
 use Rattle.upload_pack.specs.Lines.{want}
-
--- what the packet at this offset has to say
-abbrev pub or_malformed : {A : Type 0} → ℕ → Option A → Interaction SessionEnd A
-or_malformed offset None = malformed offset
-or_malformed offset (Some value) = gives value
 
 -- a want behind the first, in the packet at this offset; a flush gives none
 abbrev pub want_in : ℕ → packets.Packet → Interaction SessionEnd (Option ObjectId)

@@ -31,9 +31,7 @@ pub fn advertise<L: Link>(alloc: Global, link: &mut L, repo: &Repo) -> Result<()
     ensures tells { TellsLink (L.state link.old) (L.state link.new) result }
     ensures reading { KeepsReading (L.state link.old) (L.state link.new) }
 {
-    let Ok(head) = head_of(alloc, repo) else {
-        return Err(SessionEnd::NoMemory);
-    };
+    let head = head_of(alloc, repo)?;
     advertise_head(alloc, link, head)?;
     advertise_refs(alloc, link, repo, head.is_none())
 }
@@ -84,9 +82,7 @@ fn advertise_refs<L: Link>(
     ensures tells { TellsLink (L.state link.old) (L.state link.new) result }
     ensures reading { KeepsReading (L.state link.old) (L.state link.new) }
 {
-    let Ok(lens) = Lens::new(alloc, repo, &ObjectList::new(alloc)) else {
-        return Err(SessionEnd::NoMemory);
-    };
+    let lens = Lens::new(alloc, repo, &ObjectList::new(alloc))?;
     let mut first = none;
     for (name, id) in repo.refs() {
         advertise_ref(alloc, link, &lens, name.bytes(), *id, first)?;
@@ -159,9 +155,7 @@ fn say_ref<L: Link>(
     ensures tells { TellsLink (L.state link.old) (L.state link.new) result }
     ensures reading { KeepsReading (L.state link.old) (L.state link.new) }
 {
-    let Ok(line) = ref_line(alloc, id, name, ending) else {
-        return Err(SessionEnd::NoMemory);
-    };
+    let line = ref_line(alloc, id, name, ending)?;
     say(link, &line)
 }
 

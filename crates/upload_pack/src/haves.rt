@@ -100,9 +100,7 @@ fn acknowledge<L: Link>(alloc: Global, link: &mut L, id: ObjectId) -> Result<(),
     ensures tells { TellsLink (L.state link.old) (L.state link.new) result }
     ensures reading { KeepsReading (L.state link.old) (L.state link.new) }
 {
-    let Ok(line) = ack_line(alloc, id) else {
-        return Err(SessionEnd::NoMemory);
-    };
+    let line = ack_line(alloc, id)?;
     say(link, &line)
 }
 
@@ -140,9 +138,7 @@ fn answer_have<L: Link>(
         return Ok(());
     }
     let is_first = common.is_empty();
-    let Ok(()) = common.push(id) else {
-        return Err(SessionEnd::NoMemory);
-    };
+    common.push(id)?;
     if is_first {
         return acknowledge(alloc, link, id);
     }

@@ -16,8 +16,6 @@ mod haves;
 mod laws;
 mod lines;
 mod sending;
-#[cfg(test)]
-mod tests;
 mod uploading;
 mod wants;
 

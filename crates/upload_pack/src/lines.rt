@@ -1,11 +1,10 @@
 // What a line of a client says that fetches.
 ghost use Rattle.std.specs.Prelude.{◌≡◌};
 ghost use Rattle.std.specs.Option.{option_map};
-ghost use Rattle.git_object.specs.ObjectId.{hex_id};
 ghost use Rattle.upload_pack.specs.Lines.{are_words, first_want, have, id_behind, is_done, is_nothing, want};
 
 use git_object::ObjectId;
-use session_core::literal;
+use session_core::{hex_id, literal};
 
 /// What the first want wants. Words behind a space have no effect.
 pub fn first_want(line: &[u8]) -> Option<ObjectId>
@@ -54,16 +53,6 @@ fn id_behind<'a>(line: &'a [u8], word: &[u8]) -> Option<(ObjectId, &'a [u8])>
 {
     let digits = literal(line, word)?;
     hex_id(digits)
-}
-
-// The id of forty digits at the front, and what follows it.
-#[tactic(auto, unfolding(git_object::specs::ObjectId::hex_id))]
-fn hex_id(bytes: &[u8]) -> Option<(ObjectId, &[u8])>
-    ensures { option_map (λ r. (r.0, r.1.now)) result ≡ hex_id bytes.now }
-{
-    let (digits, rest) = bytes.split_at_checked(40)?;
-    let id = ObjectId::from_hex(digits)?;
-    Some((id, rest))
 }
 
 fn is_nothing(text: &[u8]) -> bool

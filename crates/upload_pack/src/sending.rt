@@ -11,7 +11,7 @@ ghost use Rattle.upload_pack.specs.Sending.{pack_bytes, sent};
 use ancestry::reach;
 use base_types::NoMemory;
 use git_object::ObjectId;
-use pktline_core::{Link, WriteFault};
+use pktline_core::Link;
 use raw_pack::write_pack;
 use ref_store::Repo;
 use session_core::SessionEnd;
@@ -28,14 +28,9 @@ pub fn send_pack<L: Link>(
     ensures runs { (desk : DeskView) → Runs (L.state link.old) (L.state link.new) desk desk (write (pack_bytes repo.now.objects wants.now haves.now)) (outcome_of result) }
     ensures tells { TellsLink (L.state link.old) (L.state link.new) result }
 {
-    let Ok(places) = places_sent(alloc, repo, wants, haves) else {
-        return Err(SessionEnd::NoMemory);
-    };
-    match write_pack(link, repo, &places) {
-        Ok(()) => Ok(()),
-        Err(WriteFault::Failed) => Err(SessionEnd::WriteFault),
-        Err(WriteFault::NoMemory) => Err(SessionEnd::NoMemory),
-    }
+    let places = places_sent(alloc, repo, wants, haves)?;
+    write_pack(link, repo, &places)?;
+    Ok(())
 }
 
 // The places of those objects.

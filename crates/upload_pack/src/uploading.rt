@@ -105,10 +105,9 @@ fn fetch<L: Link>(
     ensures tells { TellsLink (L.state link.old) (L.state link.new) result }
 {
     let wants = take_wants(alloc, link, reader, first)?;
-    match not_ours(alloc, repo, wants.as_slice()) {
-        Ok(None) => serve(alloc, link, reader, repo, &wants),
-        Ok(Some(id)) => refuse_want(alloc, link, id),
-        Err(_) => Err(SessionEnd::NoMemory),
+    match not_ours(alloc, repo, wants.as_slice())? {
+        None => serve(alloc, link, reader, repo, &wants),
+        Some(id) => refuse_want(alloc, link, id),
     }
 }
 
@@ -117,9 +116,7 @@ fn refuse_want<L: Link>(alloc: Global, link: &mut L, id: ObjectId) -> Result<Fet
     ensures runs { (desk : DeskView) → Runs (L.state link.old) (L.state link.new) desk desk (refusing_want id) (outcome_of result) }
     ensures tells { TellsLink (L.state link.old) (L.state link.new) result }
 {
-    let Ok(text) = not_our_ref(alloc, id) else {
-        return Err(SessionEnd::NoMemory);
-    };
+    let text = not_our_ref(alloc, id)?;
     say(link, &text)?;
     Ok(FetchEnd::NotOurRef(id))
 }

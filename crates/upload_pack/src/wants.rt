@@ -4,9 +4,10 @@ ghost use Rattle.pktline_core.specs.Reading.{packet_of};
 ghost use Rattle.hub.specs.Desk.{DeskView};
 ghost use Rattle.interaction_tree.specs.Runs.{Runs};
 ghost use Rattle.session_core.specs.End.{TellsEnd, TellsLink, halt_of, outcome_at, outcome_of};
+ghost use Rattle.session_core.specs.Packets.{or_malformed};
 ghost use Rattle.session_core.specs.Readers.{IsReady};
 ghost use Rattle.upload_pack.specs.Lines.{first_want, want};
-ghost use Rattle.upload_pack.specs.Wants.{or_malformed, taking_want, taking_wants, too_many_wants, want_in};
+ghost use Rattle.upload_pack.specs.Wants.{taking_want, taking_wants, too_many_wants, want_in};
 
 use crate::lines::{first_want, want};
 use base_types::ItemList;
@@ -103,16 +104,12 @@ pub fn take_wants<L: Link>(
     ensures ready { OnOk result (IsReady reader.new (L.state link.new)) }
 {
     let mut wants = IdList::new(alloc);
-    let Ok(()) = wants.push(first) else {
-        return Err(SessionEnd::NoMemory);
-    };
+    wants.push(first)?;
     for _ in 1..MOST_WANTS {
         let Some(id) = take_want(link, reader)? else {
             return Ok(wants);
         };
-        let Ok(()) = wants.push(id) else {
-            return Err(SessionEnd::NoMemory);
-        };
+        wants.push(id)?;
     }
     match take_want(link, reader)? {
         None => Ok(wants),

@@ -38,8 +38,3 @@ pub use laws::hold_laws;
 pub use path_list::PathList;
 pub use paths::{Paths, changed_paths};
 pub use root::root_of;
-
-#[cfg(test)]
-mod path_tests;
-#[cfg(test)]
-mod tests;

@@ -16,6 +16,3 @@ pub use base_types::{ItemList, NoMemory, Text};
 pub use conf_lex::UserName;
 pub use role::{RoleEntry, RoleList};
 pub use wild::Wild;
-
-#[cfg(test)]
-mod tests;

@@ -1,7 +1,8 @@
 use Rattle.std.proofs.Common.{◌∙◌, ap, refl}
 use Rattle.std.proofs.lemmas.Result.{err_from_is_err_and}
+use Rattle.session_core.proofs.LinkLemmas.{keeps_same, keeps_more}
 use Rattle.session_core.proofs.StepLemmas.{says, says_exits}
-use Rattle.receive_pack.proofs.AdvertisementLemmas.{rest_text, rest_more, rest_none, advertisement_is, short_rest, short_first, keeps_same, keeps_more}
+use Rattle.receive_pack.proofs.AdvertisementLemmas.{rest_text, rest_more, rest_none, advertisement_is, short_rest, short_first}
 use Rattle.receive_pack.proofs.receiving.advertise.Goals as goal
 
 pub loop-name-init : goal.loop-name-init

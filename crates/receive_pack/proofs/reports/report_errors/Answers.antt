@@ -1,7 +1,7 @@
 use Rattle.std.proofs.Common.{rules, ◌≡◌, ◌<◌, ◌≤◌, length, get_or, refl, ◌∙◌}
 use Rattle.std.proofs.lemmas.Result.{err_from_is_err_and}
 use Rattle.session_core.proofs.StepLemmas.{says, says_exits, says_nothing}
-use Rattle.receive_pack.proofs.AdvertisementLemmas.{keeps_same, keeps_more}
+use Rattle.session_core.proofs.LinkLemmas.{keeps_same, keeps_more}
 use Rattle.receive_pack.proofs.ReportLemmas.{errors_all, errors_more, errors_end, short_here}
 use Rattle.receive_pack.proofs.reports.report_errors.Goals as goal
 

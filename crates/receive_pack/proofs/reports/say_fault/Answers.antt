@@ -1,8 +1,8 @@
-use Rattle.interaction_tree.proofs.RunLemmas.{runs_memory}
+use Rattle.session_core.proofs.StepLemmas.{lacks}
 use Rattle.receive_pack.proofs.reports.say_fault.Goals as goal
 
-pub returns-in_default-clause-runs : goal.returns-in_default-clause-runs
-returns-in_default-clause-runs g c = λ desk. runs_memory _ desk _
+pub returns-in_err-line-clause-runs : goal.returns-in_err-line-clause-runs
+returns-in_err-line-clause-runs g c = λ desk. lacks _ desk _ c.from_residual.result c.from_residual.ensures.1
 
 pub returns-clause-runs : goal.returns-clause-runs
-returns-clause-runs g c = λ desk. rw (c.deref.ensures.value, c.in-Ok.ensures.text) at (c.say.ensures.runs desk)
+returns-clause-runs g c = λ desk. rw (c.deref.ensures.value, c.in_ok-line.ensures.text) at (c.say.ensures.runs desk)

@@ -1,16 +1,16 @@
 use Rattle.std.proofs.Common.{sym}
-use Rattle.interaction_tree.proofs.RunLemmas.{runs_gives, runs_memory}
-use Rattle.session_core.proofs.StepLemmas.{refused}
+use Rattle.interaction_tree.proofs.RunLemmas.{runs_gives}
+use Rattle.session_core.proofs.StepLemmas.{lacks, refused}
 use Rattle.session_core.proofs.asking.asked_in_line.Goals as goal
 
-pub returns-in-Ok-Asks-clause-runs : goal.returns-in-Ok-Asks-clause-runs
-returns-in-Ok-Asks-clause-runs g c = λ desk. let is = rw c.in-Ok-Asks.field-0-is at c.in-Ok-Asks.ensures in rw (sym is) (runs_gives _ desk _)
+pub returns-in_err-asked-clause-runs : goal.returns-in_err-asked-clause-runs
+returns-in_err-asked-clause-runs g c = λ desk. lacks _ desk _ c.from_residual.result c.from_residual.ensures.1
 
-pub returns-in-Ok-BadCommand-clause-runs : goal.returns-in-Ok-BadCommand-clause-runs
-returns-in-Ok-BadCommand-clause-runs g c = λ desk. let is = rw c.in-Ok-BadCommand.field-0-is at c.in-Ok-BadCommand.ensures in rw (sym is) (c.bad_command.ensures.runs desk)
+pub returns-in-Asks-clause-runs : goal.returns-in-Asks-clause-runs
+returns-in-Asks-clause-runs g c = λ desk. let is = rw c.in-Asks.is at c.in_ok-asked.ensures in rw (sym is) (runs_gives _ desk _)
 
-pub returns-in-Ok-BadUser-clause-runs : goal.returns-in-Ok-BadUser-clause-runs
-returns-in-Ok-BadUser-clause-runs g c = λ desk. let is = rw c.in-Ok-BadUser.field-0-is at c.in-Ok-BadUser.ensures in rw (sym is) (refused _ _ desk _ _ _ (c.refuse.ensures.runs desk))
+pub returns-in-BadCommand-clause-runs : goal.returns-in-BadCommand-clause-runs
+returns-in-BadCommand-clause-runs g c = λ desk. let is = rw c.in-BadCommand.is at c.in_ok-asked.ensures in rw (sym is) (c.bad_command.ensures.runs desk)
 
-pub returns-in-Err-clause-runs : goal.returns-in-Err-clause-runs
-returns-in-Err-clause-runs g c = λ desk. runs_memory _ desk _
+pub returns-in-BadUser-clause-runs : goal.returns-in-BadUser-clause-runs
+returns-in-BadUser-clause-runs g c = λ desk. let is = rw c.in-BadUser.is at c.in_ok-asked.ensures in rw (sym is) (refused _ _ desk _ _ _ (c.refuse.ensures.runs desk))

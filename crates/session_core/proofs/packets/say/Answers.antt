@@ -1,11 +1,11 @@
-use Rattle.interaction_tree.proofs.RunLemmas.{runs_written}
+use Rattle.session_core.proofs.StepLemmas.{write_exits, write_goes, write_tells}
 use Rattle.session_core.proofs.packets.say.Goals as goal
 
-pub returns-in-Ok-clause-runs : goal.returns-in-Ok-clause-runs
-returns-in-Ok-clause-runs g c = λ desk. let w = c.write_pkt.ensures in runs_written _ _ _ desk _ c.write_pkt.result _ c.in-Ok.is w.writes w.reading w.later
+pub returns-in_err-write_pkt-clause-runs : goal.returns-in_err-write_pkt-clause-runs
+returns-in_err-write_pkt-clause-runs g c = λ desk. let w = c.write_pkt.ensures in write_exits _ _ c.write_pkt.result desk _ w.writes w.reading w.later _ c.in_err-write_pkt.was c.from_residual.result c.from_residual.ensures.1
 
-pub returns-in-Err-Failed-clause-runs : goal.returns-in-Err-Failed-clause-runs
-returns-in-Err-Failed-clause-runs g c = λ desk. let w = c.write_pkt.ensures in runs_written _ _ _ desk _ c.write_pkt.result _ (rw c.in-Err-Failed.field-0-is at c.in-Err-Failed.is) w.writes w.reading w.later
+pub returns-clause-runs : goal.returns-clause-runs
+returns-clause-runs g c = λ desk. let w = c.write_pkt.ensures in write_goes _ _ c.write_pkt.result desk _ w.writes w.reading w.later _ c.in_ok-write_pkt.was
 
-pub returns-in-Err-NoMemory-clause-runs : goal.returns-in-Err-NoMemory-clause-runs
-returns-in-Err-NoMemory-clause-runs g c = λ desk. let w = c.write_pkt.ensures in runs_written _ _ _ desk _ c.write_pkt.result _ (rw c.in-Err-NoMemory.field-0-is at c.in-Err-NoMemory.is) w.writes w.reading w.later
+pub returns-in_err-write_pkt-clause-tells : goal.returns-in_err-write_pkt-clause-tells
+returns-in_err-write_pkt-clause-tells g c = let w = c.write_pkt.ensures in write_tells _ _ c.write_pkt.result _ c.in_err-write_pkt.was c.from_residual.result c.from_residual.ensures.1 w.tells w.reading

@@ -1,13 +1,12 @@
 use Rattle.std.proofs.Common.{◌∙◌, ap, refl}
 use Rattle.std.proofs.lemmas.Result.{err_from_is_err_and}
-use Rattle.interaction_tree.proofs.RunLemmas.{runs_memory}
-use Rattle.session_core.proofs.StepLemmas.{says, says_exits}
-use Rattle.upload_pack.proofs.LinkLemmas.{keeps_same, keeps_more}
+use Rattle.session_core.proofs.StepLemmas.{lacks, says, says_exits}
+use Rattle.session_core.proofs.LinkLemmas.{keeps_same, keeps_more}
 use Rattle.upload_pack.proofs.AdvertisingLemmas.{lens_alone, rest_text, rest_more, rest_none, rest_whole, short_rest, short_first}
 use Rattle.upload_pack.proofs.advertising.advertise_refs.Goals as goal
 
-pub returns-in_default-clause-runs : goal.returns-in_default-clause-runs
-returns-in_default-clause-runs g c = λ desk. runs_memory _ desk _
+pub returns-in_err-lens-clause-runs : goal.returns-in_err-lens-clause-runs
+returns-in_err-lens-clause-runs g c = λ desk. lacks _ desk _ c.from_residual.result c.from_residual.ensures.1
 
 pub loop-name-init : goal.loop-name-init
 loop-name-init g c =
@@ -25,14 +24,14 @@ advertise_ref-requires g c = record { short = rw c.bytes.ensures (short_first _ 
 
 pub returns-in_err-advertise_ref-clause-runs : goal.returns-in_err-advertise_ref-clause-runs
 returns-in_err-advertise_ref-clause-runs g c = λ desk.
-    let p = err_from_is_err_and c.from_residual.result c.from_residual.ensures.1 in
-    let here = lens_alone _ _ _ c.in-Ok.ensures c.new.ensures in
+    let p = err_from_is_err_and c.from_residual-in_err-advertise_ref.result c.from_residual-in_err-advertise_ref.ensures.1 in
+    let here = lens_alone _ _ _ c.in_ok-lens.ensures c.new.ensures in
     let more = ap (rest_text c.args.repo.now.objects c.loop-name.first) c.in-Some.ensures.steps ∙ rest_more c.args.repo.now.objects c.loop-name.first _ _ in
     c.loop-name.invariant.writes _ desk _ (rw more (says_exits _ _ desk _ _ c.advertise_ref.result _ _ _ c.in_err-advertise_ref.was p.1 p.2 (rw (c.bytes.ensures, here) at (c.advertise_ref.ensures.runs desk))))
 
 pub loop-name-preserved : goal.loop-name-preserved
 loop-name-preserved g c =
-    let here = lens_alone _ _ _ c.in-Ok.ensures c.new.ensures in
+    let here = lens_alone _ _ _ c.in_ok-lens.ensures c.new.ensures in
     let more = ap (rest_text c.args.repo.now.objects c.loop-name.first) c.in-Some.ensures.steps ∙ rest_more c.args.repo.now.objects c.loop-name.first _ _ in
     record {
       writes = λ c' desk out ran.

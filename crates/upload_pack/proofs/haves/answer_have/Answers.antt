@@ -1,7 +1,6 @@
 use Rattle.std.proofs.Common.{sym, ◌∙◌, ◌≡◌, true, false, rules}
 use Rattle.ref_store.specs.Objects.{has_object}
-use Rattle.interaction_tree.proofs.RunLemmas.{runs_memory}
-use Rattle.session_core.proofs.StepLemmas.{says_nothing}
+use Rattle.session_core.proofs.StepLemmas.{lacks, says_nothing}
 use Rattle.upload_pack.proofs.HaveLemmas.{reply_first, reply_later}
 use Rattle.upload_pack.proofs.haves.answer_have.Goals as goal
 
@@ -10,8 +9,8 @@ returns-then-not-is_there-clause-runs g c = λ desk.
     let isnt : has_object c.args.repo.now.objects c.args.id ≡ false = search rules in
     rw isnt (says_nothing _ desk)
 
-pub returns-in_default-clause-runs : goal.returns-in_default-clause-runs
-returns-in_default-clause-runs g c = λ desk. runs_memory _ desk _
+pub returns-in_err-push-clause-runs : goal.returns-in_err-push-clause-runs
+returns-in_err-push-clause-runs g c = λ desk. lacks _ desk _ c.from_residual.result c.from_residual.ensures.1
 
 pub returns-then-is_first-clause-runs : goal.returns-then-is_first-clause-runs
 returns-then-is_first-clause-runs g c = λ desk.

@@ -1,12 +1,12 @@
 use Rattle.std.proofs.Common.{rules, ◌≡◌, ◌+◌, ◌-◌, ◌++◌, ◌∷◌, [], suc, Ok, refl, ◌∙◌, ap, arith}
 use Rattle.std.proofs.lemmas.Result.{err_from_is_err_and}
-use Rattle.interaction_tree.proofs.RunLemmas.{runs_memory}
+use Rattle.session_core.proofs.StepLemmas.{lacks_at}
 use Rattle.upload_pack.specs.Wants.{taking_wants, too_many_wants}
 use Rattle.upload_pack.proofs.WantLemmas.{none_may_come, one_may_come, refused_wants, want_ends, want_exits, want_goes}
 use Rattle.upload_pack.proofs.wants.take_wants.Goals as goal
 
-pub returns-in_default-clause-runs : goal.returns-in_default-clause-runs
-returns-in_default-clause-runs g c = λ desk. runs_memory _ desk _
+pub returns-in_err-push-clause-runs : goal.returns-in_err-push-clause-runs
+returns-in_err-push-clause-runs g c = λ desk. lacks_at _ desk _ c.from_residual.result _ c.from_residual.ensures.1
 
 pub loop-init : goal.loop-init
 loop-init g c =
@@ -18,19 +18,19 @@ take_want-requires g c = record { ready = c.loop.invariant.ready }
 
 pub returns-in_err-id-clause-runs : goal.returns-in_err-id-clause-runs
 returns-in_err-id-clause-runs g c = λ desk.
-    let p = err_from_is_err_and c.from_residual.result c.from_residual.ensures.1 in
+    let p = err_from_is_err_and c.from_residual-in_err-id.result c.from_residual-in_err-id.ensures.1 in
     let may : 10000 - c.loop.counter ≡ suc (10000 - (c.loop.counter + 1)) = omega (arith, c.loop-test.true) in
     c.loop.invariant.runs _ desk _ (want_exits _ _ desk (taking_wants (10000 - (c.loop.counter + 1))) c.loop.wants _ _ _ (one_may_come _ _ c.loop.wants _ may) c.take_want.result (c.take_want.ensures.runs desk) _ _ _ _ c.in_err-id.was p.1 p.2)
 
-pub returns-in_default-2-clause-runs : goal.returns-in_default-2-clause-runs
-returns-in_default-2-clause-runs g c = λ desk.
+pub returns-in_default-clause-runs : goal.returns-in_default-clause-runs
+returns-in_default-clause-runs g c = λ desk.
     let may : 10000 - c.loop.counter ≡ suc (10000 - (c.loop.counter + 1)) = omega (arith, c.loop-test.true) in
-    c.loop.invariant.runs _ desk _ (want_ends _ _ desk (taking_wants (10000 - (c.loop.counter + 1))) c.loop.wants _ _ _ (one_may_come _ _ c.loop.wants _ may) c.take_want.result (c.take_want.ensures.runs desk) (c.in_ok-id.was ∙ ap (λ o. Ok o) c.in_default-2.is))
+    c.loop.invariant.runs _ desk _ (want_ends _ _ desk (taking_wants (10000 - (c.loop.counter + 1))) c.loop.wants _ _ _ (one_may_come _ _ c.loop.wants _ may) c.take_want.result (c.take_want.ensures.runs desk) (c.in_ok-id.was ∙ ap (λ o. Ok o) c.in_default.is))
 
-pub returns-in_default-push-clause-runs : goal.returns-in_default-push-clause-runs
-returns-in_default-push-clause-runs g c = λ desk.
+pub returns-in_err-push-2-clause-runs : goal.returns-in_err-push-2-clause-runs
+returns-in_err-push-2-clause-runs g c = λ desk.
     let may : 10000 - c.loop.counter ≡ suc (10000 - (c.loop.counter + 1)) = omega (arith, c.loop-test.true) in
-    c.loop.invariant.runs _ desk _ (want_goes _ _ desk (taking_wants (10000 - (c.loop.counter + 1))) c.loop.wants _ _ _ (one_may_come _ _ c.loop.wants _ may) c.take_want.result (c.take_want.ensures.runs desk) _ c.in-Some.id _ (c.in_ok-id.was ∙ ap (λ o. Ok o) c.in-Some.is) (runs_memory _ desk _))
+    c.loop.invariant.runs _ desk _ (want_goes _ _ desk (taking_wants (10000 - (c.loop.counter + 1))) c.loop.wants _ _ _ (one_may_come _ _ c.loop.wants _ may) c.take_want.result (c.take_want.ensures.runs desk) _ c.in-Some.id _ (c.in_ok-id.was ∙ ap (λ o. Ok o) c.in-Some.is) (lacks_at _ desk _ c.from_residual-in_err-push-2.result _ c.from_residual-in_err-push-2.ensures.1))
 
 pub loop-preserved : goal.loop-preserved
 loop-preserved g c =

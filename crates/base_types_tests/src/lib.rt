@@ -1,0 +1,5 @@
+//! Tests of `base_types`, by what is public there.
+#![tactic(auto)]
+
+#[cfg(test)]
+mod tests;

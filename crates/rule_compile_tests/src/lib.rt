@@ -1,0 +1,9 @@
+//! Tests of `rule_compile`, by what is public there.
+#![tactic(auto)]
+
+#[cfg(test)]
+mod index_tests;
+#[cfg(test)]
+mod limit_tests;
+#[cfg(test)]
+mod tests;

@@ -1,0 +1,5 @@
+//! Tests of `update_check`, by what is public there.
+#![tactic(auto)]
+
+#[cfg(test)]
+mod tests;
