@@ -228,16 +228,21 @@ def generated_conf(repositories):
     return text
 
 
+def admin_push(text):
+    """A session by which the admin pushes this conf, the first one."""
+    blob = ("blob", text)
+    inner = tree([(b"100644", b"gitolite.conf", object_id(blob))])
+    root = tree([(b"40000", b"conf", object_id(inner))])
+    made = ("commit", b"tree " + object_id(root).hex().encode() + b"\n")
+    line = packet(("%s %s refs/heads/master" % (ZERO, object_id(made).hex())).encode() + b"\0report-status")
+    return packet(b"admin git-receive-pack 'gitolite-admin'") + line + b"0000" + raw_pack([made, root, inner, blob])
+
+
 def installation(program):
     """A push of a conf of 300 and of 5,000 repositories; what a user sees then, an opening, and a push."""
     for repositories in (300, 5_000):
-        program_now, blob = Program(program), ("blob", generated_conf(repositories))
-        inner = tree([(b"100644", b"gitolite.conf", object_id(blob))])
-        root = tree([(b"40000", b"conf", object_id(inner))])
-        made = ("commit", b"tree " + object_id(root).hex().encode() + b"\n")
-        line = packet(("%s %s refs/heads/master" % (ZERO, object_id(made).hex())).encode() + b"\0report-status")
-        admin = packet(b"admin git-receive-pack 'gitolite-admin'") + line + b"0000" + raw_pack([made, root, inner, blob])
-        pushed = program_now.expect(admin)
+        program_now = Program(program)
+        pushed = program_now.expect(admin_push(generated_conf(repositories)))
         seen = [program_now.expect(packet(b"u1 info"), b"hello u1") for _ in range(5)]
         denied = [program_now.expect(packet(b"nobody git-receive-pack 'r%d'" % n), b"DENIED") for n in range(100)]
         owner = next(k for k in range(10) if b"DENIED" not in program_now.serve(packet(b"u%d git-receive-pack 'r7'" % k) + b"0000")[1])
@@ -273,7 +278,49 @@ def clone(program):
         program_now.end()
 
 
-CASES = {case.__name__: case for case in (refused, old, one_file, rootless, large_trees, deep_refs, one_ref, large_pack, installation, clone)}
+def others(program):
+    """Openings and pushes of one commit in `testing`, beside no other repository and beside 99,000."""
+    for repositories in (0, 99_000):
+        program_now = Program(program)
+        names = b"".join(b"repo " + b" ".join(b"r%d" % k for k in range(n, min(n + 100, repositories))) + b"\n    R = @all\n" for n in range(0, repositories, 100))
+        conf = program_now.expect(admin_push(b"repo gitolite-admin\n    RW+ = admin\nrepo testing\n    RW+ = @all\n" + names))
+        program_now.expect(push([("refs/heads/master", FIRST_ID)], [FIRST, EMPTY]))
+        opened = [program_now.serve(packet(b"carol git-receive-pack 'testing'") + b"0000")[0] for _ in range(1_000)]
+        pushed = [program_now.expect(push([("refs/heads/b%d" % n, FIRST_ID)], [])) for n in range(200)]
+        print("beside %d repositories (the admin's push %.3f s): an opening: %s; a push: %s" % (repositories, conf, times(opened), times(pushed)))
+        program_now.end()
+
+
+def update(old, new, ref, items):
+    line = packet(("%s %s %s" % (old.hex(), new.hex(), ref)).encode() + b"\0report-status")
+    return packet(b"carol git-receive-pack 'testing'") + line + b"0000" + raw_pack(items)
+
+
+def history(program):
+    """Over a chain of 300,000 commits: a commit more, a rewind by one, a merge of a topic that was forked one commit ago, and a create at an older commit."""
+    program_now, parent, ids, made = Program(program), None, [], []
+    for n in range(300_000):
+        item = commit(b"%d" % n, EMPTY_ID, [parent] if parent else [])
+        parent = object_id(item)
+        ids.append(parent)
+        made.append(item)
+        if len(made) == MOST_OBJECTS or n == 299_999:
+            program_now.expect(push([("refs/heads/part%d" % n, parent)], made + [EMPTY]))
+            made = []
+    program_now.expect(push([("refs/heads/master", ids[-1])], []))
+    topic = commit(b"topic", EMPTY_ID, [ids[-2]])
+    program_now.expect(push([("refs/heads/topic", object_id(topic))], [topic]))
+    merge = commit(b"merge", EMPTY_ID, [ids[-1], object_id(topic)])
+    more = commit(b"more", EMPTY_ID, [object_id(merge)])
+    master = "refs/heads/master"
+    print("a merge of a topic: %.2f ms" % (program_now.expect(update(ids[-1], object_id(merge), master, [merge])) * 1e3))
+    print("a commit more: %.2f ms" % (program_now.expect(update(object_id(merge), object_id(more), master, [more])) * 1e3))
+    print("a rewind by one: %.2f ms" % (program_now.expect(update(object_id(more), object_id(merge), master, [])) * 1e3))
+    print("a create at an older commit: %.2f ms" % (program_now.expect(push([("refs/heads/old", ids[1_000])], [])) * 1e3))
+    program_now.end()
+
+
+CASES = {case.__name__: case for case in (refused, old, one_file, rootless, large_trees, deep_refs, one_ref, large_pack, installation, clone, others, history)}
 
 
 def main():

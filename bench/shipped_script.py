@@ -11,7 +11,7 @@ CAROL = b"author Carol <carol@example.com> 1700000000 +0000\ncommitter Carol <ca
 EMPTY_TREE = ("tree", b"")
 EMPTY_BLOB = ("blob", b"")
 NO_OBJECTS = raw_pack([])
-out = sys.stdout.buffer
+sessions = []
 
 
 def hexed(item):
@@ -38,7 +38,7 @@ def asks(who, words):
 
 
 def session(body):
-    out.write(b"session %d\n" % len(body) + body + b"\n")
+    sessions.append(body)
 
 
 def files(named):
@@ -423,3 +423,36 @@ fetches(b"bob", b"bob/y", b"0000")
 # 136 and 137: the pack of 122 is pushed into another repository, and fetched from there
 session(pushes(b"carol", b"copy", [(None, second, MASTER), (None, tag, TAG)], raw_pack([first, EMPTY_TREE, second, tag])))
 fetches(b"bob", b"copy", line(b"want", tag) + b"0000" + DONE)
+
+# V. tags, merges, a subconf's own group, and the end of the conf's branch
+
+LATER = b"""repo gitolite-admin
+    RW+  = admin
+repo testing
+    RW   = bob
+repo merges
+    -    VREF/MERGE-CHECK/master = bob
+    RW   = bob
+"""
+later, later_objects = conf(LATER, shelf)
+merge_all = raw_pack([base, merge, more, make] + base_objects + more_objects + make_objects)
+
+# 138 to 142: a tag that moves, and a merge that is checked in one branch alone
+session(pushes(b"admin", b"gitolite-admin", [(shelf, later, MASTER)], raw_pack([later] + later_objects)))
+session(pushes(b"bob", b"testing", [(None, first, TAG)], first_pack))
+session(pushes(b"bob", b"testing", [(first, second, TAG)], raw_pack([second])))
+session(pushes(b"bob", b"merges", [(None, base, MASTER), (None, base, topic)], base_pack))
+session(pushes(b"bob", b"merges", [(base, merge, MASTER), (base, merge, topic)], merge_all))
+
+# 143 and 144: a subconf that names its own group, which counts for nothing
+inner_root, inner_objects = files([(b"conf/gitolite.conf", MAIN % b""), (b"conf/web.conf", b"@web = core2\n" + WEB.replace(b"core", b"core2"))])
+inner = carols(b"subconf", inner_root, later)
+session(pushes(b"admin", b"gitolite-admin", [(later, inner, MASTER)], raw_pack([inner] + inner_objects)))
+session(asks(b"wanda", b"git-receive-pack 'core2'"))
+
+# 145: the conf's branch isn't deleted
+session(pushes(b"admin", b"gitolite-admin", [(inner, None, MASTER)], b""))
+
+if __name__ == "__main__":
+    for body in sessions:
+        sys.stdout.buffer.write(b"session %d\n" % len(body) + body + b"\n")
