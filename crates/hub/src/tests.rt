@@ -127,7 +127,7 @@ type Step = (
 
 // A user, a repository, what is asked, and the number of the answer: of an opening the variant's of `EnterKept`, from 1, of a push the outcome's, of roles the
 // answer's, and of a look how many lines there are.
-static STEPS: [Step; 88] = [
+static STEPS: [Step; 89] = [
     ("ann", "gitolite-admin", Ask::Write, "", "", 1),
     ("bob", "gitolite-admin", Ask::Read, "", "", 3),
     ("bob", "testing", Ask::Write, "", "", 1),
@@ -170,6 +170,15 @@ static STEPS: [Step; 88] = [
         1,
     ),
     ("bob", "testing", Ask::Read, "", "", 3),
+    // a delete of the conf's branch is refused, and the conf stays in force
+    (
+        "ann",
+        "gitolite-admin",
+        Ask::Move,
+        "refs/heads/master",
+        "Z",
+        10,
+    ),
     ("bob", "dev", Ask::Create, "refs/heads/master", "1", 1),
     ("bob", "dev", Ask::Create, "refs/heads/master2", "1", 8),
     ("bob", "dev", Ask::Create, "refs/heads/topic", "1", 1),
@@ -611,7 +620,7 @@ fn second_is_stale<D: Desk>(
     Ok(one == 1 && two == 11)
 }
 
-// A push is judged by the rules at its opening, though others are in force since.
+// A push is judged by the rules at its opening, though others are in force since, by which the next opening is denied.
 fn is_judged_by_its_opening<D: Desk>(
     alloc: Global,
     desk: &mut D,
@@ -623,7 +632,8 @@ fn is_judged_by_its_opening<D: Desk>(
     let opening = pin(alloc, desk, &bob, &app)?;
     let swapped = open_and_swap(alloc, desk, admin, repo, "repo app\n    RW = cat\n", "")?;
     let told = push_ref(alloc, desk, pack, opening, "refs/heads/master", b'1', true)?;
-    Ok(swapped == 1 && told == 1)
+    let next = opened(&desk.enter(alloc, &bob, &app, Want::Write))?;
+    Ok(swapped == 1 && told == 1 && next == 3)
 }
 
 fn openings_keep_their_rules<D: Desk>(alloc: Global, desk: &mut D) -> Result<bool, Fail> {
