@@ -12,7 +12,7 @@ USERS = ["u%d" % n for n in range(1, 6)]
 REPOS = ["r%d" % n for n in range(1, 5)]
 REFS = ["refs/heads/master", "refs/heads/master2", "refs/heads/dev/x", "refs/heads/personal/u2/a", "refs/tags/v1", "refs/tags/w"]
 REFEXES = ["", "master", "master$", "dev/", "dev/[a-z]+$", "personal/USER/", "refs/tags/", "refs/tags/v[0-9]", "[a-m]", "refs/heads/p.*/u[23]"]
-PERMS = ["-", "-", "R", "R", "RW", "RW", "RW+", "RW+", "RWC", "RW+C", "RWD", "RW+D", "RWCD", "RW+CD"]
+PERMS = ["-", "-", "R", "R", "RW", "RW", "RW+", "RW+", "RWC", "RW+C", "RWD", "RW+D", "RWCD", "RW+CD", "RWDC", "RW+DC"]
 ADMIN = "repo gitolite-admin\n    RW+ = admin\n"
 ZERO = bytes(20)
 

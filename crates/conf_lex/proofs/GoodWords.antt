@@ -1,5 +1,5 @@
 -- The words of a statement may stand where they stand.
-use Rattle.std.proofs.Common.{◌≡◌, ◌≤◌, ◌+◌, ◌==◌, ℕ, List, [], ◌∷◌, length, Bool, true, false, arith, refl, sym, ap, subst, ◌∙◌}
+use Rattle.std.proofs.Common.{◌≡◌, ◌≤◌, ◌+◌, ◌==◌, ℕ, List, [], ◌∷◌, length, Bool, true, false, arith, refl, sym, subst, ◌∙◌}
 use Rattle.std.specs.Prelude.{codes, Option, Some, None, Ok, Err, if◌then◌else◌, ◌&&◌}
 use Rattle.std.specs.Str.{bytes_eq}
 use Rattle.conf_lex.specs.Permissions.{perm_of}
@@ -57,7 +57,7 @@ rule_good w refexes users (Some perm) s p e =
     let parts = unless_ok _ _ s e in
     let sound = neither (first_bad Refex (place_after (w ∷ [])) refexes) _ parts.0 in
     let users_good = user_case (length users == 0) _ _ users refl sound.1 in
-    good_as (Rule perm refexes users) s parts.1 (ap perm_of (perm_texts_are_read.written w perm p) ∙ p, none_bad Refex _ refexes sound.0, users_good.0, users_good.1)
+    good_as (Rule perm refexes users) s parts.1 (perm_texts_are_read.read_back w perm p, none_bad Refex _ refexes sound.0, users_good.0, users_good.1)
 
 table_good : (w : List ℕ) (ws : List (List ℕ)) (s : Statement) → by_table (w ∷ ws) ≡ Ok s → HasGoodWords s
 table_good w ws s e =

@@ -8,7 +8,7 @@ use Rattle.std.proofs.Math.Seq.{drop-append_seam, take-append_seam}
 use Rattle.std.proofs.lemmas.Bool.{eqb-true}
 use Rattle.std.proofs.lemmas.Bool.Decides.{nat_tests}
 use Rattle.conf_lex.specs.Cleaning.{before_comment, is_white}
-use Rattle.conf_lex.specs.Permissions.{perm_of, perm_text}
+use Rattle.conf_lex.specs.Permissions.{letters, perm_of, perm_text, writes}
 use Rattle.conf_lex.specs.Words.{before_equals, after_equals, begins_with_at, first_bad, has_equals, is_bad, is_equals}
 use Rattle.conf_lex.specs.Statements.{Answer, by_table, by_words, group_line, is_no_group, is_without_effect, nth, repo_line, rule_line, statement, unless_bad, unquoted}
 use Rattle.conf_lex.specs.Spelling.{between, has_no_comment, spelled_pattern, spelled_words}
@@ -20,8 +20,8 @@ use Rattle.conf_lex.specs.declared.statement.Statement.TheVariants.{Blank, Group
 use Rattle.conf_lex.specs.Laws.{SpellingsAreRead}
 use Rattle.conf_lex.proofs.ByteLemmas.{same_bytes, same_bytes_test}
 use Rattle.conf_lex.proofs.WordLemmas.{IsFree}
-use Rattle.conf_lex.proofs.PermLemmas.{perm_texts_are_read}
-use Rattle.conf_lex.proofs.CleanLemmas.{AreClean, IsApart, has_mark, is_equals_byte, joined_is_clean, line_words, line_words_are_clean, statement_of_line, statement_of_words, unmarked_before, unmarked_stays}
+use Rattle.conf_lex.proofs.PermLemmas.{by_word_cases, turned_letters}
+use Rattle.conf_lex.proofs.CleanLemmas.{AreClean, IsApart, flat, has_mark, is_equals_byte, joined_is_clean, line_words, line_words_are_clean, statement_of_line, statement_of_words, unmarked_before, unmarked_stays}
 
 pub first_true : (a b : Bool) → (a && b) ≡ true → a ≡ true
 first_true true b e = refl
@@ -318,18 +318,56 @@ option_spelled w (a ∷ b ∷ c ∷ []) s e n f g =
     ap spelled_words (same_statement (Opt a c) s g) ∙ ap (λ v. v ∷ a ∷ codes "=" ∷ c ∷ []) (sym e) ∙ ap (λ v. w ∷ a ∷ v ∷ c ∷ []) (sym (same_bytes b (codes "=") f))
 option_spelled w (a ∷ b ∷ c ∷ d ∷ ws) s e n f g = absurd (grind (arith, nat_tests))
 
-rule_spelled : (w : List ℕ) (ws : List (List ℕ)) (s : Statement) (perm : Option Perm) → perm_of w ≡ perm → has_equals ws ≡ true → rule_line w (before_equals ws) (after_equals ws) perm ≡ Ok s → spelled_words s ≡ w ∷ ws
-rule_spelled w ws s None e has f = absurd cc
-rule_spelled w ws s (Some perm) e has f =
-    ap spelled_words (same_statement (Rule perm (before_equals ws) (after_equals ws)) s (unless_ok _ _ s f).1) ∙ ap (λ l. perm_text perm ∷ l) (around ws has) ∙ ap (λ v. v ∷ ws) (perm_texts_are_read.written w perm e)
+rest_apart : (w : List ℕ) (ws : List (List ℕ)) → (w ≡ 61 ∷ [] → ⊥) → IsApart (w ∷ ws) → IsApart ws
+rest_apart w ws no_equals (inl e) = absurd (no_equals e)
+rest_apart w ws no_equals (inr apart) = apart.1
+
+-- a word without white space, `=`, quote or `#` in place of such a word
+clean_with : (w v : List ℕ) (ws : List (List ℕ)) → frees is_white v ≡ true → (length v == 0) ≡ false → frees is_equals_byte v ≡ true
+    → (w ≡ 61 ∷ [] → ⊥) → ((x : List ℕ) → has_mark false (w ++ x) ≡ has_mark false (v ++ x)) → AreClean (w ∷ ws) → AreClean (v ∷ ws)
+clean_with w v ws white some equals no_equals marks clean = record {
+  free = (free_by is_white v white, clean.free.1);
+  full = (some, clean.full.1);
+  apart = inr (free_by is_equals_byte v equals, rest_apart w ws no_equals clean.apart);
+  unmarked = sym (marks (flat ws)) ∙ clean.unmarked;
+}
+
+-- Words that stay clean and say the same with another first word.
+abbrev StaysWith : List ℕ → List (List ℕ) → Statement → Type 0
+StaysWith w ws s = AreClean (w ∷ ws) × (by_words (w ∷ ws) ≡ Ok s)
+
+-- `DC` turned to `CD`: the word stays as long as it is, and is read as the same permission
+turned_stays : (a d : Bool) (ws : List (List ℕ)) (s : Statement) → StaysWith (codes "RW" ++ turned_letters a d) ws s → StaysWith (perm_text (writes a true true d)) ws s
+turned_stays true true ws s (clean, says) = (clean_with (codes "RW+DCM") (codes "RW+CDM") ws refl refl refl (λ e. cc) (λ x. refl) clean, says)
+turned_stays true false ws s (clean, says) = (clean_with (codes "RW+DC") (codes "RW+CD") ws refl refl refl (λ e. cc) (λ x. refl) clean, says)
+turned_stays false true ws s (clean, says) = (clean_with (codes "RWDCM") (codes "RWCDM") ws refl refl refl (λ e. cc) (λ x. refl) clean, says)
+turned_stays false false ws s (clean, says) = (clean_with (codes "RWDC") (codes "RWCD") ws refl refl refl (λ e. cc) (λ x. refl) clean, says)
+
+-- a permission's text in place of the word that it was read from
+text_stays : (w : List ℕ) (ws : List (List ℕ)) (s : Statement) (perm : Perm) → StaysWith w ws s → perm_of w ≡ Some perm → StaysWith (perm_text perm) ws s
+text_stays w ws s perm stays e =
+    let put : (v : List ℕ) → w ≡ v → StaysWith v ws s = λ v same. subst (λ v. StaysWith v ws s) same stays in
+    by_word_cases w perm (λ p. StaysWith (perm_text p) ws s) (put (codes "-")) (put (codes "R")) (put (codes "C"))
+    (λ a b c d same. put (codes "RW" ++ letters (writes a b c d)) same) (λ a d same. turned_stays a d ws s (put (codes "RW" ++ turned_letters a d) same)) e
+
+-- a rule is spelled by the words that it was read from, with its permission's text in place of the first
+rule_spelled : (w : List ℕ) (ws : List (List ℕ)) (s : Statement) (perm : Perm) → has_equals ws ≡ true → rule_line w (before_equals ws) (after_equals ws) (Some perm) ≡ Ok s → spelled_words s ≡ perm_text perm ∷ ws
+rule_spelled w ws s perm has f =
+    ap spelled_words (same_statement (Rule perm (before_equals ws) (after_equals ws)) s (unless_ok _ _ s f).1) ∙ ap (λ l. perm_text perm ∷ l) (around ws has)
+
+rule_is_spelled : (w : List ℕ) (ws : List (List ℕ)) (s : Statement) (perm : Option Perm) → StaysWith w ws s → perm_of w ≡ perm → has_equals ws ≡ true → rule_line w (before_equals ws) (after_equals ws) perm ≡ Ok s → IsSpelled s
+rule_is_spelled w ws s None stays e has f = absurd cc
+rule_is_spelled w ws s (Some perm) stays e has f =
+    let text : StaysWith (perm_text perm) ws s = text_stays w ws s perm stays e in
+    as_it_was (perm_text perm ∷ ws) s text.0 text.1 (rule_spelled w ws s perm has f)
 
 -- a first word `=` is no permission
-no_rule : (c : Bool) (w : List ℕ) (ws : List (List ℕ)) (s : Statement) → is_equals w ≡ c → (c || has_equals ws) ≡ true → rule_line w (before_equals ws) (after_equals ws) (perm_of w) ≡ Ok s → spelled_words s ≡ w ∷ ws
-no_rule true w ws s e has f =
+rule_row : (c : Bool) (w : List ℕ) (ws : List (List ℕ)) (s : Statement) → StaysWith w ws s → is_equals w ≡ c → (c || has_equals ws) ≡ true → rule_line w (before_equals ws) (after_equals ws) (perm_of w) ≡ Ok s → IsSpelled s
+rule_row true w ws s stays e has f =
     let none : perm_of w ≡ None = rw (same_bytes w (codes "=") e) refl in
     let refused : Says (Err BadPermission) s = subst (λ o. Says (rule_line w (before_equals ws) (after_equals ws) o) s) none f in
     absurd cc
-no_rule false w ws s e has f = rule_spelled w ws s (perm_of w) refl has f
+rule_row false w ws s stays e has f = rule_is_spelled w ws s (perm_of w) stays refl has f
 
 include_row : (w : List ℕ) (ws : List (List ℕ)) (s : Statement) → AreClean (w ∷ ws) → first_bad Anything 0 (w ∷ ws) ≡ None → w ≡ codes "include" → (length ws == 1) ≡ true → Says (Ok (Include (unquoted (nth ws 0)))) s → IsSpelled s
 include_row w [] s clean sound e n f = absurd cc
@@ -358,7 +396,7 @@ table_is_spelled w ws s clean sound says e =
     (λ c f. let both : (bytes_eq w (codes "option") && (length ws == 3)) ≡ true = first_true (bytes_eq w (codes "option") && (length ws == 3)) _ c in
     as_it_was (w ∷ ws) s clean says (option_spelled w ws s (same_bytes w (codes "option") (first_true (bytes_eq w (codes "option")) _ both)) (second_true (bytes_eq w (codes "option")) _ both) (second_true (bytes_eq w (codes "option") && (length ws == 3)) _ c) f))
     (λ e5. row (is_without_effect w && has_equals ws) _ _ s (IsSpelled s) (λ c f. subst IsSpelled (sym (same_statement NoEffect s f)) no_effect_is_spelled)
-    (λ e6. row (has_equals (w ∷ ws)) _ _ s (IsSpelled s) (λ c f. as_it_was (w ∷ ws) s clean says (no_rule (is_equals w) w ws s refl c f))
+    (λ e6. row (has_equals (w ∷ ws)) _ _ s (IsSpelled s) (λ c f. rule_row (is_equals w) w ws s (clean, says) refl c f)
     (λ e7. absurd cc) e6) e5) e4) e3) e2) e1) e
 
 words_are_spelled : (ws : List (List ℕ)) (s : Statement) → AreClean ws → by_words ws ≡ Ok s → IsSpelled s

@@ -1,5 +1,5 @@
 -- What holds of lines, statements and permissions whatever code reads them.
-use Rattle.std.specs.Prelude.{ℕ, Bool, true, false, ◌≡◌, ◌≤◌, ◌+◌, ◌%◌, ◌==◌, not, List, ◌∷◌, ◌++◌, drop, length, Ok, Err, Some}
+use Rattle.std.specs.Prelude.{ℕ, Bool, true, false, ◌≡◌, ◌≤◌, ◌+◌, ◌%◌, ◌==◌, ◌⊎◌, not, List, ◌∷◌, ◌++◌, drop, length, codes, Ok, Err, Some}
 use Rattle.std.specs.List.{count_by, list_all}
 use Rattle.conf_lex.specs.Cleaning.{cleaned, joined}
 use Rattle.conf_lex.specs.Permissions.{creates, denies, perm_of, perm_text, reads, writes}
@@ -27,9 +27,23 @@ pub record SpellingsAreRead : Type 0 where
   pub read_back : (line : List ℕ) (s : Statement) → statement line ≡ Ok s → statement (spelling s) ≡ Ok s
   pub clean : (line : List ℕ) (s : Statement) → statement line ≡ Ok s → cleaned (spelling s) ≡ spelling s
 
--- The text of a permission is the word that it was read from, and each kind of permission is read from its text.
+-- The word is the text with `DC` in place of its `CD`.
+pub record IsTurned (text word : List ℕ) : Type 0 where
+  pub before : List ℕ
+  pub after : List ℕ
+  pub canonical : text ≡ before ++ (codes "CD" ++ after)
+  pub turned : word ≡ before ++ (codes "DC" ++ after)
+
+-- The words of a permission: its text, and where it has `CD` that text turned.
+abbrev pub IsWordOf : Perm → List ℕ → Type 0
+IsWordOf p word = (word ≡ perm_text p) ⊎ IsTurned (perm_text p) word
+
+-- The permission of a word is read from its text, too. A permission that is read from its text is read from all its words,
+-- and a permission is read from no other word. Each kind of permission is read from its text.
 pub record PermTextsAreRead : Type 0 where
-  pub written : (word : List ℕ) (p : Perm) → perm_of word ≡ Some p → perm_text p ≡ word
+  pub read_back : (word : List ℕ) (p : Perm) → perm_of word ≡ Some p → perm_of (perm_text p) ≡ Some p
+  pub only_its_words : (word : List ℕ) (p : Perm) → perm_of word ≡ Some p → IsWordOf p word
+  pub all_its_words : (word : List ℕ) (p : Perm) → perm_of (perm_text p) ≡ Some p → IsWordOf p word → perm_of word ≡ Some p
   pub denial : perm_of (perm_text denies) ≡ Some denies
   pub reading : perm_of (perm_text reads) ≡ Some reads
   pub creation : perm_of (perm_text creates) ≡ Some creates

@@ -24,7 +24,7 @@ writes plus c d m = record { deny = false; lone_create = false; read = true; wri
 abbrev pub letter : Bool → ℕ → List ℕ
 letter b c = if b then c ∷ [] else []
 
--- the letters after `RW`, always in this order
+-- the letters after `RW`, in the order of a permission's text
 abbrev pub letters : Perm → List ℕ
 letters p = letter p.rewind 43 ++ (letter p.create 67 ++ (letter p.delete 68 ++ letter p.merge 77))
 
@@ -46,10 +46,14 @@ abbrev pub after_letter : ℕ → List ℕ → List ℕ
 after_letter c [] = []
 after_letter c (b ∷ bs) = if b == c then bs else b ∷ bs
 
--- `+`, `C`, `D` and `M` in this order, each once or not at all, and nothing else
+-- `DC` at the front is read as `CD`
+abbrev pub c_before_d : List ℕ → List ℕ
+c_before_d w = if starts_with nat_eq w (codes "DC") then codes "CD" ++ drop 2 w else w
+
+-- `+`, then `C` and `D` in either order, then `M`, each once or not at all, and nothing else
 abbrev pub writes_by : List ℕ → Option Perm
 writes_by plus =
-    let c = after_letter 43 plus in
+    let c = c_before_d (after_letter 43 plus) in
     let d = after_letter 67 c in
     let m = after_letter 68 d in
     if length (after_letter 77 m) == 0

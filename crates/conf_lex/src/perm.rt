@@ -1,6 +1,6 @@
 // Permissions.
 ghost use Rattle.std.specs.Prelude.{◌≡◌};
-ghost use Rattle.conf_lex.specs.Permissions.{after_letter, has_letter, perm_of, perm_text, writes_by};
+ghost use Rattle.conf_lex.specs.Permissions.{after_letter, c_before_d, has_letter, perm_of, perm_text, writes_by};
 
 /// What a rule allows, or that it denies.
 #[derive(Clone, Copy, Debug, PartialEq, Eq)]
@@ -24,7 +24,8 @@ pub struct Perm {
 }
 
 impl Perm {
-    /// The permission that the word is: `-`, `R`, `C`, or `RW` and any of `+`, `C`, `D` and `M` in this order.
+    /// The permission that the word is: `-`, `R`, `C`, or `RW` and any of `+`, `C`, `D` and `M` in this order, or with
+    /// `D` before `C`.
     pub fn parse(word: &[u8]) -> Option<Perm>
         ensures { result ≡ perm_of word.now }
     {
@@ -52,7 +53,7 @@ impl Perm {
         writes_by(word.split_at(2).1)
     }
 
-    /// The text of the permission, which reads back. It takes no memory.
+    /// The text of the permission, which reads back. It has `C` before `D`, and takes no memory.
     pub fn text(&self) -> &'static [u8]
         ensures { result.now ≡ perm_text self.now }
     {
@@ -102,8 +103,7 @@ fn writes_by(letters: &[u8]) -> Option<Perm>
     ensures { result ≡ writes_by letters.now }
 {
     let (rewind, letters) = letter(b'+', letters);
-    let (create, letters) = letter(b'C', letters);
-    let (delete, letters) = letter(b'D', letters);
+    let (create, delete, letters) = create_and_delete(letters);
     let (merge, letters) = letter(b'M', letters);
     if !letters.is_empty() {
         return None;
@@ -117,6 +117,20 @@ fn writes_by(letters: &[u8]) -> Option<Perm>
         merge,
         ..NOTHING
     })
+}
+
+// Whether `C` and `D` are at the front, in either order, and what follows them.
+fn create_and_delete(letters: &[u8]) -> (bool, bool, &[u8])
+    ensures create { result.0 ≡ has_letter 67 (c_before_d letters.now) }
+    ensures delete { result.1 ≡ has_letter 68 (after_letter 67 (c_before_d letters.now)) }
+    ensures after { result.2.now ≡ after_letter 68 (after_letter 67 (c_before_d letters.now)) }
+{
+    if letters.starts_with(b"DC") {
+        return (true, true, letters.split_at(2).1);
+    }
+    let (create, letters) = letter(b'C', letters);
+    let (delete, letters) = letter(b'D', letters);
+    (create, delete, letters)
 }
 
 // Whether the letter is at the front, and what follows it.

@@ -9,7 +9,7 @@ use std::collections::{BTreeMap, HashMap};
 use std::test::Fail;
 
 // Lines that say something, and a short form of what they say.
-static STATEMENTS: [(&str, &str); 33] = [
+static STATEMENTS: [(&str, &str); 34] = [
     ("", "blank"),
     (" \t\r", "blank"),
     ("# RW = ann", "blank"),
@@ -43,6 +43,7 @@ static STATEMENTS: [(&str, &str); 33] = [
     ("owner =", "no effect"),
     ("category x = ", "no effect"),
     ("RW+CDM = ann", "rule RW+CDM: = ann"),
+    ("RWDC = ann", "rule RWCD: = ann"),
     (
         "  -   master$ refs/tags/  =\t@interns # no \r",
         "rule -: master$ refs/tags/ = @interns",
@@ -75,7 +76,7 @@ static REFUSALS: [(&str, &str); 35] = [
     ("option x = \"a b\"", "bad permission"),
     ("option x =", "bad permission"),
     ("desc x", "not a statement"),
-    ("RWDC = ann", "bad permission"),
+    ("RWCDC = ann", "bad permission"),
     ("RW+CDMM = ann", "bad permission"),
     ("RWM+ = ann", "bad permission"),
     ("r = ann", "bad permission"),
@@ -154,15 +155,37 @@ static REPO_WORDS: [(&str, &str, RepoWordKind); 11] = [
     ("a*", "a*", RepoWordKind::Pattern),
 ];
 
-// The texts of permissions.
-static PERMISSIONS: [&str; 19] = [
-    "-", "R", "C", "RW", "RWM", "RWD", "RWDM", "RWC", "RWCM", "RWCD", "RWCDM", "RW+", "RW+M",
-    "RW+D", "RW+DM", "RW+C", "RW+CM", "RW+CD", "RW+CDM",
+// Words that are permissions, and the texts of these.
+static PERMISSIONS: [(&str, &str); 23] = [
+    ("-", "-"),
+    ("R", "R"),
+    ("C", "C"),
+    ("RW", "RW"),
+    ("RWM", "RWM"),
+    ("RWD", "RWD"),
+    ("RWDM", "RWDM"),
+    ("RWC", "RWC"),
+    ("RWCM", "RWCM"),
+    ("RWCD", "RWCD"),
+    ("RWDC", "RWCD"),
+    ("RWCDM", "RWCDM"),
+    ("RWDCM", "RWCDM"),
+    ("RW+", "RW+"),
+    ("RW+M", "RW+M"),
+    ("RW+D", "RW+D"),
+    ("RW+DM", "RW+DM"),
+    ("RW+C", "RW+C"),
+    ("RW+CM", "RW+CM"),
+    ("RW+CD", "RW+CD"),
+    ("RW+DC", "RW+CD"),
+    ("RW+CDM", "RW+CDM"),
+    ("RW+DCM", "RW+CDM"),
 ];
 
 // Words that are no permission.
-static NO_PERMISSIONS: [&str; 10] = [
-    "", "W", "r", "RR", "R+", "CD", "RWDC", "RW++", "RWMC", "RW+CDM ",
+static NO_PERMISSIONS: [&str; 18] = [
+    "", "W", "r", "RR", "R+", "CD", "DC", "RDC", "RW++", "RWC+", "RWMC", "RWCDC", "RWDCD", "RWDD",
+    "RWDMC", "RWMDC", "RWDCMM", "RW+CDM ",
 ];
 
 fn put_words(out: &mut Vec<u8>, words: &TextList) -> Result<(), AllocError> {
@@ -347,9 +370,9 @@ fn names_are_keys_of_maps(rt: HostRuntime) -> Result<(), Fail> {
 }
 
 #[test]
-fn permissions_are_read_from_their_texts(rt: HostRuntime) -> Result<(), Fail> {
-    for text in &PERMISSIONS {
-        let perm = Perm::parse(text.as_bytes()).ok_or("a permission")?;
+fn permissions_are_read_from_their_words(rt: HostRuntime) -> Result<(), Fail> {
+    for (word, text) in &PERMISSIONS {
+        let perm = Perm::parse(word.as_bytes()).ok_or("a permission")?;
         assert_eq!(rt; perm.text(), text.as_bytes());
     }
     for word in &NO_PERMISSIONS {
