@@ -6,6 +6,8 @@ use std::fs::File;
 use std::io;
 use std::io::{ErrorKind, Read, Write};
 use std::net::{Shutdown, TcpListener, TcpStream};
+use std::sync::atomic::AtomicU64;
+use std::sync::atomic::Ordering::SeqCst;
 use std::test::Fail;
 use std::time::Duration;
 
@@ -79,6 +81,66 @@ fn what_is_put_into_a_pipe_is_in_it_at_once(rt: HostRuntime) -> Result<(), Fail>
     assert_eq!(rt; room, *b"hello");
     drop(source);
     assert!(rt; sink.put(b"hello") == Put::Failed);
+    Ok(())
+}
+
+// A stream that fails at its first call, counts its calls, and then moves a byte with each.
+#[derive(Drop)]
+struct FailsOnce<'a> {
+    calls: &'a AtomicU64,
+}
+
+impl FailsOnce<'_> {
+    fn is_first(&self) -> bool {
+        self.calls.fetch_add(1, SeqCst) == 0
+    }
+}
+
+impl Read for FailsOnce<'_> {
+    fn read(&mut self, buf: &mut [u8]) -> io::Result<usize> {
+        if self.is_first() {
+            return Err(io::Error::from(ErrorKind::Interrupted));
+        }
+        match buf.first_mut() {
+            Some(first) => {
+                *first = b'x';
+                Ok(1)
+            }
+            None => Ok(0),
+        }
+    }
+}
+
+impl Write for FailsOnce<'_> {
+    fn write(&mut self, buf: &[u8]) -> io::Result<usize> {
+        if self.is_first() {
+            return Err(io::Error::from(ErrorKind::Interrupted));
+        }
+        Ok(buf.len().min(1))
+    }
+
+    fn flush(&mut self) -> io::Result<()> {
+        Ok(())
+    }
+}
+
+// Each call of a source or sink is one of its stream: a failed one is told and not made again.
+#[test]
+fn a_failed_call_is_told_at_once(rt: HostRuntime) -> Result<(), Fail> {
+    let reads = AtomicU64::new(0);
+    let mut source = StdSource::new(FailsOnce { calls: &reads });
+    let mut room = [0u8; 4];
+    assert!(rt; source.take(&mut room) == Taken::Failed);
+    assert_eq!(rt; reads.load(SeqCst), 1);
+    assert!(rt; source.take(&mut room) == Taken::Got(1));
+    assert_eq!(rt; reads.load(SeqCst), 2);
+    assert_eq!(rt; room, [b'x', 0, 0, 0]);
+    let writes = AtomicU64::new(0);
+    let mut sink = StdSink::new(FailsOnce { calls: &writes });
+    assert!(rt; sink.put(b"hello") == Put::Failed);
+    assert_eq!(rt; writes.load(SeqCst), 1);
+    assert!(rt; sink.put(b"hello") == Put::Took(1));
+    assert_eq!(rt; writes.load(SeqCst), 2);
     Ok(())
 }
 

@@ -8,3 +8,4 @@ pub mod Content
 pub mod Object
 pub mod Before
 pub mod Spelling
+pub mod Faults

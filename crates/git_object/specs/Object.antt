@@ -1,5 +1,5 @@
 -- Objects: their forms, their names, and what they link to.
-use Rattle.std.specs.Prelude.{◌≡◌, ℕ, ◌≤◌, if◌then◌else◌, List, [], ◌∷◌, ◌++◌, length, map, Option, Some, None, option_to_list, codes, decimal}
+use Rattle.std.specs.Prelude.{◌≡◌, ℕ, ◌+◌, ◌≤◌, if◌then◌else◌, List, [], ◌∷◌, ◌++◌, length, map, Option, Some, None, option_to_list, codes, decimal}
 use Rattle.std.specs.Option.{option_map, option_map_or}
 use Rattle.std.specs.List.{filter_map}
 use Rattle.std.specs.Str.{bytes_eq}
@@ -37,6 +37,16 @@ pub record IsWhole (kind : Kind) (body : List ℕ) (name : ObjectId) : Type 0 wh
   pub small : length body ≤ 16777216
   pub form : fault_of kind body ≡ None
   pub name_is : name ≡ object_name (record { kind = kind; body = body })
+
+-- how many bytes the bodies of these objects have together
+abbrev pub total_bytes : List Content → ℕ
+total_bytes [] = 0
+total_bytes (object ∷ objects) = length object.body + total_bytes objects
+
+-- one pack may bring these objects: at most 100,000, whose bodies have at most 268,435,456 bytes together
+pub record FitOnePack (objects : List Content) : Type 0 where
+  pub few : length objects ≤ 100000
+  pub light : total_bytes objects ≤ 268435456
 
 -- the parents of a commit, in the order of their lines
 abbrev pub parents_of : Kind → List ℕ → List ObjectId

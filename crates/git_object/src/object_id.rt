@@ -82,9 +82,9 @@ fn all_lower_digits(text: &[u8]) -> bool
     text.iter().all(|c| is_lower_digit(*c))
 }
 
-// The id of forty digits at the front, and what follows them.
+/// The id of forty lower-case hex digits at the front, and what follows them.
 #[tactic(auto, unfolding(crate::specs::ObjectId::hex_id))]
-fn hex_id(bytes: &[u8]) -> Option<(ObjectId, &[u8])>
+pub fn hex_id(bytes: &[u8]) -> Option<(ObjectId, &[u8])>
     ensures id { option_map (λ r. (r.0, r.1.now)) result ≡ hex_id bytes.now }
     ensures shorter { IfSome result (λ r. length r.1.now < length bytes.now) }
 {

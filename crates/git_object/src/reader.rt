@@ -3,9 +3,9 @@ ghost use Rattle.std.specs.Prelude.{◌≡◌, ◌<◌, ◌≤◌, ◌==◌, IfS
 ghost use Rattle.std.specs.Option.{option_copied, option_map};
 ghost use Rattle.git_object.specs.Reader.{literal, up_to};
 
-// What follows this word at the front.
+/// What follows this word at the front.
 #[tactic(auto, unfolding(crate::specs::Reader::literal))]
-pub(crate) fn literal<'a>(bytes: &'a [u8], word: &[u8]) -> Option<&'a [u8]>
+pub fn literal<'a>(bytes: &'a [u8], word: &[u8]) -> Option<&'a [u8]>
     ensures after { option_copied result ≡ literal word.now bytes.now }
     ensures shorter { IfSome result (λ r. length r.now ≤ length bytes.now) }
 {
@@ -20,9 +20,9 @@ fn first_place(bytes: &[u8], byte: u8) -> Option<usize>
     bytes.iter().position(|b| *b == byte)
 }
 
-// The bytes before the first such byte, and those behind it.
+/// The bytes before the first such byte, and those behind it.
 #[tactic(auto, unfolding(crate::specs::Reader::up_to))]
-pub(crate) fn up_to(bytes: &[u8], end: u8) -> Option<(&[u8], &[u8])>
+pub fn up_to(bytes: &[u8], end: u8) -> Option<(&[u8], &[u8])>
     ensures { option_map (λ r. (r.0.now, r.1.now)) result ≡ up_to end bytes.now }
 {
     let at = first_place(bytes, end)?;

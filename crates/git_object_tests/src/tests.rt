@@ -1,5 +1,6 @@
 // Values from outside: `git hash-object -t KIND --stdin`, of Git 2.39.5, for each name.
-use git_object::{Kind, ObjFault, Object, ObjectId, ObjectList, share};
+use git_object::{Kind, MAX_BODY, ObjFault, Object, ObjectId, ObjectList, fit_one_pack, share};
+use std::alloc::Global;
 use std::test::Fail;
 
 const EMPTY_BLOB: &str = "e69de29bb2d1d6434b8b29ae775ad8c2e48c5391";
@@ -207,5 +208,32 @@ fn a_list_is_kept_in_two_places(rt: HostRuntime) -> Result<(), Fail> {
     crosses_threads(list);
     let object = copy.get(0).ok_or("an object")?;
     assert!(rt; copy.len() == 1 && object.body() == TAG);
+    Ok(())
+}
+
+// So many references to one blob of so many zero bytes.
+fn alike(alloc: Global, count: usize, size: usize) -> Result<ObjectList, Fail> {
+    if size > MAX_BODY {
+        return Err(Fail::from("a body that may be"));
+    }
+    let object = Object::from_body(alloc, Kind::Blob, vec![in alloc; 0; size]?)?;
+    let mut list = ObjectList::new(alloc);
+    for _ in 0..count {
+        list.push(object.clone()?)?;
+    }
+    Ok(list)
+}
+
+#[test]
+fn a_pack_has_limits(rt: HostRuntime) -> Result<(), Fail> {
+    for (count, size, fit) in [
+        (0, 0, true),
+        (16, 16_777_216, true),
+        (17, 16_777_215, false),
+        (100_000, 0, true),
+        (100_001, 0, false),
+    ] {
+        assert!(rt; fit_one_pack(&alike(rt.alloc(), count, size)?) == fit);
+    }
     Ok(())
 }

@@ -14,6 +14,7 @@ use Rattle.hub_history.specs.Conf.{AreInForce}
 use Rattle.hub_history.specs.History.{IsDueAfter, Stands, after_push, history, made_empty, push_change, step}
 use Rattle.hub_history.specs.Laws.{IsDueBehind}
 use Rattle.hub_history.specs.Opening.{Opening, Pinned}
+use Rattle.git_object.specs.Object.{FitOnePack}
 use Rattle.hub_history.specs.Push.{AreWithinLimits, Judges, Makes, conf_put, is_lacking, landed, outcomes_in}
 use Rattle.hub_history.specs.State.{CommitAmong, Conf, Repository, placed_in, put_in_place, repository_at}
 use Rattle.hub_history.proofs.HistoryLemmas.{some_same}
@@ -60,11 +61,11 @@ module _ (hub : HubView) (pin : Opening) (stands : Stands pin hub.admin hub.log)
       ∙ chosen_put pin.pinned pack (repository_at (state_of hub) pin.pinned.repo) commands atomic j.outcomes (judgement_fits ps pin.pinned pack commands j.outcomes (judges.outcomes ps ok))
       ∙ ap (λ (a : Name). conf_by a (conf_put pin.pinned pack commands settled_os)) (pinned_admin hub.admin hub.log pin stands)
 
-  pub settled_due : pin.pinned.want ≡ Write → AreWithinLimits commands → (os : List Outcome) → os ≡ settled_os → (made : List Name)
+  pub settled_due : pin.pinned.want ≡ Write → AreWithinLimits commands → FitOnePack pack → (os : List Outcome) → os ≡ settled_os → (made : List Name)
       → ((ps : Patterns) → AreTrue ps → Makes ps (state_of hub) (conf_put pin.pinned pack commands os) made) → IsDueBehind hub.admin hub.log (Pushed pin.place pack commands atomic os made)
-  settled_due write within os told made makes = λ ps ok.
+  settled_due write within fit os told made makes = λ ps ok.
       subst (λ (o : Option Pinned). IsDueAfter ps (state_of hub) o pack commands atomic os made) (sym stands)
-      (record { for_writing = write; within = within; judged = j.outcomes; judges = judges.outcomes ps ok; told = told; makes = makes ps ok })
+      (record { for_writing = write; within = within; fit = fit; judged = j.outcomes; judges = judges.outcomes ps ok; told = told; makes = makes ps ok })
 
   pub settled_step : (os : List Outcome) (made : List Name) (next : Option Repository) → next ≡ landed (repository_at (state_of hub) pin.pinned.repo) pack commands os
       → (changes : List (Name × Repository)) → changes ≡ put_in_place pin.pinned.repo next ++ made_empty made → (conf : Option Conf) → conf ≡ conf_by hub.admin (conf_put pin.pinned pack commands os)

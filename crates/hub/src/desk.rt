@@ -2,6 +2,7 @@
 ghost use Rattle.std.specs.Prelude.{◌≡◌, ◌≤◌, length};
 ghost use Rattle.access_check.specs.declared.verdicts.Want.TheVariants as want;
 ghost use Rattle.hub_history.specs.History.{Stands};
+ghost use Rattle.git_object.specs.Object.{FitOnePack};
 ghost use Rattle.hub_history.specs.Push.{AreWithinLimits};
 ghost use Rattle.push_judging.specs.Judged.{IsJudgement};
 ghost use Rattle.hub.specs.Desk.{DeskView, Enters, IsSound, KeepsPins, Looks, Permits, Pushes};
@@ -45,6 +46,7 @@ pub trait Desk {
         requires stands { Stands pin (view self.old).admin (view self.old).seen }
         requires write { pin.pinned.want ≡ want.Write }
         requires within { AreWithinLimits commands }
+        requires fit { FitOnePack pack }
         requires judged { IsJudgement pin.pinned pack commands judged }
         ensures answers { Pushes (view self.old) (view self.new) pin pack commands atomic result }
         ensures keeps { KeepsPins (view self.old) (view self.new) }

@@ -25,6 +25,3 @@ pub use hub_history::{
 };
 pub use hub_state::{ConfInForce, HostedRepo, NoMemory, Pin};
 pub use push_judging::{Judged, judge};
-
-#[cfg(test)]
-mod tests;

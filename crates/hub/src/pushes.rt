@@ -6,6 +6,7 @@ ghost use Rattle.rule_compile.specs.Patterns.{AreTrue, Patterns};
 ghost use Rattle.std.specs.Option.{unwrap_or};
 ghost use Rattle.hub_history.specs.History.{IsLegal, Stands, history, made_empty, step};
 ghost use Rattle.hub_history.specs.Laws.{IsDueBehind};
+ghost use Rattle.git_object.specs.Object.{FitOnePack};
 ghost use Rattle.hub_history.specs.Push.{AreWithinLimits, JudgesAll, Makes, is_done, is_lacking, is_of_conf, landed, outcomes_in};
 ghost use Rattle.hub_history.specs.State.{CommitAmong, placed_in, put_in_place, repository_at};
 ghost use Rattle.push_judging.specs.Judged.{IsJudgement};
@@ -56,6 +57,7 @@ impl Hub {
         requires stands { Stands pin self.old.admin self.old.log }
         requires write { pin.pinned.want ≡ want.Write }
         requires within { AreWithinLimits commands }
+        requires fit { FitOnePack pack }
         requires judged { IsJudgement pin.pinned pack commands judged }
         ensures logs { Logs self.old self.new caller (settled pin pack commands atomic result) }
         ensures due { IsDueIn self.old (settled pin pack commands atomic result) }
@@ -84,6 +86,7 @@ impl Hub {
         requires stands { Stands pin.now self.old.admin self.old.log }
         requires write { pin.now.pinned.want ≡ want.Write }
         requires within { AreWithinLimits commands }
+        requires fit { FitOnePack pack }
         requires judged { IsJudgement pin.now.pinned pack commands judged }
         ensures due { IfOk result (λ told. IsDueBehind self.old.admin self.old.log (event.Pushed pin.now.place pack commands atomic told.0 told.1)) }
         ensures logs { IfOk result (λ told. self.new ≡ logged self.old caller (event.Pushed pin.now.place pack commands atomic told.0 told.1)) }
@@ -124,6 +127,7 @@ impl Hub {
         requires stands { Stands pin.now self.now.admin self.now.log }
         requires write { pin.now.pinned.want ≡ want.Write }
         requires within { AreWithinLimits commands.now }
+        requires fit { FitOnePack pack.now }
         requires judged { IsJudgement pin.now.pinned pack.now commands.now judged }
         ensures due { IfOk result (λ p. IsDueBehind self.now.admin self.now.log (event.Pushed pin.now.place pack.now commands.now atomic p.outcomes p.made)) }
         ensures step { IfOk result (λ p. step (history self.now.admin self.now.log) (event.Pushed pin.now.place pack.now commands.now atomic p.outcomes p.made) ≡ stored (placed_in (state_of self.now).repositories p.changes.items) (unwrap_or p.conf (state_of self.now).conf)) }

@@ -2,6 +2,7 @@
 use Rattle.std.specs.Prelude.{◌≡◌, ℕ, Bool, List, [], ◌∷◌, ◌++◌, map, Option, None, Some}
 use Rattle.std.specs.List.{slice_get}
 use Rattle.git_object.specs.Content.{Content}
+use Rattle.git_object.specs.Object.{FitOnePack}
 use Rattle.ref_store.specs.Refs.{Name}
 use Rattle.ref_store.specs.declared.command.Command.{Command}
 use Rattle.rule_compile.specs.Patterns.{AreTrue, Patterns}
@@ -79,11 +80,12 @@ replay admin log = (history admin log).state
 
 -- ---- what an event has to record
 
--- A push names an opening for writing that was granted, and is within the limits. It records what each command is told, by that opening and by the state
+-- A push names an opening for writing that was granted, is within the limits, and has objects that fit one pack. It records what each command is told, by that opening and by the state
 -- just before the push, and the repositories that its conf makes.
 pub record IsDuePush (patterns : Patterns) (state : State) (pinned : Pinned) (pack : List Content) (commands : List Command) (atomic : Bool) (outcomes : List Outcome) (made : List Name) : Type 0 where
   pub for_writing : pinned.want ≡ Write
   pub within : AreWithinLimits commands
+  pub fit : FitOnePack pack
   pub judged : List (Option Outcome)
   pub judges : JudgesAll patterns pinned pack commands judged
   pub told : outcomes ≡ outcomes_in (repository_at state pinned.repo) pack commands atomic judged

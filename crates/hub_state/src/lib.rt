@@ -17,6 +17,3 @@ pub use hosted::HostedRepo;
 pub use hub_history::{Outcome, OutcomeList, RepoName, UserName, Want};
 pub use pin::Pin;
 pub use prepared::PreparedPack;
-
-#[cfg(test)]
-mod tests;

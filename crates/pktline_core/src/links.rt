@@ -1,7 +1,11 @@
 // A link to a client, as contracts see it in both directions.
-ghost use Rattle.std.specs.Prelude.{◌≡◌, ◌^◌, ◌<◌, ◌≤◌, length};
+ghost use Rattle.std.specs.Prelude.{◌≡◌, ◌^◌, ◌<◌, ◌≤◌, Some, length};
+ghost use Rattle.pktline_core.specs.Faults.{take_text, write_text};
 ghost use Rattle.pktline_core.specs.LinkState.{LinkState};
 ghost use Rattle.pktline_core.specs.Links.{Takes, Puts, TellsTake, TellsPut, TakesAll, TellsReading, Writes, TellsWriting, IsLater, KeepsReading, KeepsWriting};
+
+use std::error::Error;
+use std::fmt;
 
 /// What one call of `take` did.
 #[derive(Clone, Copy, Debug, PartialEq, Eq)]
@@ -65,6 +69,19 @@ pub enum TakeFault {
     Failed = 2,
 }
 
+impl fmt::Display for TakeFault {
+    ghost output = { λ fault. Some (take_text fault) };
+
+    fn fmt<W: fmt::Write>(&self, f: &mut fmt::Formatter<W>) -> fmt::Result {
+        match self {
+            TakeFault::Ended => write!(f, "the input ended"),
+            TakeFault::Failed => write!(f, "read failed"),
+        }
+    }
+}
+
+impl Error for TakeFault {}
+
 /// Fills the room with the next bytes, in as many calls of `take` as the source wants.
 pub fn take_all<S: Source>(source: &mut S, room: &mut [u8]) -> Result<(), TakeFault>
     ensures takes { TakesAll (S.state source.old) (S.state source.new) room.new result }
@@ -91,6 +108,19 @@ pub enum WriteFault {
     /// A sink over memory wanted memory.
     NoMemory = 2,
 }
+
+impl fmt::Display for WriteFault {
+    ghost output = { λ fault. Some (write_text fault) };
+
+    fn fmt<W: fmt::Write>(&self, f: &mut fmt::Formatter<W>) -> fmt::Result {
+        match self {
+            WriteFault::Failed => write!(f, "write failed"),
+            WriteFault::NoMemory => write!(f, "out of memory"),
+        }
+    }
+}
+
+impl Error for WriteFault {}
 
 /// Writes these bytes, in as many calls of `put` as the sink wants.
 pub fn write_all<S: Sink>(sink: &mut S, bytes: &[u8]) -> Result<(), WriteFault>

@@ -1,8 +1,10 @@
 // Packets of the format pkt-line.
-ghost use Rattle.std.specs.Prelude.{◌≡◌};
-ghost use Rattle.pktline_core.specs.Faults.{fault_of_take};
+ghost use Rattle.std.specs.Prelude.{◌≡◌, Some};
+ghost use Rattle.pktline_core.specs.Faults.{fault_of_take, packet_text};
 
 use crate::links::TakeFault;
+use std::error::Error;
+use std::fmt;
 
 /// The most bytes that a packet's payload has: 65,520 less the four of its length.
 pub const MAX_PAYLOAD: usize = 65_516;
@@ -25,6 +27,20 @@ pub enum PktFault {
     /// The source failed.
     ReadFault = 3,
 }
+
+impl fmt::Display for PktFault {
+    ghost output = { λ fault. Some (packet_text fault) };
+
+    fn fmt<W: fmt::Write>(&self, f: &mut fmt::Formatter<W>) -> fmt::Result {
+        match self {
+            PktFault::Truncated => write!(f, "packet cut off"),
+            PktFault::BadLength => write!(f, "bad packet length"),
+            PktFault::ReadFault => write!(f, "read failed"),
+        }
+    }
+}
+
+impl Error for PktFault {}
 
 impl From<TakeFault> for PktFault {
     ghost from_gives = { λ fault packet_fault. packet_fault ≡ fault_of_take fault };

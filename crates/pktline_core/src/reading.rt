@@ -117,6 +117,9 @@ impl PktReader {
 }
 
 // What four digits say.
+// The most that the length of a packet says: its own four digits and the payload.
+const MAX_LENGTH: u32 = 65_520;
+
 #[derive(Clone, Copy)]
 enum Head {
     // A payload of so many bytes follows.
@@ -134,7 +137,7 @@ fn read_head<S: Source>(source: &mut S) -> Result<Head, PktFault>
     take_all(source, &mut digits)?;
     match number(&digits) {
         Some(0) => Ok(Head::Flush),
-        Some(size @ 4..=65_520) => Ok(Head::Line(size as usize - 4)),
+        Some(size @ 4..=MAX_LENGTH) => Ok(Head::Line(size as usize - 4)),
         _ => Err(PktFault::BadLength),
     }
 }

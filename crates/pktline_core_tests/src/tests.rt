@@ -165,3 +165,29 @@ fn faults_have_their_numbers(rt: HostRuntime) -> Result<(), Fail> {
     assert!(rt; WriteFault::Failed as u8 == 1 && WriteFault::NoMemory as u8 == 2);
     Ok(())
 }
+
+fn crosses_threads<T: Send + Sync + Drop>(_value: T) {}
+
+#[test]
+fn links_and_readers_cross_threads(rt: HostRuntime) -> Result<(), Fail> {
+    crosses_threads(link_over(rt.alloc(), b"0000", 4, &[], &[])?);
+    crosses_threads(PktReader::new(rt.alloc())?);
+    Ok(())
+}
+
+#[test]
+fn faults_have_texts(rt: HostRuntime) -> Result<(), Fail> {
+    let text = format!(in rt.alloc();
+        "{}, {}, {}, {}, {}",
+        NoMemory,
+        TakeFault::Ended,
+        WriteFault::Failed,
+        PktFault::Truncated,
+        PktFault::BadLength
+    )?;
+    assert_eq!(rt;
+        text.as_str(),
+        "out of memory, the input ended, write failed, packet cut off, bad packet length"
+    );
+    Ok(())
+}

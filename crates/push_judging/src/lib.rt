@@ -10,6 +10,3 @@ mod rows;
 pub use hub_state::{ConfInForce, NoMemory, Outcome, Pin, PreparedPack};
 pub use judging::{Judged, judge};
 pub use rows::is_of_conf;
-
-#[cfg(test)]
-mod tests;

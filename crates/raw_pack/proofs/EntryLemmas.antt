@@ -1,8 +1,8 @@
 -- Entries, one after another.
-use Rattle.std.proofs.Common.{◌≡◌, ℕ, suc, ◌+◌, List, [], ◌∷◌, ◌++◌, length, Some, None, Ok, Err, ◌⊎◌, refl, subst, inl, inr}
+use Rattle.std.proofs.Common.{◌≡◌, ℕ, suc, ◌+◌, List, [], ◌∷◌, ◌++◌, length, Some, None, Ok, Err, ◌⊎◌, arith, refl, subst, inl, inr}
 use Rattle.sha1.specs.declared.Sha1.{Sha1}
 use Rattle.git_object.specs.Content.{Content}
-use Rattle.git_object.specs.Object.{fault_of}
+use Rattle.git_object.specs.Object.{fault_of, total_bytes}
 use Rattle.git_object.specs.declared.fault.ObjFault.{ObjFault}
 use Rattle.pktline_core.specs.LinkState.{LinkState}
 use Rattle.pktline_core.specs.Links.{IsLater}
@@ -13,6 +13,11 @@ use Rattle.raw_pack.specs.declared.head.Head.{Head}
 use Rattle.raw_pack.specs.declared.fault.PackFault.{PackFault}
 use Rattle.raw_pack.specs.declared.fault.PackFault.TheVariants.{BadObject, Truncated, NoMemory}
 use Rattle.raw_pack.proofs.ReadLemmas.{leaves_then, leaves_end, reads_first, reads_then, reads_gives, reads_fails, reads_lacks, reads_value}
+
+-- one object more, and its body
+pub total_bytes-more : (objects : List Content) (object : Content) → total_bytes (objects ++ object ∷ []) ≡ total_bytes objects + length object.body
+total_bytes-more [] object = omega arith
+total_bytes-more (first ∷ objects) object = omega (arith, total_bytes-more objects object)
 
 pub entry_cut_in_head : (entry sum : ℕ) (old new : LinkState) (before after : Sha1) (fault : PackFault) → Reads (entry_head entry sum) old new before after (Err fault) → Reads (pack_entry entry sum) old new before after (Err fault)
 unfolding pack_entry

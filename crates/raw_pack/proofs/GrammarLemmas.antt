@@ -12,13 +12,13 @@ use Rattle.std.specs.Str.{bytes_eq}
 use Rattle.sha1.specs.Sha1.{sha1}
 use Rattle.base_types.specs.Fronts.{Front, Whole, Broken, Partial}
 use Rattle.git_object.specs.Content.{Content}
-use Rattle.git_object.specs.Object.{fault_of}
+use Rattle.git_object.specs.Object.{FitOnePack, fault_of, total_bytes}
 use Rattle.git_object.specs.declared.kind.Kind.{Kind}
 use Rattle.git_object.specs.declared.kind.Kind.TheVariants.{Commit, Tree, Blob, Tag}
 use Rattle.git_object.specs.declared.fault.ObjFault.{ObjFault}
 use Rattle.raw_pack.specs.Formats.{gives, fails, bytes, ◌>>=◌, front, behind, and_then}
 use Rattle.raw_pack.specs.Grammar.{kind_bits, spelled_head, spelled_entry, before_trailer, spelled_pack, IsPackable, ArePackable, IsPack}
-use Rattle.raw_pack.specs.Laws.{AreBytes, BeginsWith, IsWithin, total}
+use Rattle.raw_pack.specs.Laws.{AreBytes, BeginsWith}
 use Rattle.raw_pack.specs.Packs.{word, signature, version, entry_count, header, byte, is_too_large, sized, more_size, kind_of_bits, head_by_kind, entry_head, formed, pack_entry, pack_entries, signed_part, trailer, pack_end, pack_front}
 use Rattle.raw_pack.specs.declared.head.Head.{Head}
 use Rattle.raw_pack.specs.declared.fault.PackFault.{PackFault}
@@ -248,7 +248,7 @@ record HasEntries (left sum : ℕ) (read : List Content) (xs : List ℕ) (all : 
   spelled : xs ≡ flat_map spelled_entry news
   count : length news ≡ left
   each : All IsPackable news
-  light : sum + total news ≤ 268435456
+  light : sum + total_bytes news ≤ 268435456
 
 entries_spelled : (left entry sum : ℕ) (read : List Content) (xs : List ℕ) (all : List Content) → sum ≤ 268435456 → AreBytes xs → Spells (pack_entries left entry sum read) xs all → HasEntries left sum read xs all
 unfolding pack_entries
@@ -271,7 +271,7 @@ entries_spelled (suc left) entry sum read xs all low are is =
 
 record HasSigned (xs : List ℕ) (contents : List Content) : Type 0 where
   packable : ArePackable contents
-  within : IsWithin contents
+  within : FitOnePack contents
   whole : xs ≡ before_trailer contents
 
 signed_spelled : (xs : List ℕ) (contents : List Content) → AreBytes xs → Spells signed_part xs contents → HasSigned xs contents
@@ -286,7 +286,7 @@ signed_spelled xs contents are is =
     let entries : parts.zs ≡ flat_map spelled_entry contents = rest.spelled ∙ ap (flat_map spelled_entry) (sym rest.both) in
     record {
       packable = record { few = omega (arith, few); each = subst (All IsPackable) (sym rest.both) rest.each };
-      within = record { few = few; light = subst (λ (l : List Content). total l ≤ 268435456) (sym rest.both) (omega (arith, rest.light)) };
+      within = record { few = few; light = subst (λ (l : List Content). total_bytes l ≤ 268435456) (sym rest.both) (omega (arith, rest.light)) };
       whole =
           parts.both
           ∙ ap (λ (l : List ℕ). l ++ parts.zs) head.0
@@ -328,7 +328,7 @@ pack_by input n contents (Whole m found) are is whole =
     record {
       within = omega (arith, inner.2, rest, within, length-drop m input);
       pack = subst (IsPack (take n input)) end_is.1 pack;
-      limits = subst IsWithin end_is.1 signed_is.within;
+      limits = subst FitOnePack end_is.1 signed_is.within;
     }
 
 pub read_is_pack : (input : List ℕ) (n : ℕ) (contents : List Content) → AreBytes input → pack_front input ≡ Whole n contents → BeginsWith input n contents

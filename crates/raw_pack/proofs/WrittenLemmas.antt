@@ -12,12 +12,12 @@ use Rattle.std.specs.Str.{bytes_eq}
 use Rattle.sha1.specs.Sha1.{sha1, digest_bytes}
 use Rattle.base_types.specs.Fronts.{Whole}
 use Rattle.git_object.specs.Content.{Content}
-use Rattle.git_object.specs.Object.{fault_of}
+use Rattle.git_object.specs.Object.{FitOnePack, fault_of, total_bytes}
 use Rattle.git_object.specs.declared.kind.Kind.{Kind}
 use Rattle.git_object.specs.declared.kind.Kind.TheVariants.{Commit, Tree, Blob, Tag}
 use Rattle.raw_pack.specs.Formats.{Format, gives, fails, wants, bytes, ◌>>=◌, front, behind}
 use Rattle.raw_pack.specs.Grammar.{kind_bits, spelled_head, spelled_entry, before_trailer, spelled_pack, IsPackable, ArePackable}
-use Rattle.raw_pack.specs.Laws.{BeginsWith, IsWithin, total}
+use Rattle.raw_pack.specs.Laws.{BeginsWith}
 use Rattle.raw_pack.specs.Packs.{word, signature, version, entry_count, header, byte, is_too_large, sized, more_size, kind_of_bits, head_by_kind, entry_head, formed, pack_entry, pack_entries, signed_part, trailer, pack_end, pack_front}
 use Rattle.raw_pack.specs.declared.fault.PackFault.{PackFault}
 use Rattle.raw_pack.specs.declared.fault.PackFault.TheVariants.{NotAPack, Version, TooMany, BadHead, Truncated, TrailerDiffers}
@@ -155,19 +155,19 @@ entry_taken entry sum content good both =
     (joins_end (bytes (length content.body) (Truncated entry)) (λ b. formed entry (record { kind = content.kind; body = b }) (fault_of content.kind b)) content.body content.body content
     (taken (length content.body) (Truncated entry) content.body refl) (rw good.form))
 
-entries_taken : (contents : List Content) (entry sum : ℕ) (read : List Content) → All IsPackable contents → sum + total contents ≤ 268435456
+entries_taken : (contents : List Content) (entry sum : ℕ) (read : List Content) → All IsPackable contents → sum + total_bytes contents ≤ 268435456
     → Spells (pack_entries (length contents) entry sum read) (flat_map spelled_entry contents) (read ++ contents)
 unfolding pack_entries front
 entries_taken [] entry sum read good light = ap (λ (l : List Content). Whole 0 l) (sym (append-nil read))
 entries_taken (content ∷ contents) entry sum read good light =
     let first_light : sum + length content.body ≤ 268435456 = omega (arith, light) in
-    let rest_light : sum + length content.body + total contents ≤ 268435456 = omega (arith, light) in
+    let rest_light : sum + length content.body + total_bytes contents ≤ 268435456 = omega (arith, light) in
     let rest_taken = entries_taken contents (entry + 1) (sum + length content.body) (read ++ content ∷ []) (All-rest IsPackable content contents (content ∷ contents) refl good) rest_light in
     joins (pack_entry entry sum) (λ c. pack_entries (length contents) (entry + 1) (sum + length c.body) (read ++ c ∷ [])) (spelled_entry content) (flat_map spelled_entry contents) content (read ++ content ∷ contents)
     (entry_taken entry sum content (All-head IsPackable content contents good) first_light)
     (subst (λ (l : List Content). Spells (pack_entries (length contents) (entry + 1) (sum + length content.body) (read ++ content ∷ [])) (flat_map spelled_entry contents) l) (append_assoc read (content ∷ []) contents) rest_taken)
 
-signed_taken : (contents : List Content) → ArePackable contents → IsWithin contents → Spells signed_part (before_trailer contents) contents
+signed_taken : (contents : List Content) → ArePackable contents → FitOnePack contents → Spells signed_part (before_trailer contents) contents
 unfolding signed_part before_trailer
 signed_taken contents good within =
     joins header (λ count. pack_entries count 0 0 []) (codes "PACK" ++ to_be_bytes w32 2 ++ to_be_bytes w32 (length contents)) (flat_map spelled_entry contents) (length contents) contents (header_taken (length contents) within.few)
@@ -186,7 +186,7 @@ end_taken computed contents len =
     (taken 20 (Truncated (length contents)) computed len) (rw same))
     refl
 
-pack_taken : (contents : List Content) → ArePackable contents → IsWithin contents → pack_front (spelled_pack contents) ≡ Whole (length (spelled_pack contents)) contents
+pack_taken : (contents : List Content) → ArePackable contents → FitOnePack contents → pack_front (spelled_pack contents) ≡ Whole (length (spelled_pack contents)) contents
 unfolding spelled_pack
 pack_taken contents good within =
     front-pack (before_trailer contents) (sha1 (before_trailer contents)) contents (signed_taken contents good within)
@@ -194,7 +194,7 @@ pack_taken contents good within =
     ∙ ap (λ (n : ℕ). Whole n contents) (sym (length-append (before_trailer contents) (sha1 (before_trailer contents))))
 
 -- what is written is read, whatever follows
-pub written_is_read : (contents : List Content) (more : List ℕ) → ArePackable contents → IsWithin contents → pack_front (spelled_pack contents ++ more) ≡ Whole (length (spelled_pack contents)) contents
+pub written_is_read : (contents : List Content) (more : List ℕ) → ArePackable contents → FitOnePack contents → pack_front (spelled_pack contents ++ more) ≡ Whole (length (spelled_pack contents)) contents
 written_is_read contents more good within = pack_whole_stays (spelled_pack contents) more (length (spelled_pack contents)) contents (pack_taken contents good within)
 
 pub pack_is_read : (input : List ℕ) (n : ℕ) (contents : List Content) → BeginsWith input n contents → pack_front input ≡ Whole n contents

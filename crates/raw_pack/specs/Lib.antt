@@ -6,3 +6,4 @@ pub mod Reading
 pub mod Readers
 pub mod Writing
 pub mod Laws
+pub mod Faults

@@ -1,8 +1,11 @@
 // Why a pack wasn't read.
-ghost use Rattle.std.specs.Prelude.{◌≡◌};
+ghost use Rattle.std.specs.Prelude.{◌≡◌, Some};
+ghost use Rattle.raw_pack.specs.Faults.{fault_text};
 
 use base_types::NoMemory;
 use std::alloc::{AllocError, AllocFailed};
+use std::error::Error;
+use std::fmt;
 
 /// Why a pack wasn't read. Entries count from 0.
 #[derive(Clone, Copy, Debug, PartialEq, Eq)]
@@ -29,6 +32,28 @@ pub enum PackFault {
     ReadFault,
     NoMemory,
 }
+
+impl fmt::Display for PackFault {
+    ghost output = { λ fault. Some (fault_text fault) };
+
+    fn fmt<W: fmt::Write>(&self, f: &mut fmt::Formatter<W>) -> fmt::Result {
+        match self {
+            PackFault::NotAPack => write!(f, "not a pack"),
+            PackFault::Version(number) => write!(f, "version {number}"),
+            PackFault::Delta(entry) => write!(f, "delta at entry {entry}"),
+            PackFault::BadHead(entry) => write!(f, "bad head at entry {entry}"),
+            PackFault::BadObject(entry) => write!(f, "bad object at entry {entry}"),
+            PackFault::Truncated(entry) => write!(f, "truncated at entry {entry}"),
+            PackFault::TrailerDiffers { .. } => write!(f, "trailer differs"),
+            PackFault::TooLarge(entry) => write!(f, "too large at entry {entry}"),
+            PackFault::TooMany(_) => write!(f, "too many entries"),
+            PackFault::ReadFault => write!(f, "read failed"),
+            PackFault::NoMemory => write!(f, "out of memory"),
+        }
+    }
+}
+
+impl Error for PackFault {}
 
 impl From<NoMemory> for PackFault {
     ghost use Rattle.raw_pack.specs.declared.fault.PackFault.TheVariants as fault;

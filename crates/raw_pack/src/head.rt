@@ -7,7 +7,7 @@ ghost use Rattle.raw_pack.specs.Reading.{Reads, TellsFault};
 
 use crate::fault::PackFault;
 use crate::input::{take_byte, take_bytes, take_word};
-use git_object::Kind;
+use git_object::{Kind, MAX_BODY, MAX_PACKED, MAX_PACKED_BYTES};
 use pktline_core::Source;
 use sha1::Sha1;
 
@@ -20,16 +20,15 @@ pub struct Head {
 }
 
 /// How many entries a pack has at most.
-pub const MAX_ENTRIES: u32 = 100_000;
+pub const MAX_ENTRIES: u32 = MAX_PACKED as u32;
 
-/// How many bytes a body has at most, and all bodies of a pack together.
-pub const MAX_BODY: u64 = 16_777_216;
-
-pub const MAX_SUM: u64 = 268_435_456;
+/// How many bytes all bodies of a pack have at most.
+pub const MAX_SUM: u64 = MAX_PACKED_BYTES as u64;
 
 /// `PACK`, the version 2, and the number of entries, which is the result.
 pub fn read_header<S: Source>(source: &mut S, hasher: &mut Sha1) -> Result<u32, PackFault>
     ensures reads { Reads header (S.state source.old) (S.state source.new) hasher.old hasher.new result }
+    ensures few { IfOk result (λ count. count ≤ MAX_ENTRIES) }
     ensures tells { TellsFault (S.state source.old) (S.state source.new) result }
     ensures writing { KeepsWriting (S.state source.old) (S.state source.new) }
     ensures later { IsLater (S.state source.old) (S.state source.new) }
@@ -68,6 +67,7 @@ fn read_version<S: Source>(source: &mut S, hasher: &mut Sha1) -> Result<(), Pack
 
 fn read_count<S: Source>(source: &mut S, hasher: &mut Sha1) -> Result<u32, PackFault>
     ensures reads { Reads entry_count (S.state source.old) (S.state source.new) hasher.old hasher.new result }
+    ensures few { IfOk result (λ count. count ≤ MAX_ENTRIES) }
     ensures tells { TellsFault (S.state source.old) (S.state source.new) result }
     ensures writing { KeepsWriting (S.state source.old) (S.state source.new) }
     ensures later { IsLater (S.state source.old) (S.state source.new) }
@@ -127,7 +127,7 @@ fn too_large(sum: u64, size: u64) -> bool
     requires { sum ≤ MAX_SUM }
     ensures { result ≡ is_too_large sum size }
 {
-    if size > MAX_BODY {
+    if size > MAX_BODY as u64 {
         return true;
     }
     sum + size > MAX_SUM

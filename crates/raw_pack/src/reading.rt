@@ -1,5 +1,6 @@
 // Entries, the trailer, and a whole pack.
 ghost use Rattle.std.specs.Prelude.{◌≡◌, ◌+◌, ◌≤◌, [], length, IfOk};
+ghost use Rattle.git_object.specs.Object.{FitOnePack, total_bytes};
 ghost use Rattle.pktline_core.specs.Links.{IsLater, KeepsWriting};
 ghost use Rattle.raw_pack.specs.Formats.{front};
 ghost use Rattle.raw_pack.specs.Packs.{pack_entries, pack_entry, pack_front, trailer};
@@ -57,6 +58,7 @@ pub fn read_entries<S: Source>(
 ) -> Result<ObjectList, PackFault>
     ensures reads { Reads (pack_entries count 0 0 []) (S.state source.old) (S.state source.new) hasher.old hasher.new result }
     ensures all { IfOk result (λ objects. length objects ≡ count) }
+    ensures light { IfOk result (λ objects. total_bytes objects ≤ MAX_SUM) }
     ensures tells { TellsFault (S.state source.old) (S.state source.new) result }
     ensures writing { KeepsWriting (S.state source.old) (S.state source.new) }
     ensures later { IsLater (S.state source.old) (S.state source.new) }
@@ -97,6 +99,7 @@ pub fn read_trailer<S: Source>(
 /// The objects of the pack that stands at the front of the source, in order. Nothing behind the trailer is taken.
 pub fn read_pack<S: Source>(alloc: Global, source: &mut S) -> Result<ObjectList, PackFault>
     ensures reads { ReadsFront pack_front (S.state source.old) (S.state source.new) result }
+    ensures fit { IfOk result FitOnePack }
     ensures told { AnswersLeft pack_front ((S.state source.old).left) ((S.state source.new).left) result }
     ensures tells { TellsFault (S.state source.old) (S.state source.new) result }
     ensures writing { KeepsWriting (S.state source.old) (S.state source.new) }

@@ -5,8 +5,7 @@ ghost use Rattle.pktline_core.specs.Links.{IsLater, KeepsReading, TellsWriting, 
 ghost use Rattle.raw_pack.specs.Grammar.{ArePackable, IsPackable, kind_bits, spelled_entry, spelled_head, spelled_pack};
 ghost use Rattle.raw_pack.specs.Writing.{WritesHashed, objects_at};
 
-use crate::head::MAX_BODY;
-use git_object::{Kind, Object};
+use git_object::{Kind, MAX_BODY, Object};
 use pktline_core::{Sink, WriteFault, write_all};
 use ref_store::Repo;
 use sha1::Sha1;

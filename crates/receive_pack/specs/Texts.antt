@@ -7,7 +7,7 @@ use Rattle.git_object.specs.declared.object_id.ObjectId.{ObjectId}
 use Rattle.git_object.specs.ObjectId.{hex_of}
 use Rattle.pktline_core.specs.Packets.{spelling, Flush}
 use Rattle.raw_pack.specs.declared.fault.PackFault.{PackFault}
-use Rattle.raw_pack.specs.declared.fault.PackFault.TheVariants.{NotAPack, Version, Delta, BadHead, BadObject, Truncated, TrailerDiffers, TooLarge, TooMany, ReadFault, NoMemory}
+use Rattle.raw_pack.specs.Faults.{fault_text}
 use Rattle.ref_store.specs.declared.command.Command.{Command}
 use Rattle.hub_history.specs.declared.outcome.Outcome.{Outcome}
 use Rattle.hub_history.specs.declared.outcome.Outcome.TheVariants.{Done, BadName, Twice, NoChange, NotAdvertised, Missing, WrongKind, Denied, ManyPaths, ConfRefused, Stale, DirFile, AtomicOther, Collided, Full}
@@ -86,22 +86,9 @@ status_lines rules push (c ∷ cs) (o ∷ os) = status_text rules push c.name o 
 unfoldable pub report : List Rule → ReportedPush → List Outcome → List ℕ
 report rules push outcomes = flat_map packet (codes "unpack ok\n" ∷ status_lines rules push push.commands outcomes) ++ spelling Flush
 
--- why a pack isn't taken; of a failed read and of want of memory nothing is told
-abbrev pub pack_text : PackFault → List ℕ
-pack_text NotAPack = codes "not a pack"
-pack_text (Version number) = codes "version " ++ decimal number
-pack_text (Delta entry) = codes "delta at entry " ++ decimal entry
-pack_text (BadHead entry) = codes "bad head at entry " ++ decimal entry
-pack_text (BadObject entry) = codes "bad object at entry " ++ decimal entry
-pack_text (Truncated entry) = codes "truncated at entry " ++ decimal entry
-pack_text (TrailerDiffers read computed) = codes "trailer differs"
-pack_text (TooLarge entry) = codes "too large at entry " ++ decimal entry
-pack_text (TooMany count) = codes "too many entries"
-pack_text ReadFault = []
-pack_text NoMemory = []
-
+-- why a pack isn't taken
 abbrev pub unpack_text : PackFault → List ℕ
-unpack_text fault = codes "unpack " ++ pack_text fault ++ 10 ∷ []
+unpack_text fault = codes "unpack " ++ fault_text fault ++ 10 ∷ []
 
 -- what is reported of the ref of a command whose pack isn't taken
 abbrev pub unpacker_error : Command → List ℕ

@@ -1,14 +1,12 @@
 // The commands of a push, line by line.
-ghost use Rattle.std.specs.Prelude.{◌≡◌, ◌<◌, ◌==◌, not, length, position, IfOk, IfSome};
+ghost use Rattle.std.specs.Prelude.{◌≡◌, ◌==◌, not, IfOk, IfSome};
 ghost use Rattle.std.specs.List.{list_all};
 ghost use Rattle.std.specs.Option.{option_map};
-ghost use Rattle.git_object.specs.Reader.{up_to};
 ghost use Rattle.receive_pack.specs.Changes.{all_delete, before_zero, behind_zero, capabilities, change, deletes, first_capabilities, first_command, has_word, HasShortName, is_ref_text, parts};
 
 use base_types::{NoMemory, Text};
-use git_object::ObjectId;
-use ref_store::{Command, CommandList};
-use session_core::{hex_id, literal};
+use git_object::{ObjectId, hex_id, literal, up_to};
+use ref_store::{Command, CommandList, MAX_NAME};
 use std::alloc::Global;
 
 /// What the client asks for of what the server can do.
@@ -54,7 +52,7 @@ fn is_ref_text(text: &[u8]) -> bool
     if text.is_empty() {
         return false;
     }
-    if text.len() > 1024 {
+    if text.len() > MAX_NAME {
         return false;
     }
     has_no_zero(text)
@@ -95,7 +93,7 @@ pub fn first_capabilities(line: &[u8]) -> Capabilities
 fn before_zero(line: &[u8]) -> &[u8]
     ensures { result.now ≡ before_zero line.now }
 {
-    match up_to_zero(line) {
+    match up_to(line, 0) {
         Some((text, _)) => text,
         None => line,
     }
@@ -104,28 +102,10 @@ fn before_zero(line: &[u8]) -> &[u8]
 fn behind_zero(line: &[u8]) -> &[u8]
     ensures { result.now ≡ behind_zero line.now }
 {
-    match up_to_zero(line) {
+    match up_to(line, 0) {
         Some((_, words)) => words,
         None => b"".as_slice(),
     }
-}
-
-// The bytes before the first zero byte, and those behind it.
-#[tactic(auto, unfolding(git_object::specs::Reader::up_to))]
-fn up_to_zero(bytes: &[u8]) -> Option<(&[u8], &[u8])>
-    ensures { option_map (λ r. (r.0.now, r.1.now)) result ≡ up_to 0 bytes.now }
-{
-    let at = zero_place(bytes)?;
-    let (before, _) = bytes.split_at(at);
-    let (_, behind) = bytes.split_at(at + 1);
-    Some((before, behind))
-}
-
-fn zero_place(bytes: &[u8]) -> Option<usize>
-    ensures value { result ≡ position (λ b. b == 0) bytes.now }
-    ensures within { IfSome result (λ at. at < length bytes.now) }
-{
-    bytes.iter().position(|b| *b == 0)
 }
 
 fn capabilities_in(text: &[u8]) -> Capabilities

@@ -19,6 +19,9 @@ use std::alloc::Global;
 /// How many commands a push has at most.
 const MOST_COMMANDS: u32 = 10_000;
 
+// One more.
+const TOO_MANY_COMMANDS: u64 = MOST_COMMANDS as u64 + 1;
+
 /// The first command of a push, in the line at this offset.
 pub fn first_in<L: Link>(
     alloc: Global,
@@ -104,7 +107,11 @@ fn no_more<L: Link>(link: &mut L, next: &Option<Command>) -> Result<(), SessionE
 {
     match next {
         None => Ok(()),
-        Some(_) => Err(refuse(link, b"ERR too long", SessionEnd::TooLong(10_001))),
+        Some(_) => Err(refuse(
+            link,
+            b"ERR too long",
+            SessionEnd::TooLong(TOO_MANY_COMMANDS),
+        )),
     }
 }
 

@@ -5,6 +5,7 @@ ghost use Rattle.pktline_core.specs.Packets.{spelling, Flush};
 ghost use Rattle.ref_store.specs.Refs.{zero_id};
 ghost use Rattle.hub_history.specs.State.{HasShortNames};
 ghost use Rattle.hub_history.specs.History.{Stands};
+ghost use Rattle.git_object.specs.Object.{FitOnePack};
 ghost use Rattle.hub_history.specs.Push.{AreWithinLimits};
 ghost use Rattle.hub.specs.Desk.{DeskView};
 ghost use Rattle.interaction_tree.specs.Interaction.{write};
@@ -40,6 +41,7 @@ fn take_pack<L: Link>(
 ) -> Result<ObjectList, SessionEnd>
     requires short { HaveShortNames commands.now }
     ensures runs { (desk : DeskView) → Runs (L.state link.old) (L.state link.new) desk desk (taking_pack capabilities commands.now) (outcome_of result) }
+    ensures fit { IfOk result FitOnePack }
     ensures tells { TellsLink (L.state link.old) (L.state link.new) result }
 {
     if all_delete(commands) {
@@ -56,6 +58,7 @@ fn take_whole_pack<L: Link>(
 ) -> Result<ObjectList, SessionEnd>
     requires short { HaveShortNames commands.now }
     ensures runs { (desk : DeskView) → Runs (L.state link.old) (L.state link.new) desk desk (reading_pack capabilities commands.now) (outcome_of result) }
+    ensures fit { IfOk result FitOnePack }
     ensures tells { TellsLink (L.state link.old) (L.state link.new) result }
 {
     match read_pack(alloc, link) {
@@ -81,6 +84,7 @@ fn push<L: Link, K: Desk>(
     requires stands { Stands pin (K.view desk.old).admin (K.view desk.old).seen }
     requires write { pin.pinned.want ≡ Want.Write }
     requires within { AreWithinLimits commands }
+    requires fit { FitOnePack pack }
     ensures runs { RunsByRulebook (L.state link.old) (L.state link.new) (K.view desk.old) (K.view desk.new) (λ book. pushing book pin capabilities commands pack) (outcome_of result) }
     ensures tells { TellsLink (L.state link.old) (L.state link.new) result }
     ensures goes { K.goes_on desk.old desk.new }

@@ -5,7 +5,8 @@ ghost use Rattle.access_check.specs.Verdicts.{rule_of};
 ghost use Rattle.rule_compile.specs.Faults.{policy_text};
 ghost use Rattle.session_core.specs.Denials.{change_text, denial, shown};
 ghost use Rattle.receive_pack.specs.Changes.{HaveShortNames};
-ghost use Rattle.receive_pack.specs.Texts.{first_line, more_line, pack_text, reason, ref_at, status_text, unpack_text, unpacker_error};
+ghost use Rattle.raw_pack.specs.Faults.{fault_text};
+ghost use Rattle.receive_pack.specs.Texts.{first_line, more_line, reason, ref_at, status_text, unpack_text, unpacker_error};
 
 use crate::reports::ReportedPush;
 use access_check::{Letter, Policy, Request};
@@ -216,7 +217,7 @@ pub fn unpack_line(alloc: Global, fault: PackFault) -> Result<Vec<u8>, AllocErro
 
 // Why a pack isn't taken.
 fn push_fault(text: &mut Vec<u8>, fault: PackFault) -> Result<(), AllocError>
-    ensures text { OnOk result (text.new.items ≡ text.old.items ++ pack_text fault) }
+    ensures text { OnOk result (text.new.items ≡ text.old.items ++ fault_text fault) }
     ensures size { OnOk result (length text.new.items ≤ length text.old.items + 65) }
 {
     match fault {
@@ -229,8 +230,8 @@ fn push_fault(text: &mut Vec<u8>, fault: PackFault) -> Result<(), AllocError>
         PackFault::TrailerDiffers { .. } => text.extend_from_slice(b"trailer differs"),
         PackFault::TooLarge(entry) => push_numbered(text, b"too large at entry ", entry),
         PackFault::TooMany(_) => text.extend_from_slice(b"too many entries"),
-        PackFault::ReadFault => Ok(()),
-        PackFault::NoMemory => Ok(()),
+        PackFault::ReadFault => text.extend_from_slice(b"read failed"),
+        PackFault::NoMemory => text.extend_from_slice(b"out of memory"),
     }
 }
 

@@ -30,6 +30,6 @@ pub use base_types::{ItemList, NoMemory, Text};
 pub use command::{Command, CommandList};
 pub use fresh::FreshObjects;
 pub use lens::Lens;
-pub use ref_name::RefName;
+pub use ref_name::{MAX_NAME, RefName};
 pub use repo::{Added, Applied, Compared, Repo};
 pub use salt::Salt;

@@ -89,56 +89,89 @@ fn a_ref_cannot_stand_beside_its_directory(rt: HostRuntime) -> Result<(), Fail> 
     Ok(())
 }
 
-#[test]
-fn objects_are_added_once_and_copies_do_not_see_them(rt: HostRuntime) -> Result<(), Fail> {
-    let alloc = rt.alloc();
+fn add(repo: &mut Repo, alloc: Global, bodies: &[&str]) -> Result<(), Fail> {
+    match repo.add_objects(&blobs(alloc, bodies)?) {
+        Added::Added => Ok(()),
+        _ => Err(Fail::from("an add")),
+    }
+}
+
+// Whether the object is among the first so many.
+fn has(repo: &Repo, alloc: Global, body: &str, first_k: usize) -> Result<bool, Fail> {
+    Ok(repo.object(blob(alloc, body)?.name(), first_k).is_some())
+}
+
+fn repo_of(alloc: Global, bodies: &[&str]) -> Result<Repo, Fail> {
     let mut repo = Repo::empty(alloc)?;
-    assert!(rt; repo.add_objects(&blobs(alloc, &["a", "b", "a"])?) == Added::Added);
+    add(&mut repo, alloc, bodies)?;
+    Ok(repo)
+}
+
+// What is added, how many objects there are, and whether `c` is among the first two and among the first three.
+#[test]
+fn objects_are_added_once(rt: HostRuntime) -> Result<(), Fail> {
+    for (bodies, more, count, early, late) in [
+        (["a", "b", "a"], ["b", "c", "c"], 3, false, true),
+        (["a", "c", "a"], ["b", "c", "b"], 3, true, true),
+        (["a", "b", "b"], ["b", "a", "b"], 2, false, false),
+    ] {
+        let mut repo = repo_of(rt.alloc(), &bodies)?;
+        add(&mut repo, rt.alloc(), &more)?;
+        assert_eq!(rt; repo.count(), count);
+        assert!(rt; has(&repo, rt.alloc(), "c", 2)? == early);
+        assert!(rt; has(&repo, rt.alloc(), "c", 3)? == late);
+    }
+    Ok(())
+}
+
+#[test]
+fn copies_do_not_see_what_is_added(rt: HostRuntime) -> Result<(), Fail> {
+    let mut repo = repo_of(rt.alloc(), &["a", "b"])?;
     let copy = repo.copy()?;
-    let pack = blobs(alloc, &["b", "c", "c"])?;
-    let lens = Lens::new(alloc, &copy, &pack)?;
-    let c = blob(alloc, "c")?.name();
-    assert!(rt; lens.get(c).is_some() && lens.get(ObjectId::zero()).is_none());
-    assert!(rt; repo.add_objects(&pack) == Added::Added);
-    assert_eq!(rt; repo.count(), 3);
-    assert_eq!(rt; copy.count(), 2);
-    assert!(rt; repo.object(c, 3).is_some() && repo.object(c, 2).is_none());
-    assert!(rt; copy.object(c, 3).is_none());
-    assert!(rt; repo.nth(2).is_some() && repo.nth(3).is_none());
+    add(&mut repo, rt.alloc(), &["c"])?;
+    assert_eq!(rt; (repo.count(), copy.count()), (3, 2));
+    assert!(rt; !has(&copy, rt.alloc(), "c", 3)?);
+    Ok(())
+}
+
+#[test]
+fn places_end_at_the_count(rt: HostRuntime) -> Result<(), Fail> {
+    let repo = repo_of(rt.alloc(), &["a", "b"])?;
+    assert!(rt; repo.nth(1).is_some() && repo.nth(2).is_none());
     assert_eq!(rt; repo.refs().count(), 0);
     Ok(())
 }
 
-// How many segments there are after each of so many adds of one object.
-fn segments_of(repo: &mut Repo, alloc: Global, bodies: &[&str]) -> Result<usize, Fail> {
+// The objects of each text, added one after another.
+fn added_singly(alloc: Global, bodies: &[&str]) -> Result<Repo, Fail> {
+    let mut repo = Repo::empty(alloc)?;
     for body in bodies {
-        let Added::Added = repo.add_objects(&blobs(alloc, &[body])?) else {
-            return Err(Fail::from("an add"));
-        };
+        add(&mut repo, alloc, &[body])?;
     }
-    Ok(repo.segments())
+    Ok(repo)
 }
+
+// What is added, how many objects there are then, and how many segments.
+static SEGMENTS: [(&[&str], usize, usize); 9] = [
+    (&["a"], 1, 1),
+    (&["b"], 2, 1),
+    (&["c"], 3, 2),
+    (&["d"], 4, 1),
+    (&["d", "a"], 4, 1),
+    (&["e"], 5, 2),
+    (&["f"], 6, 2),
+    (&["g"], 7, 3),
+    (&["h", "i"], 9, 1),
+];
 
 #[test]
 fn segments_are_joined_while_the_one_before_has_fewer_than_twice_as_many(
     rt: HostRuntime,
 ) -> Result<(), Fail> {
-    let alloc = rt.alloc();
-    let mut repo = Repo::empty(alloc)?;
-    assert_eq!(rt; repo.segments(), 0);
-    for (bodies, count, segments) in [
-        (["a"].as_slice(), 1, 1),
-        (&["b"], 2, 1),
-        (&["c"], 3, 2),
-        (&["d"], 4, 1),
-        (&["d", "a"], 4, 1),
-        (&["e"], 5, 2),
-        (&["f"], 6, 2),
-        (&["g"], 7, 3),
-        (&["h", "i"], 9, 1),
-    ] {
-        assert!(rt; repo.add_objects(&blobs(alloc, bodies)?) == Added::Added);
-        assert_eq!(rt; (repo.count(), repo.segments()), (count, segments));
+    let mut repo = Repo::empty(rt.alloc())?;
+    for (bodies, count, segments) in &SEGMENTS {
+        add(&mut repo, rt.alloc(), bodies)?;
+        assert_eq!(rt; (repo.count(), repo.segments()), (*count, *segments));
     }
     Ok(())
 }
@@ -156,53 +189,56 @@ fn holds(repo: &Repo, alloc: Global, bodies: &[&str]) -> Result<bool, Fail> {
     Ok(repo.count() == bodies.len() && repo.nth(bodies.len()).is_none())
 }
 
-#[test]
-fn copies_keep_what_they_had_while_segments_are_joined(rt: HostRuntime) -> Result<(), Fail> {
-    let alloc = rt.alloc();
-    let bodies = ["a", "b", "c", "d", "e", "f", "g"];
+static BODIES: [&str; 7] = ["a", "b", "c", "d", "e", "f", "g"];
+
+// A copy before each of the objects is added, and one behind them.
+fn copies(alloc: Global) -> Result<Vec<Repo>, Fail> {
     let mut repo = Repo::empty(alloc)?;
     let mut copies = Vec::new(alloc);
-    for body in bodies {
+    for body in &BODIES {
         copies.push(repo.copy()?)?;
-        assert!(rt; repo.add_objects(&blobs(alloc, &[body])?) == Added::Added);
+        add(&mut repo, alloc, &[body])?;
     }
     copies.push(repo)?;
+    Ok(copies)
+}
+
+#[test]
+fn copies_keep_what_they_had_while_segments_are_joined(rt: HostRuntime) -> Result<(), Fail> {
+    let copies = copies(rt.alloc())?;
     for (count, copy) in copies.iter().enumerate() {
-        let had = bodies.get(..count).ok_or("bodies")?;
-        assert!(rt; holds(copy, alloc, had)?, "{count}");
+        let had = BODIES.get(..count).ok_or("bodies")?;
+        assert!(rt; holds(copy, rt.alloc(), had)?, "{count}");
     }
     Ok(())
 }
 
+fn shows(lens: &Lens, alloc: Global, body: &str) -> Result<bool, Fail> {
+    match lens.get(blob(alloc, body)?.name()) {
+        Some(object) => Ok(object.body() == body.as_bytes()),
+        None => Ok(false),
+    }
+}
+
 #[test]
 fn a_lens_reaches_older_segments(rt: HostRuntime) -> Result<(), Fail> {
-    let alloc = rt.alloc();
-    let mut repo = Repo::empty(alloc)?;
-    assert_eq!(rt;
-        segments_of(&mut repo, alloc, &["a", "b", "c", "d", "e", "f", "g"])?,
-        3
-    );
-    let pack = blobs(alloc, &["x"])?;
-    let lens = Lens::new(alloc, &repo, &pack)?;
+    let repo = added_singly(rt.alloc(), &BODIES)?;
+    assert_eq!(rt; repo.segments(), 3);
+    let lens = Lens::new(rt.alloc(), &repo, &blobs(rt.alloc(), &["x"])?)?;
     for body in ["a", "d", "e", "f", "g", "x"] {
-        let object = lens.get(blob(alloc, body)?.name()).ok_or("an object")?;
-        assert!(rt; object.body() == body.as_bytes(), "{body}");
+        assert!(rt; shows(&lens, rt.alloc(), body)?, "{body}");
     }
-    assert!(rt; lens.get(blob(alloc, "y")?.name()).is_none());
+    assert!(rt; !shows(&lens, rt.alloc(), "y")?);
     Ok(())
 }
 
 #[test]
 fn the_first_so_many_may_end_inside_an_older_segment(rt: HostRuntime) -> Result<(), Fail> {
-    let alloc = rt.alloc();
-    let bodies = ["a", "b", "c", "d", "e", "f", "g"];
-    let mut repo = Repo::empty(alloc)?;
-    assert_eq!(rt; segments_of(&mut repo, alloc, &bodies)?, 3);
-    for (at, body) in bodies.iter().enumerate() {
-        let id = blob(alloc, body)?.name();
+    let repo = added_singly(rt.alloc(), &BODIES)?;
+    for (at, body) in BODIES.iter().enumerate() {
         for first_k in 0..9 {
             assert!(rt;
-                repo.object(id, first_k).is_some() == (at < first_k),
+                has(&repo, rt.alloc(), body, first_k)? == (at < first_k),
                 "{body} {first_k}"
             );
         }
@@ -210,12 +246,25 @@ fn the_first_so_many_may_end_inside_an_older_segment(rt: HostRuntime) -> Result<
     Ok(())
 }
 
+// What a move from one value to another comes to.
+fn moved(
+    repo: &mut Repo,
+    name: &RefName,
+    old: ObjectId,
+    new: ObjectId,
+) -> Option<Option<ObjectId>> {
+    match repo.apply(name, old, new) {
+        Applied::Moved => Some(None),
+        Applied::Stale(id) => Some(Some(id)),
+        Applied::DirFile(_) | Applied::NoMemory => None,
+    }
+}
+
 #[test]
 fn a_ref_moves_from_its_value_alone(rt: HostRuntime) -> Result<(), Fail> {
-    let alloc = rt.alloc();
     let (a, b) = (ObjectId { bytes: [1; 20] }, ObjectId { bytes: [2; 20] });
-    let name = ref_name(alloc, b"refs/heads/a")?;
-    let mut repo = Repo::empty(alloc)?;
+    let name = ref_name(rt.alloc(), b"refs/heads/a")?;
+    let mut repo = Repo::empty(rt.alloc())?;
     for (old, new, stale, count) in [
         (a, b, Some(ObjectId::zero()), 0),
         (ObjectId::zero(), a, None, 1),
@@ -223,13 +272,15 @@ fn a_ref_moves_from_its_value_alone(rt: HostRuntime) -> Result<(), Fail> {
         (a, b, None, 1),
         (b, ObjectId::zero(), None, 0),
     ] {
-        match repo.apply(&name, old, new) {
-            Applied::Moved => assert!(rt; stale.is_none()),
-            Applied::Stale(id) => assert!(rt; stale == Some(id)),
-            Applied::DirFile(_) | Applied::NoMemory => return Err(Fail::from("a move")),
-        }
+        assert!(rt; moved(&mut repo, &name, old, new) == Some(stale));
         assert_eq!(rt; repo.ref_count(), count);
     }
+    Ok(())
+}
+
+#[test]
+fn a_copy_of_a_name_equals_it(rt: HostRuntime) -> Result<(), Fail> {
+    let name = ref_name(rt.alloc(), b"refs/heads/a")?;
     assert!(rt; name.clone()? == name);
     Ok(())
 }

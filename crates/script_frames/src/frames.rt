@@ -1,13 +1,15 @@
 // Frames of a script.
-ghost use Rattle.std.specs.Prelude.{◌≡◌, decimal, IfOk, IfErr, IfSome, IfNone};
+ghost use Rattle.std.specs.Prelude.{◌≡◌, decimal, IfOk, IfErr, IfSome, IfNone, Some};
 ghost use Rattle.pktline_core.specs.Links.{IsLater};
+ghost use Rattle.script_frames.specs.Faults.{fault_text};
 ghost use Rattle.script_frames.specs.Frames.{OneScript};
 ghost use Rattle.script_frames.specs.ReadingFrames.{HasNoSize, IsNoNumber, IsSizeIn, StopsAtByte, StopsInBody, StopsInFrame, StopsInLine, TakesBody, TakesByte, TakesFrame, TakesLine, TellsRead};
 
 use itoa::Buffer;
 use pktline_core::{Source, Taken};
 use std::alloc::{AllocError, AllocFailed, Global};
-use std::str;
+use std::error::Error;
+use std::{fmt, str};
 
 /// Why no frame was read.
 #[derive(Clone, Copy, Debug, PartialEq, Eq)]
@@ -19,6 +21,20 @@ pub enum FrameFault {
     /// The frame's line or its body found no memory.
     NoMemory,
 }
+
+impl fmt::Display for FrameFault {
+    ghost output = { λ fault. Some (fault_text fault) };
+
+    fn fmt<W: fmt::Write>(&self, f: &mut fmt::Formatter<W>) -> fmt::Result {
+        match self {
+            FrameFault::Bad => write!(f, "bad frame"),
+            FrameFault::ReadFault => write!(f, "read failed"),
+            FrameFault::NoMemory => write!(f, "out of memory"),
+        }
+    }
+}
+
+impl Error for FrameFault {}
 
 impl From<AllocError> for FrameFault {
     ghost use Rattle.script_frames.specs.declared.frames.FrameFault.TheVariants as fault;

@@ -1,13 +1,12 @@
 // The first packet.
-ghost use Rattle.std.specs.Prelude.{◌≡◌, ◌<◌, ◌==◌, length, position, IfOk, IfSome};
+ghost use Rattle.std.specs.Prelude.{◌≡◌, ◌==◌, IfOk};
 ghost use Rattle.std.specs.Option.{option_copied, option_map};
 ghost use Rattle.std.specs.List.{list_all};
-ghost use Rattle.git_object.specs.Reader.{up_to};
 ghost use Rattle.session_core.specs.FirstPacket.{behind_user, changing, first_line, granting, inside_quotes, is_role_byte, is_role_word, listing, looking, permitting, receiving, repo_named, revoking, role_and_user, role_change, service, unquoted, uploading, user_word, without_slash};
 
-use crate::lines::literal;
 use base_types::{NoMemory, Text};
 use conf_lex::{RepoName, UserName, repo_word};
+use git_object::{literal, up_to};
 use hub::PermChange;
 use std::alloc::Global;
 
@@ -62,7 +61,7 @@ pub fn first_line(alloc: Global, line: &[u8]) -> Result<FirstLine, NoMemory>
 fn user_word(line: &[u8]) -> &[u8]
     ensures { result.now ≡ user_word line.now }
 {
-    match up_to_space(line) {
+    match up_to(line, b' ') {
         Some((word, _)) => word,
         None => line,
     }
@@ -72,7 +71,7 @@ fn user_word(line: &[u8]) -> &[u8]
 fn behind_user(line: &[u8]) -> Option<&[u8]>
     ensures { option_copied result ≡ behind_user line.now }
 {
-    match up_to_space(line) {
+    match up_to(line, b' ') {
         Some((_, words)) => Some(words),
         None => None,
     }
@@ -144,7 +143,7 @@ fn listing(alloc: Global, word: &[u8]) -> Result<Option<Service>, NoMemory>
 fn changing(alloc: Global, words: &[u8]) -> Result<Option<Service>, NoMemory>
     ensures { IfOk result (λ o. o ≡ changing words.now) }
 {
-    let Some((word, rest)) = up_to_space(words) else {
+    let Some((word, rest)) = up_to(words, b' ') else {
         return Ok(None);
     };
     let Some(repo) = repo_named(alloc, word)? else {
@@ -178,7 +177,7 @@ fn inside_quotes(word: &[u8]) -> Option<&[u8]>
     ensures { option_copied result ≡ inside_quotes word.now }
 {
     let text = literal(word, b"'")?;
-    let (inside, behind) = up_to_quote(text)?;
+    let (inside, behind) = up_to(text, b'\'')?;
     if behind.is_empty() {
         Some(inside)
     } else {
@@ -232,7 +231,7 @@ fn revoking(alloc: Global, words: &[u8]) -> Result<Option<PermChange>, NoMemory>
 fn role_and_user(alloc: Global, words: &[u8]) -> Result<Option<(Text, UserName)>, NoMemory>
     ensures { IfOk result (λ o. o ≡ role_and_user words.now) }
 {
-    let Some((role, user)) = up_to_space(words) else {
+    let Some((role, user)) = up_to(words, b' ') else {
         return Ok(None);
     };
     if !is_role_word(role) {
@@ -260,38 +259,4 @@ fn is_role_byte(c: u8) -> bool
     ensures { result ≡ is_role_byte c }
 {
     c.is_ascii_alphanumeric() || c == b'-' || c == b'_'
-}
-
-#[tactic(auto, unfolding(git_object::specs::Reader::up_to))]
-fn up_to_space(bytes: &[u8]) -> Option<(&[u8], &[u8])>
-    ensures { option_map (λ r. (r.0.now, r.1.now)) result ≡ up_to 32 bytes.now }
-{
-    let at = space_place(bytes)?;
-    let (before, _) = bytes.split_at(at);
-    let (_, behind) = bytes.split_at(at + 1);
-    Some((before, behind))
-}
-
-fn space_place(bytes: &[u8]) -> Option<usize>
-    ensures value { result ≡ position (λ b. b == 32) bytes.now }
-    ensures within { IfSome result (λ at. at < length bytes.now) }
-{
-    bytes.iter().position(|b| *b == b' ')
-}
-
-#[tactic(auto, unfolding(git_object::specs::Reader::up_to))]
-fn up_to_quote(bytes: &[u8]) -> Option<(&[u8], &[u8])>
-    ensures { option_map (λ r. (r.0.now, r.1.now)) result ≡ up_to 39 bytes.now }
-{
-    let at = quote_place(bytes)?;
-    let (before, _) = bytes.split_at(at);
-    let (_, behind) = bytes.split_at(at + 1);
-    Some((before, behind))
-}
-
-fn quote_place(bytes: &[u8]) -> Option<usize>
-    ensures value { result ≡ position (λ b. b == 39) bytes.now }
-    ensures within { IfSome result (λ at. at < length bytes.now) }
-{
-    bytes.iter().position(|b| *b == b'\'')
 }

@@ -28,6 +28,6 @@ pub use end::SessionEnd;
 pub use first_packet::{Asked, FirstLine, Service, first_line};
 pub use gate::{Gate, OpenGate};
 pub use laws::hold_laws;
-pub use lines::{hex_id, literal, without_feed};
+pub use lines::without_feed;
 pub use opening::enter;
 pub use packets::{end_by, malformed, refuse, say, say_flush};

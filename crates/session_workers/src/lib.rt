@@ -13,8 +13,6 @@ mod all;
 mod hand;
 mod laws;
 mod post;
-#[cfg(test)]
-mod tests;
 mod worker;
 
 pub use all::{ServedAll, serve_all};

@@ -10,6 +10,7 @@ use Rattle.hub_history.specs.declared.entry.Event.{Event}
 use Rattle.hub_history.specs.declared.entry.PermChange.{PermChange}
 use Rattle.hub_history.specs.History.{IsLegal, Stands}
 use Rattle.hub_history.specs.Opening.{Opening}
+use Rattle.git_object.specs.Object.{FitOnePack}
 use Rattle.hub_history.specs.Push.{AreWithinLimits}
 use Rattle.hub_history.specs.Roles.{kept_of}
 use Rattle.push_judging.specs.Judged.{IsJudgement}
@@ -58,6 +59,7 @@ pub record MayPush (known : List KeptEntry) (asked : Asked) : Type 0 where
   pub stands : Stands asked.pin (admin_in known) (log_in known)
   pub write : asked.pin.pinned.want ≡ Write
   pub within : AreWithinLimits asked.commands
+  pub fit : FitOnePack asked.pack
   pub judged : IsJudgement asked.pin.pinned asked.pack asked.commands asked.judged
 
 -- a push is asked that may be made, or none any more

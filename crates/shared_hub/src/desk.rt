@@ -3,6 +3,7 @@ ghost use Rattle.std.specs.Prelude.{◌≡◌};
 ghost use Rattle.turn_lock.specs.Lock.{IsSamePass};
 ghost use Rattle.access_check.specs.declared.verdicts.Want.TheVariants as want;
 ghost use Rattle.hub_history.specs.History.{Stands};
+ghost use Rattle.git_object.specs.Object.{FitOnePack};
 ghost use Rattle.hub_history.specs.Push.{AreWithinLimits};
 ghost use Rattle.push_judging.specs.Judged.{IsJudgement};
 ghost use Rattle.hub.specs.Desk.{Enters, IsSound, KeepsPins, Looks, Permits, Pushes};

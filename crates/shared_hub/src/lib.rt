@@ -12,8 +12,6 @@ mod desk;
 mod kept;
 mod shared;
 mod steps;
-#[cfg(test)]
-mod tests;
 
 pub use base_types::NoMemory;
 pub use desk::SharedDesk;

@@ -10,8 +10,6 @@
 mod kept;
 mod lock;
 mod rule;
-#[cfg(test)]
-mod tests;
 mod turn;
 
 pub use base_types::NoMemory;

@@ -22,6 +22,9 @@ use std::alloc::{AllocError, Global};
 /// How many haves and flushes there are at most.
 const MOST_INQUIRIES: u32 = 100_000;
 
+// One more.
+const TOO_MANY_INQUIRIES: u64 = MOST_INQUIRIES as u64 + 1;
+
 /// What a client asks about what is common.
 #[derive(Clone, Copy, Debug, PartialEq, Eq)]
 pub enum Inquiry {
@@ -177,7 +180,11 @@ fn refuse_more_haves<L: Link>(link: &mut L) -> SessionEnd
     ensures runs { (desk : DeskView) → Runs {A = Unit {0}} (L.state link.old) (L.state link.new) desk desk too_many_haves (Err (halt_of result)) }
     ensures tells { TellsEnd (L.state link.old) (L.state link.new) result }
 {
-    refuse(link, b"ERR too long", SessionEnd::TooLong(100_001))
+    refuse(
+        link,
+        b"ERR too long",
+        SessionEnd::TooLong(TOO_MANY_INQUIRIES),
+    )
 }
 
 /// Replies to what the client has, up to `done`, and gives what is common.

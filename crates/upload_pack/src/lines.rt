@@ -3,8 +3,7 @@ ghost use Rattle.std.specs.Prelude.{◌≡◌};
 ghost use Rattle.std.specs.Option.{option_map};
 ghost use Rattle.upload_pack.specs.Lines.{are_words, first_want, have, id_behind, is_done, is_nothing, want};
 
-use git_object::ObjectId;
-use session_core::{hex_id, literal};
+use git_object::{ObjectId, hex_id, literal};
 
 /// What the first want wants. Words behind a space have no effect.
 pub fn first_want(line: &[u8]) -> Option<ObjectId>

@@ -22,6 +22,9 @@ pub type IdList = ItemList<ObjectId>;
 /// How many wants there are at most.
 const MOST_WANTS: u32 = 10_000;
 
+// One more.
+const TOO_MANY_WANTS: u64 = MOST_WANTS as u64 + 1;
+
 /// The first want, in the line at this offset.
 pub fn first_want_in<L: Link>(
     link: &mut L,
@@ -88,7 +91,7 @@ fn refuse_more_wants<L: Link>(link: &mut L) -> SessionEnd
     ensures runs { (desk : DeskView) → Runs {A = Unit {0}} (L.state link.old) (L.state link.new) desk desk too_many_wants (Err (halt_of result)) }
     ensures tells { TellsEnd (L.state link.old) (L.state link.new) result }
 {
-    refuse(link, b"ERR too long", SessionEnd::TooLong(10_001))
+    refuse(link, b"ERR too long", SessionEnd::TooLong(TOO_MANY_WANTS))
 }
 
 /// The wants from the first on, and the flush behind them.

@@ -7,7 +7,7 @@ ghost use Rattle.hub_history.specs.State.{HasShortNames};
 
 use base_types::Text;
 use conf_lex::{RepoName, UserName};
-use git_object::{Kind, Object, ObjectId, ObjectList};
+use git_object::{Kind, Object, ObjectId, ObjectList, fit_one_pack};
 use hub::{Desk, Hub, LoneDesk, Pin, Pushed, Want, judge};
 use pktline_core::{MemoryLink, PktReader, write_flush, write_pkt};
 use raw_pack::read_pack;
@@ -125,6 +125,9 @@ fn push<D: Desk>(
     requires within { AreWithinLimits commands }
 {
     let judged = judge(alloc, &pin, &pack, &commands)?;
+    if !fit_one_pack(&pack) {
+        return Err(Fail::from("a pack within the limits"));
+    }
     match desk.push(alloc, pin, pack, commands, false, judged) {
         Pushed::Settled { .. } => Ok(()),
         Pushed::NoMemory(_) => Err(Fail::from("out of memory")),

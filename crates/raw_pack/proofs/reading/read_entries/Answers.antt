@@ -1,8 +1,8 @@
-use Rattle.std.proofs.Common.{◌≡◌, ◌-◌, ◌+◌, ◌++◌, ◌∷◌, [], Err, rules, refl, arith, length-append, ◌∙◌}
+use Rattle.std.proofs.Common.{◌≡◌, ◌-◌, ◌+◌, ◌++◌, ◌∷◌, [], Err, rules, refl, ap, arith, length, length-append, ◌∙◌}
 use Rattle.pktline_core.proofs.LinkLemmas.{later_same, later_more, writing_more}
 use Rattle.raw_pack.specs.declared.fault.PackFault.TheVariants.{NoMemory}
 use Rattle.raw_pack.proofs.ReadLemmas.{leaves_whole, leaves_lacks}
-use Rattle.raw_pack.proofs.EntryLemmas.{entries_end, entries_cut, entries_more}
+use Rattle.raw_pack.proofs.EntryLemmas.{entries_end, entries_cut, entries_more, total_bytes-more}
 use Rattle.raw_pack.proofs.reading.read_entries.Goals as goal
 
 pub loop-entry-init : goal.loop-entry-init
@@ -15,6 +15,7 @@ loop-entry-init g c =
       later = later_same _;
       sum = omega arith;
       all = rw c.new-objects.ensures;
+      light = rw c.new-objects.ensures refl;
     }
 
 pub returns-in_err-object-clause-reads : goal.returns-in_err-object-clause-reads
@@ -41,7 +42,11 @@ loop-entry-preserved g c =
       later = later_more _ _ _ c.loop-entry.invariant.later c.read_object.ensures.later;
       sum = rw c.body.ensures.body c.in_ok-object.ensures.small;
       all = rw pushed (omega (arith, length-append c.loop-entry.objects (c.in_ok-object.object ∷ []), c.loop-entry.invariant.all));
+      light = rw (pushed, c.body.ensures.body) (total_bytes-more c.loop-entry.objects c.in_ok-object.object ∙ ap (λ n. n + length c.in_ok-object.object.body) c.loop-entry.invariant.light);
     }
 
 pub returns-clause-reads : goal.returns-clause-reads
 returns-clause-reads g c = entries_end _ _ _ _ _ _ _ _ _ c.loop-entry.invariant.leaves (omega arith) c.loop-entry.invariant.later
+
+pub returns-clause-light : goal.returns-clause-light
+returns-clause-light g c = omega (arith, c.loop-entry.invariant.light, c.loop-entry.invariant.sum)

@@ -1,4 +1,5 @@
 use Rattle.std.proofs.Common.{◌≡◌, ◌-◌, ◌≤◌, [], length}
+use Rattle.git_object.specs.Object.{total_bytes}
 use Rattle.pktline_core.specs.Links.{IsLater, KeepsWriting}
 use Rattle.raw_pack.specs.Packs.{pack_entries}
 use Rattle.raw_pack.specs.Reading.{Leaves}
@@ -12,4 +13,5 @@ invariant-loop-entry g l = record {
   later : IsLater (g.S.Endpoint.state l.initial.source) (g.S.Endpoint.state l.source);
   sum : l.sum ≤ 268435456;
   all : length l.objects ≡ l.entry;
+  light : total_bytes l.objects ≡ l.sum;
 }

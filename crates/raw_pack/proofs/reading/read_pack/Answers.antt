@@ -1,4 +1,4 @@
-use Rattle.std.proofs.Common.{◌≡◌, List, Ok, Err, Result, rules}
+use Rattle.std.proofs.Common.{◌≡◌, List, Ok, Err, Result, arith, rules}
 use Rattle.git_object.specs.Content.{Content}
 use Rattle.pktline_core.specs.LinkState.{LinkState}
 use Rattle.pktline_core.proofs.LinkLemmas.{later_more}
@@ -47,3 +47,6 @@ returns-in-Err-clause-reads g c =
 
 pub returns-in-Err-clause-told : goal.returns-in-Err-clause-told
 returns-in-Err-clause-told g c = told_pack _ _ _ (returns-in-Err-clause-reads g c)
+
+pub returns-in-Ok-clause-fit : goal.returns-in-Ok-clause-fit
+returns-in-Ok-clause-fit g c = record { few = omega (arith, c.in_ok-objects.ensures.all, c.in_ok-count.ensures.few); light = c.in_ok-objects.ensures.light }

@@ -40,7 +40,7 @@ returns-clause-due c =
     ∙ (λ i. conf_chosen (c.repo_name.ensures i) (c.as_slice.ensures i) ((c.as_slice-2.ensures ∙ told) i) (c.into_parts-told.ensures.confs i))
     ∙ chosen_conf c.args.self.now c.args.pin.now c.requires.stands c.args.pack.now c.args.commands.now c.args.atomic c.args.judged c.requires.judged c.some_patterns_are_true.ensures.0 c.some_patterns_are_true.ensures.1
     ∙ ap (λ (os : List Outcome). conf_by c.args.self.now.admin (conf_put c.args.pin.now.pinned c.args.pack.now c.args.commands.now os)) (sym told) in
-    settled_due c.args.self.now c.args.pin.now c.requires.stands c.args.pack.now c.args.commands.now c.args.atomic c.args.judged c.requires.judged c.requires.write c.requires.within c.in_ok-outcomes.field-0.outcomes told c.in_ok-made.made
+    settled_due c.args.self.now c.args.pin.now c.requires.stands c.args.pack.now c.args.commands.now c.args.atomic c.args.judged c.requires.judged c.requires.write c.requires.within c.requires.fit c.in_ok-outcomes.field-0.outcomes told c.in_ok-made.made
     (λ ps ok. c.in_ok-made.ensures ps ok (conf_put c.args.pin.now.pinned c.args.pack.now c.args.commands.now c.in_ok-outcomes.field-0.outcomes) conf_is)
 
 pub returns-clause-step : goal.returns-clause-step

@@ -1,0 +1,5 @@
+//! Tests of `push_judging`, by what is public there.
+#![tactic(auto)]
+
+#[cfg(test)]
+mod tests;

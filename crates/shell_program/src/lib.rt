@@ -1,0 +1,30 @@
+//! What the program does: sessions from a script, from connections or generated, and confs that are checked.
+//!
+//! - `script`: sessions one after the other, and what is printed of them;
+//! - `serve`: workers at their posts, and what is printed behind them;
+//! - `check`: a conf, and what is printed of it;
+//! - `load`, `tally`: the sessions of a generated installation, and what they came to in numbers;
+//! - `status`: how a run of the program ends;
+//! - `words`, `posts`: the words by which it was called, and posts at a TCP listener;
+//! - `lone`, `program`: the program run by one caller, and the program.
+//!
+//! A session is of the crate `git_session`, workers of `session_workers`, the frames of a script of `script_frames`, the
+//! words of a command of `shell_words`, a generated installation of `installation`, and the edges of `edge_links`.
+#![tactic(auto)]
+
+mod check;
+mod load;
+mod lone;
+mod posts;
+mod program;
+mod script;
+mod serve;
+mod status;
+mod tally;
+mod words;
+
+pub use lone::{Ended, lone_main};
+pub use posts::posts_at;
+pub use program::shell_main;
+pub use status::Status;
+pub use words::{behind_name, words_given};

@@ -1,0 +1,92 @@
+// The program.
+ghost use Rattle.std.specs.Prelude.{length, map, string_bytes};
+ghost use Rattle.shell_words.specs.Commands.{IsWithinLimits, asked};
+ghost use Rattle.shell_program.specs.Command.{built, command};
+ghost use Rattle.shell_program.specs.Lone.{IsLegalRun, IsRecordedRun, RefusesSurely, TellsStatus};
+ghost use Rattle.shell_program.specs.Shell.{EndsShell, EndsShellSurely};
+
+use crate::load::run_load;
+use crate::lone::{Ended, check_alone, refuse, run_alone, unread};
+use crate::serve::run_serve;
+use edge_links::Door;
+use pktline_core::{Link, Sink, Source};
+use session_core::Gate;
+use session_workers::Post;
+use shell_words::{Asked, read_words};
+use std::alloc::Global;
+use std::sync::Wait;
+use std::thread::Threads;
+
+// Does what is asked.
+fn run_asked<
+    I: Source,
+    O: Sink,
+    L: Link + Send,
+    D: Door<L> + Send,
+    G: Gate + Send,
+    R: Threads + Wait + Sync,
+>(
+    rt: &R,
+    alloc: Global,
+    asked: Asked,
+    input: &mut I,
+    output: &mut O,
+    posts: &mut [Post<D, G>],
+) -> Ended
+    requires limits { IsWithinLimits asked }
+    ensures ends { EndsShell L.state D.state posts.old posts.new (built (length posts.old) asked) (I.state input.old) (I.state input.new) (O.state output.old) (O.state output.new) result.status result.log }
+    ensures tells { TellsStatus (I.state input.old) (I.state input.new) (O.state output.old) (O.state output.new) result.status }
+    ensures sure { EndsShellSurely L.state D.state posts.old posts.new (built (length posts.old) asked) (I.state input.old) (I.state input.new) (O.state output.old) (O.state output.new) result.status }
+    ensures legal { IsLegalRun (built (length posts.old) asked) result.log }
+{
+    match asked {
+        Asked::Check => check_alone(alloc, input, output),
+        Asked::Script { admin } => run_alone(alloc, &admin, input, output),
+        Asked::Serve {
+            admin,
+            workers,
+            sessions,
+        } => {
+            let workers = workers as usize;
+            if posts.len() < workers {
+                return refuse(alloc, output);
+            }
+            let (used, _) = posts.split_at_mut(workers);
+            run_serve(rt, alloc, output, used, &admin, sessions)
+        }
+        Asked::Load { count, start } => run_load(alloc, count, start, output),
+    }
+}
+
+/// Runs the program as the words ask. `serve` takes its sessions through the first posts, as many as it has workers; it
+/// is refused where there are fewer.
+pub fn shell_main<
+    I: Source,
+    O: Sink,
+    L: Link + Send,
+    D: Door<L> + Send,
+    G: Gate + Send,
+    R: Threads + Wait + Sync,
+>(
+    rt: &R,
+    alloc: Global,
+    words: &[String],
+    input: &mut I,
+    output: &mut O,
+    posts: &mut [Post<D, G>],
+) -> Ended
+    ensures ends { EndsShell L.state D.state posts.old posts.new (command (length posts.old) (map string_bytes words.now)) (I.state input.old) (I.state input.new) (O.state output.old) (O.state output.new) result.status result.log }
+    ensures tells { TellsStatus (I.state input.old) (I.state input.new) (O.state output.old) (O.state output.new) result.status }
+    ensures sure { EndsShellSurely L.state D.state posts.old posts.new (command (length posts.old) (map string_bytes words.now)) (I.state input.old) (I.state input.new) (O.state output.old) (O.state output.new) result.status }
+    ensures legal { IsLegalRun (command (length posts.old) (map string_bytes words.now)) result.log }
+    ensures refuses { RefusesSurely (asked (map string_bytes words.now)) (O.state output.old) result.status }
+    ensures recorded { IsRecordedRun (command (length posts.old) (map string_bytes words.now)) result.log }
+{
+    // called for their clauses that every legal log records something, and that an admin has a user's name
+    session_core::hold_laws();
+    shell_words::hold_laws();
+    match read_words(alloc, words) {
+        Ok(asked) => run_asked(rt, alloc, asked, input, output, posts),
+        Err(fault) => unread(alloc, fault, output),
+    }
+}
