@@ -1,0 +1,6 @@
+mod OutcomeLemmas
+mod OpenedLemmas
+mod DeniedLemmas
+mod LetLemmas
+mod RefusalLemmas
+mod AtomicLemmas

@@ -1,0 +1,14 @@
+//! Laws of legal logs: what is refused by the rules isn't let by them, and what is opened is.
+//!
+//! `hub_history` has the law that a command that is done was let be made. Those here are the other half:
+//!
+//! - of openings: one that was granted or created was let, and one that was refused wasn't;
+//! - of commands: one that is denied, or has too many changed paths, wasn't let, one that is past the rules was, and what any other refusal tells is so;
+//! - of atomic pushes: which command the others are told of.
+//!
+//! They are in plain words in `docs/HISTORY.md`.
+#![tactic(auto)]
+
+mod laws;
+
+pub use laws::hold_laws;

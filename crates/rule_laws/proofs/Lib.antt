@@ -1,0 +1,12 @@
+mod ListLemmas
+mod ScopeLemmas
+mod SourceLemmas
+mod WordLemmas
+mod StepLemmas
+mod BlockLemmas
+mod RuleLemmas
+mod PlainLemmas
+mod OptionLemmas
+mod WarningLemmas
+mod OrderLemmas
+mod LawLemmas
