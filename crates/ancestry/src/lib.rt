@@ -36,8 +36,6 @@ pub use known::{Findings, Known};
 pub use laws::hold_laws;
 pub use sent::reach;
 pub use tags::peel;
+pub use verdict::Verdict;
 pub use walks::Walks;
 pub use wholeness::{Wholeness, whole};
-
-#[cfg(test)]
-mod tests;

@@ -7,7 +7,7 @@ ghost use Rattle.std.specs.Option.{option_copied};
 
 use git_object::{Kind, Object, ObjectId};
 
-// What is told of some ids: that all is whole, or else the least id that is missing, or else the least of a wrong kind.
+/// What is told of some ids: that all is whole, or else the least id that is missing, or else the least of a wrong kind.
 #[derive(Clone, Copy, PartialEq, Eq)]
 pub enum Verdict {
     Whole,
@@ -16,7 +16,7 @@ pub enum Verdict {
 }
 
 impl Verdict {
-    // What is told of an id whose links are left aside, by the object of that name.
+    /// What is told of an id whose links are left aside, by the object of that name.
     pub fn alone(object: Option<&Object>, id: ObjectId, wanted: Option<Kind>) -> Verdict
         ensures { result ≡ alone (option_copied object.entry) (id, wanted) }
     {
@@ -29,7 +29,7 @@ impl Verdict {
         Verdict::WrongKind(id)
     }
 
-    // What is told of these ids and the other's: one that is missing before one of a wrong kind, and the lesser of two.
+    /// What is told of these ids and the other's: one that is missing before one of a wrong kind, and the lesser of two.
     pub fn worse(self, other: Verdict) -> Verdict
         ensures { result ≡ worse self other }
     {

@@ -102,8 +102,8 @@ impl<'a> Walks<'a> {
         seen::walk(self.alloc, self.lens, id, kind)
     }
 
-    // What is told of all that the links of an object lead to, where it is settled.
-    pub(crate) fn settled(&self, id: ObjectId) -> Option<Verdict>
+    /// What is told of all that the links of an object lead to, where that is known already and no walk is made for it.
+    pub fn settled(&self, id: ObjectId) -> Option<Verdict>
         ensures { IfSome result (IsRight self.now id) }
     {
         match self.findings.get(id) {

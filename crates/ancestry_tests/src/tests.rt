@@ -1,7 +1,7 @@
 ghost use Rattle.std.specs.Prelude.{IfOk};
 ghost use Rattle.ancestry.specs.Known.{AreFound, AreKnown};
 
-use ancestry::{Findings, Known, NoMemory, Walks, Wholeness, whole};
+use ancestry::{Findings, Known, NoMemory, Verdict, Walks, Wholeness, whole};
 use git_object::{Kind, Object, ObjectId, ObjectList};
 use ref_store::{Added, Lens, Repo};
 use std::alloc::Global;
@@ -548,4 +548,51 @@ fn links_to_a_known_tree(rt: HostRuntime) -> Result<(), Fail> {
     let otherwise = links_otherwise(rt.alloc(), &mut stored, &mut pack)?;
     assert_eq!(rt; otherwise, None);
     Ok(())
+}
+
+// The objects of a pack alone.
+fn lens_alone(alloc: Global, pack: &ObjectList) -> Result<Lens, Fail> {
+    let repo = Repo::empty(alloc)?;
+    Ok(Lens::new(alloc, &repo, pack)?)
+}
+
+// Whether what is told of all that an id leads to is settled, and is this.
+fn is_settled(walks: &Walks<'_>, id: ObjectId, verdict: Verdict) -> bool {
+    walks.settled(id) == Some(verdict)
+}
+
+fn check_settled(rt: &impl Abort, walks: &Walks<'_>, names: &[ObjectId], empty: ObjectId) {
+    for name in names {
+        assert!(rt; is_settled(walks, *name, Verdict::Missing(absent(7))));
+    }
+    assert!(rt; is_settled(walks, empty, Verdict::Whole));
+}
+
+fn check_settled_in(
+    rt: &impl Abort,
+    alloc: Global,
+    pack: &ObjectList,
+    last: ObjectId,
+    names: &[ObjectId],
+    empty: ObjectId,
+) -> Result<(), Fail> {
+    let lens = lens_alone(alloc, pack)?;
+    let mut walks = Walks::new(alloc, &lens);
+    assert!(rt; walks.whole(last, None) == Wholeness::Missing(absent(5)));
+    check_settled(rt, &walks, names, empty);
+    Ok(())
+}
+
+fn check_settled_chain(rt: &impl Abort, alloc: Global, pack: &mut ObjectList) -> Result<(), Fail> {
+    let empty = put_tree(alloc, pack, &[])?;
+    let names = chain(alloc, pack, absent(7), empty)?;
+    let parent = names.last().copied().unwrap_or(empty);
+    let last = put_commit(alloc, pack, absent(5), &[parent])?;
+    check_settled_in(rt, alloc, pack, last, names.as_slice(), empty)
+}
+
+#[test]
+fn all_that_a_settled_id_leads_to_is_settled(rt: HostRuntime) -> Result<(), Fail> {
+    let mut pack = ObjectList::new(rt.alloc());
+    check_settled_chain(&rt, rt.alloc(), &mut pack)
 }

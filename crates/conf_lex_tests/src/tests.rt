@@ -347,25 +347,64 @@ fn names_keep_their_rule(rt: HostRuntime) -> Result<(), Fail> {
     Ok(())
 }
 
+// Names beside numbers, one of them twice.
+static NUMBERED: [(&str, u8); 4] = [("bob", 1), ("Ann", 2), ("ann", 3), ("bob", 4)];
+
+fn user_of(alloc: Global, name: &str) -> Result<UserName, Fail> {
+    match UserName::parse(alloc, name.as_bytes()) {
+        Ok(Some(name)) => Ok(name),
+        _ => Err(Fail::from("a user")),
+    }
+}
+
+fn repo_of(alloc: Global, name: &str) -> Result<RepoName, Fail> {
+    match RepoName::parse(alloc, name.as_bytes()) {
+        Ok(Some(name)) => Ok(name),
+        _ => Err(Fail::from("a repository")),
+    }
+}
+
+// The last number of each user, in the order of the names.
+fn by_user(alloc: Global) -> Result<BTreeMap<UserName, u8>, Fail> {
+    let mut numbers = BTreeMap::new(alloc);
+    for (name, number) in &NUMBERED {
+        numbers.insert(user_of(alloc, name)?, *number)?;
+    }
+    Ok(numbers)
+}
+
+fn by_repo(alloc: Global) -> Result<HashMap<RepoName, u8>, Fail> {
+    let mut numbers = HashMap::new(alloc);
+    for (name, number) in &NUMBERED {
+        numbers.insert(repo_of(alloc, name)?, *number)?;
+    }
+    Ok(numbers)
+}
+
+fn are_in_order(numbers: &BTreeMap<UserName, u8>, wanted: &[u8]) -> bool {
+    let mut at = 0;
+    for (_, number) in numbers.iter() {
+        if wanted.get(at) != Some(number) {
+            return false;
+        }
+        at += 1;
+    }
+    at == wanted.len()
+}
+
 #[test]
 fn names_are_keys_of_maps(rt: HostRuntime) -> Result<(), Fail> {
-    let alloc = rt.alloc();
-    let mut by_user = BTreeMap::new(alloc);
-    let mut by_repo = HashMap::new(alloc);
-    for (name, place) in [("bob", 1u8), ("Ann", 2), ("ann", 3), ("bob", 4)] {
-        let user = UserName::parse(alloc, name.as_bytes())?.ok_or("a user")?;
-        let repo = RepoName::parse(alloc, name.as_bytes())?.ok_or("a repository")?;
-        assert!(rt; user == user.clone()? && user <= user.clone()?);
-        assert_eq!(rt; repo.bytes(), repo.clone()?.bytes());
-        by_user.insert(user, place)?;
-        by_repo.insert(repo, place)?;
-    }
-    let mut places = Vec::new(alloc);
-    for (_, place) in by_user.iter() {
-        places.push(*place)?;
-    }
-    assert_eq!(rt; places.as_slice(), [2, 3, 4].as_slice());
-    assert_eq!(rt; by_repo.len(), 3);
+    assert!(rt; are_in_order(&by_user(rt.alloc())?, &[2, 3, 4]));
+    assert_eq!(rt; by_repo(rt.alloc())?.len(), 3);
+    Ok(())
+}
+
+#[test]
+fn copies_of_names_are_equal(rt: HostRuntime) -> Result<(), Fail> {
+    let user = user_of(rt.alloc(), "bob")?;
+    assert!(rt; user == user.clone()?);
+    let repo = repo_of(rt.alloc(), "bob")?;
+    assert!(rt; repo == repo.clone()?);
     Ok(())
 }
 

@@ -1,5 +1,5 @@
 -- Objects: their forms, their names, and what they link to.
-use Rattle.std.specs.Prelude.{◌≡◌, ℕ, ◌+◌, ◌≤◌, if◌then◌else◌, List, [], ◌∷◌, ◌++◌, length, map, Option, Some, None, option_to_list, codes, decimal}
+use Rattle.std.specs.Prelude.{◌≡◌, ℕ, ◌+◌, ◌≤◌, if◌then◌else◌, List, [], ◌∷◌, ◌++◌, All, length, map, Option, Some, None, option_to_list, codes, decimal}
 use Rattle.std.specs.Option.{option_map, option_map_or}
 use Rattle.std.specs.List.{filter_map}
 use Rattle.std.specs.Str.{bytes_eq}
@@ -43,9 +43,15 @@ abbrev pub total_bytes : List Content → ℕ
 total_bytes [] = 0
 total_bytes (object ∷ objects) = length object.body + total_bytes objects
 
--- one pack may bring these objects: at most 100,000, whose bodies have at most 268,435,456 bytes together
+-- an object that a pack can have: its body is of the form of its kind, and not too long
+pub record IsPackable (content : Content) : Type 0 where
+  pub short : length content.body ≤ 16777216
+  pub form : fault_of content.kind content.body ≡ None
+
+-- one pack may bring these objects: at most 100,000, each of its kind's form, whose bodies have at most 268,435,456 bytes together
 pub record FitOnePack (objects : List Content) : Type 0 where
   pub few : length objects ≤ 100000
+  pub formed : All IsPackable objects
   pub light : total_bytes objects ≤ 268435456
 
 -- the parents of a commit, in the order of their lines

@@ -1,6 +1,6 @@
 // What one pack may bring.
-ghost use Rattle.std.specs.Prelude.{◌↔◌, ◌≤◌, IsTrue};
-ghost use Rattle.git_object.specs.Object.{FitOnePack, total_bytes};
+ghost use Rattle.std.specs.Prelude.{◌≡◌, ◌↔◌, ◌≤◌, All, IsTrue, true};
+ghost use Rattle.git_object.specs.Object.{FitOnePack, IsPackable, total_bytes};
 
 use crate::object::ObjectList;
 
@@ -18,7 +18,8 @@ pub fn fit_one_pack(objects: &ObjectList) -> bool
 }
 
 fn are_light(objects: &ObjectList) -> bool
-    ensures { IsTrue result ↔ (total_bytes objects.now ≤ MAX_PACKED_BYTES) }
+    ensures light { IsTrue result ↔ (total_bytes objects.now ≤ MAX_PACKED_BYTES) }
+    ensures formed { result ≡ true → All IsPackable objects.now }
 {
     let mut left = MAX_PACKED_BYTES;
     for object in objects.as_slice() {

@@ -15,7 +15,7 @@ use Rattle.hub_history.specs.History.{IsDueAfter, Stands, after_push, history, m
 use Rattle.hub_history.specs.Laws.{IsDueBehind}
 use Rattle.hub_history.specs.Opening.{Opening, Pinned}
 use Rattle.git_object.specs.Object.{FitOnePack}
-use Rattle.hub_history.specs.Push.{AreWithinLimits, Judges, Makes, conf_put, is_lacking, landed, outcomes_in}
+use Rattle.hub_history.specs.Push.{AreWithinLimits, Judges, Makes, conf_put, is_lacking, repository_left, outcomes_in}
 use Rattle.hub_history.specs.State.{CommitAmong, Conf, Repository, placed_in, put_in_place, repository_at}
 use Rattle.hub_history.proofs.HistoryLemmas.{some_same}
 use Rattle.hub_history.proofs.JudgeLemmas.{as_many}
@@ -67,7 +67,7 @@ module _ (hub : HubView) (pin : Opening) (stands : Stands pin hub.admin hub.log)
       subst (λ (o : Option Pinned). IsDueAfter ps (state_of hub) o pack commands atomic os made) (sym stands)
       (record { for_writing = write; within = within; fit = fit; judged = j.outcomes; judges = judges.outcomes ps ok; told = told; makes = makes ps ok })
 
-  pub settled_step : (os : List Outcome) (made : List Name) (next : Option Repository) → next ≡ landed (repository_at (state_of hub) pin.pinned.repo) pack commands os
+  pub settled_step : (os : List Outcome) (made : List Name) (next : Option Repository) → next ≡ repository_left (repository_at (state_of hub) pin.pinned.repo) pack commands os
       → (changes : List (Name × Repository)) → changes ≡ put_in_place pin.pinned.repo next ++ made_empty made → (conf : Option Conf) → conf ≡ conf_by hub.admin (conf_put pin.pinned pack commands os)
       → step (history hub.admin hub.log) (Pushed pin.place pack commands atomic os made) ≡ stored (placed_in (state_of hub).repositories changes) (unwrap_or conf (state_of hub).conf)
   unfolding push_change

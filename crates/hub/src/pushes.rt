@@ -7,7 +7,7 @@ ghost use Rattle.std.specs.Option.{unwrap_or};
 ghost use Rattle.hub_history.specs.History.{IsLegal, Stands, history, made_empty, step};
 ghost use Rattle.hub_history.specs.Laws.{IsDueBehind};
 ghost use Rattle.git_object.specs.Object.{FitOnePack};
-ghost use Rattle.hub_history.specs.Push.{AreWithinLimits, JudgesAll, Makes, is_done, is_lacking, is_of_conf, landed, outcomes_in};
+ghost use Rattle.hub_history.specs.Push.{AreWithinLimits, JudgesAll, Makes, is_done, is_lacking, is_of_conf, repository_left, outcomes_in};
 ghost use Rattle.hub_history.specs.State.{CommitAmong, placed_in, put_in_place, repository_at};
 ghost use Rattle.push_judging.specs.Judged.{IsJudgement};
 ghost use Rattle.hub.specs.Answer.{AnswersPush, IsDueIn, settled};
@@ -176,7 +176,7 @@ impl Hub {
         requires before { prepared.before ≡ pin.now.pinned.repository.objects }
         requires objects { prepared.objects ≡ pin.now.pinned.repository.objects ++ pack.now }
         ensures outcomes { IfOk result (λ s. s.outcomes ≡ outcomes_in (repository_at (state_of self.now) pin.now.pinned.repo) pack.now commands.now atomic judged.now) }
-        ensures next { IfOk result (λ s. s.next ≡ landed (repository_at (state_of self.now) pin.now.pinned.repo) pack.now commands.now s.outcomes) }
+        ensures next { IfOk result (λ s. s.next ≡ repository_left (repository_at (state_of self.now) pin.now.pinned.repo) pack.now commands.now s.outcomes) }
         ensures same { IfOk result (λ s. IfSome s.same (λ same. same ≡ repository_at (state_of self.now) pin.now.pinned.repo)) }
     {
         // called for their clauses that the log is legal and that some answers about patterns are true, which the proof cites

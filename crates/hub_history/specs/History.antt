@@ -12,7 +12,7 @@ use Rattle.hub_history.specs.declared.entry.Entry.{Entry}
 use Rattle.hub_history.specs.declared.entry.Event.{Event}
 use Rattle.hub_history.specs.declared.entry.Event.TheVariants.{Entered, Pushed, Permitted, Looked}
 use Rattle.hub_history.specs.Opening.{IsDueOpening, Opening, Pinned, made_by, pins}
-use Rattle.hub_history.specs.Push.{AreWithinLimits, JudgesAll, Makes, conf_put, landed, outcomes_in}
+use Rattle.hub_history.specs.Push.{AreWithinLimits, JudgesAll, Makes, conf_put, repository_left, outcomes_in}
 use Rattle.hub_history.specs.Roles.{IsDueChange, given_by}
 use Rattle.hub_history.specs.State.{Change, Repository, State, changed, empty_repository, put_in_place, repository_at, start}
 
@@ -38,7 +38,7 @@ made_empty names = map (λ name. (name, empty_repository None)) names
 -- what a push changes that was told these outcomes, and whose conf made these repositories
 unfoldable pub push_change : State → Pinned → List Content → List Command → List Outcome → List Name → Change
 push_change state pinned pack commands outcomes made = record {
-  repositories = put_in_place pinned.repo (landed (repository_at state pinned.repo) pack commands outcomes) ++ made_empty made;
+  repositories = put_in_place pinned.repo (repository_left (repository_at state pinned.repo) pack commands outcomes) ++ made_empty made;
   conf = conf_put pinned pack commands outcomes;
 }
 

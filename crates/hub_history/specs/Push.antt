@@ -195,15 +195,15 @@ refs_left refs (c ∷ cs) [] = refs
 refs_left refs (c ∷ cs) (o ∷ os) = refs_left (refs_after refs c o) cs os
 
 -- the repository that a push leaves, where a command is done: the refs of the commands that are done, and these objects
-abbrev pub landed_with : Repository → List Content → List Command → List Outcome → Option Repository
-landed_with now objects commands outcomes =
+abbrev pub repository_left_with : Repository → List Content → List Command → List Outcome → Option Repository
+repository_left_with now objects commands outcomes =
     if list_any is_done outcomes
     then Some (record now { objects = objects; refs = refs_left now.refs commands outcomes })
     else None
 
 -- the objects are its own with the pack's
-abbrev pub landed : Repository → List Content → List Command → List Outcome → Option Repository
-landed now pack commands outcomes = landed_with now (with_pack now.objects pack) commands outcomes
+abbrev pub repository_left : Repository → List Content → List Command → List Outcome → Option Repository
+repository_left now pack commands outcomes = repository_left_with now (with_pack now.objects pack) commands outcomes
 
 -- the commit whose conf is in force behind a push: the new value of the command for the conf's branch, if that is done, among the objects at the opening with the pack's
 abbrev pub conf_put : Pinned → List Content → List Command → List Outcome → Option CommitAmong

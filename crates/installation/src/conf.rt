@@ -74,7 +74,7 @@ fn add_block(text: &mut Vec<u8>, repo: u32, owner: u32, writer: u32) -> Result<(
 
 /// The conf of so many repositories. Two numbers are drawn for each.
 #[tactic(auto, unfolding(crate::specs::Conf::conf_text))]
-pub(crate) fn conf_text(
+pub fn conf_text(
     alloc: Global,
     count: u32,
     start: u32,

@@ -16,9 +16,6 @@ mod sending;
 mod sessions;
 
 pub use base_types::NoMemory;
-pub use conf::repo_name;
+pub use conf::{conf_text, repo_name};
 pub use draws::Draws;
 pub use sessions::{First, Visit, first_input, next_visit, visit_input};
-
-#[cfg(test)]
-mod tests;

@@ -12,21 +12,21 @@ use Rattle.ref_store.specs.declared.command.Command.{Command}
 use Rattle.hub_history.specs.declared.outcome.Outcome.{Outcome}
 use Rattle.hub_history.specs.declared.outcome.Outcome.TheVariants.{Collided, Full}
 use Rattle.hub_history.specs.State.{Repository}
-use Rattle.hub_history.specs.Push.{landed_with, refs_left, is_done, together, in_order, unless_collided, unless_full, outcomes_in}
+use Rattle.hub_history.specs.Push.{repository_left_with, refs_left, is_done, together, in_order, unless_collided, unless_full, outcomes_in}
 use Rattle.hub_history.proofs.PushLemmas.{done_together}
 use Rattle.push_settling.specs.declared.settling.Settled.{Settled}
 use Rattle.push_settling.proofs.CollisionLemmas.{collision_none, collision_some}
 
-pub landed_none : (now : Repository) (objects : List Content) (cs : List Command) (os : List Outcome) → list_any is_done os ≡ false → None ≡ landed_with now objects cs os
-landed_none now objects cs os is = sym (ap (λ b. if b then Some (record now { objects = objects; refs = refs_left now.refs cs os }) else None) is)
+pub none_left : (now : Repository) (objects : List Content) (cs : List Command) (os : List Outcome) → list_any is_done os ≡ false → None ≡ repository_left_with now objects cs os
+none_left now objects cs os is = sym (ap (λ b. if b then Some (record now { objects = objects; refs = refs_left now.refs cs os }) else None) is)
 
 abbrev pub with_store : Repository → Store → Repository
 with_store now store = record { objects = store.objects; refs = store.refs; creator = now.creator; roles = now.roles }
 
 -- the repository in which the commands ran is the one that the outcomes leave
-pub landed_some : (now : Repository) (objects : List Content) (cs : List Command) (atomic : Bool) (ran os : List Outcome) → os ≡ together atomic ran → list_any is_done os ≡ true
-    → Some (with_store now (record { objects = objects; refs = refs_left now.refs cs ran })) ≡ landed_with now objects cs os
-landed_some now objects cs atomic ran os told some =
+pub some_left : (now : Repository) (objects : List Content) (cs : List Command) (atomic : Bool) (ran os : List Outcome) → os ≡ together atomic ran → list_any is_done os ≡ true
+    → Some (with_store now (record { objects = objects; refs = refs_left now.refs cs ran })) ≡ repository_left_with now objects cs os
+some_left now objects cs atomic ran os told some =
     let same : os ≡ ran = told ∙ done_together atomic ran (ap (list_any is_done) (sym told) ∙ some) in
     ap (λ o. Some (record now { objects = objects; refs = refs_left now.refs cs o })) (sym same)
     ∙ sym (ap (λ b. if b then Some (record now { objects = objects; refs = refs_left now.refs cs os }) else None) some)

@@ -5,7 +5,7 @@ ghost use Rattle.ref_store.specs.RefName.{is_ref_name};
 ghost use Rattle.ref_store.specs.Objects.{HasNamesOnce, with_pack};
 ghost use Rattle.ancestry.specs.Known.{Extends};
 ghost use Rattle.hub_history.specs.Collision.{collision};
-ghost use Rattle.hub_history.specs.Push.{beside, by_refs, in_order, is_done, landed, landed_with, outcomes_in, refs_after, refs_left, together};
+ghost use Rattle.hub_history.specs.Push.{beside, by_refs, in_order, is_done, repository_left, repository_left_with, outcomes_in, refs_after, refs_left, together};
 ghost use Rattle.push_settling.specs.Running.{FitCommands, FitsCommand, IsReadyFor};
 ghost use Rattle.ref_store.specs.Store.{TellsOfComparing};
 
@@ -48,7 +48,7 @@ pub fn settle(
     requires behind { prepared.objects ≡ prepared.before ++ pack.now }
     requires same { same ≡ true → prepared.before ≡ now.now.objects }
     ensures outcomes { IfOk result (λ d. d.outcomes ≡ outcomes_in now.now pack.now commands.now atomic judged.now) }
-    ensures next { IfOk result (λ d. d.next ≡ landed now.now pack.now commands.now d.outcomes) }
+    ensures next { IfOk result (λ d. d.next ≡ repository_left now.now pack.now commands.now d.outcomes) }
     ensures same { IfOk result (λ d. IfSome d.same (λ same. same ≡ now.now)) }
 {
     // `count` is called for its clause that no two objects have one name, which the proof cites.
@@ -129,23 +129,85 @@ fn settle_with(
     requires among { Extends prepared.objects (now.now.objects ++ fresh.objects) }
     requires unchanged { unchanged ≡ true → prepared.objects ≡ now.now.objects }
     ensures outcomes { IfOk result (λ d. d.outcomes ≡ together atomic (in_order now.now.refs commands.now judged.now)) }
-    ensures next { IfOk result (λ d. d.next ≡ landed_with now.now (now.now.objects ++ fresh.objects) commands.now d.outcomes) }
+    ensures next { IfOk result (λ d. d.next ≡ repository_left_with now.now (now.now.objects ++ fresh.objects) commands.now d.outcomes) }
     ensures same { IfOk result (λ d. IfSome d.same (λ same. same ≡ now.now)) }
+{
+    let ran = run_all(alloc, now, judged, commands, atomic)?;
+    if any_done(&ran.outcomes) {
+        return settle_done(alloc, now, ran.outcomes, ran.repo, fresh, prepared);
+    }
+    settle_undone(alloc, now, ran.outcomes, prepared, unchanged)
+}
+
+// The outcomes of the commands of a push, and the repository with the refs that those leave which are done.
+#[derive(Drop)]
+struct Ran {
+    outcomes: OutcomeList,
+    repo: Repo,
+}
+
+fn run_all(
+    alloc: Global,
+    now: &HostedRepo,
+    judged: &[Option<Outcome>],
+    commands: &CommandList,
+    atomic: bool,
+) -> Result<Ran, NoMemory>
+    requires alike { length judged.now ≡ length commands.now }
+    requires few { length commands.now ≤ 10000 }
+    requires fit { FitCommands commands.now judged.now }
+    ensures outcomes { IfOk result (λ ran. ran.outcomes ≡ together atomic (in_order now.now.refs commands.now judged.now)) }
+    ensures objects { IfOk result (λ ran. ran.repo.objects ≡ now.now.objects) }
+    ensures refs { IfOk result (λ ran. ran.repo.refs ≡ refs_left now.now.refs commands.now (in_order now.now.refs commands.now judged.now)) }
 {
     let mut repo = now.repo().copy()?;
     let ran = run(alloc, &mut repo, judged, commands.as_slice())?;
     let outcomes = together(alloc, atomic, ran)?;
-    if !any_done(&outcomes) {
-        let next = None;
-        let same = remember(alloc, now, prepared, unchanged)?;
-        return Ok(Settled {
-            outcomes,
-            next,
-            same,
-        });
-    }
+    Ok(Ran { outcomes, repo })
+}
+
+// A push of which a command is done leaves this repository, with the fresh objects added.
+fn settle_done(
+    alloc: Global,
+    now: &HostedRepo,
+    outcomes: OutcomeList,
+    repo: Repo,
+    fresh: FreshObjects,
+    prepared: PreparedPack,
+) -> Result<Settled, NoMemory>
+    requires objects { repo.objects ≡ now.now.objects }
+    requires names { HasNamesOnce (now.now.objects ++ fresh.objects) }
+    requires room { length now.now.objects + length fresh.objects ≤ 4294967295 }
+    requires ready { IfSome fresh.before (λ before. before ≡ now.now.objects) }
+    requires among { Extends prepared.objects (now.now.objects ++ fresh.objects) }
+    ensures outcomes { IfOk result (λ d. d.outcomes ≡ outcomes) }
+    ensures next { IfOk result (λ d. d.next ≡ Some (record { objects = now.now.objects ++ fresh.objects; refs = repo.refs; creator = now.now.creator; roles = now.now.roles })) }
+    ensures same { IfOk result (λ d. d.same ≡ None) }
+{
     let next = Some(land(alloc, now, repo, fresh, prepared)?);
     let same = None;
+    Ok(Settled {
+        outcomes,
+        next,
+        same,
+    })
+}
+
+// A push of which no command is done leaves the repository as it is.
+fn settle_undone(
+    alloc: Global,
+    now: &HostedRepo,
+    outcomes: OutcomeList,
+    prepared: PreparedPack,
+    unchanged: bool,
+) -> Result<Settled, NoMemory>
+    requires { unchanged ≡ true → prepared.objects ≡ now.now.objects }
+    ensures outcomes { IfOk result (λ d. d.outcomes ≡ outcomes) }
+    ensures next { IfOk result (λ d. d.next ≡ None) }
+    ensures same { IfOk result (λ d. IfSome d.same (λ same. same ≡ now.now)) }
+{
+    let next = None;
+    let same = remember(alloc, now, prepared, unchanged)?;
     Ok(Settled {
         outcomes,
         next,

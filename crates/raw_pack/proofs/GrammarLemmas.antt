@@ -12,12 +12,12 @@ use Rattle.std.specs.Str.{bytes_eq}
 use Rattle.sha1.specs.Sha1.{sha1}
 use Rattle.base_types.specs.Fronts.{Front, Whole, Broken, Partial}
 use Rattle.git_object.specs.Content.{Content}
-use Rattle.git_object.specs.Object.{FitOnePack, fault_of, total_bytes}
+use Rattle.git_object.specs.Object.{FitOnePack, IsPackable, fault_of, total_bytes}
 use Rattle.git_object.specs.declared.kind.Kind.{Kind}
 use Rattle.git_object.specs.declared.kind.Kind.TheVariants.{Commit, Tree, Blob, Tag}
 use Rattle.git_object.specs.declared.fault.ObjFault.{ObjFault}
 use Rattle.raw_pack.specs.Formats.{gives, fails, bytes, ◌>>=◌, front, behind, and_then}
-use Rattle.raw_pack.specs.Grammar.{kind_bits, spelled_head, spelled_entry, before_trailer, spelled_pack, IsPackable, ArePackable, IsPack}
+use Rattle.raw_pack.specs.Grammar.{kind_bits, spelled_head, spelled_entry, before_trailer, spelled_pack, ArePackable, IsPack}
 use Rattle.raw_pack.specs.Laws.{AreBytes, BeginsWith}
 use Rattle.raw_pack.specs.Packs.{word, signature, version, entry_count, header, byte, is_too_large, sized, more_size, kind_of_bits, head_by_kind, entry_head, formed, pack_entry, pack_entries, signed_part, trailer, pack_end, pack_front}
 use Rattle.raw_pack.specs.declared.head.Head.{Head}
@@ -284,9 +284,10 @@ signed_spelled xs contents are is =
     let count : parts.v ≡ length contents = sym rest.count ∙ ap length (sym rest.both) in
     let few : length contents ≤ 100000 = subst (λ (n : ℕ). n ≤ 100000) count head.1 in
     let entries : parts.zs ≡ flat_map spelled_entry contents = rest.spelled ∙ ap (flat_map spelled_entry) (sym rest.both) in
+    let each : All IsPackable contents = subst (All IsPackable) (sym rest.both) rest.each in
     record {
-      packable = record { few = omega (arith, few); each = subst (All IsPackable) (sym rest.both) rest.each };
-      within = record { few = few; light = subst (λ (l : List Content). total_bytes l ≤ 268435456) (sym rest.both) (omega (arith, rest.light)) };
+      packable = record { few = omega (arith, few); each = each };
+      within = record { few = few; formed = each; light = subst (λ (l : List Content). total_bytes l ≤ 268435456) (sym rest.both) (omega (arith, rest.light)) };
       whole =
           parts.both
           ∙ ap (λ (l : List ℕ). l ++ parts.zs) head.0

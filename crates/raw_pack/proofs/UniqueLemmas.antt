@@ -8,7 +8,8 @@ use Rattle.sha1.specs.Sha1.{sha1}
 use Rattle.base_types.specs.Fronts.{Front, Whole}
 use Rattle.git_object.specs.Content.{Content}
 use Rattle.raw_pack.specs.Formats.{Format, front}
-use Rattle.raw_pack.specs.Grammar.{spelled_entry, before_trailer, spelled_pack, IsPackable, ArePackable, IsPack}
+use Rattle.git_object.specs.Object.{IsPackable}
+use Rattle.raw_pack.specs.Grammar.{spelled_entry, before_trailer, spelled_pack, ArePackable, IsPack}
 use Rattle.raw_pack.specs.Packs.{word, pack_entry}
 use Rattle.raw_pack.specs.declared.fault.PackFault.{PackFault}
 use Rattle.raw_pack.proofs.FormatLemmas.{whole_stays}

@@ -16,7 +16,8 @@ use Rattle.pktline_core.specs.LinkState.{LinkState}
 use Rattle.pktline_core.specs.Links.{IsLater, Writes}
 use Rattle.pktline_core.specs.declared.links.WriteFault.{WriteFault}
 use Rattle.pktline_core.proofs.LinkLemmas.{writes_first, writes_second}
-use Rattle.raw_pack.specs.Grammar.{IsPackable, spelled_entry, before_trailer, spelled_pack}
+use Rattle.git_object.specs.Object.{IsPackable}
+use Rattle.raw_pack.specs.Grammar.{spelled_entry, before_trailer, spelled_pack}
 use Rattle.raw_pack.specs.Writing.{WritesHashed, objects_at}
 
 -- what broke in the first part broke in both

@@ -12,11 +12,11 @@ use Rattle.std.specs.Str.{bytes_eq}
 use Rattle.sha1.specs.Sha1.{sha1, digest_bytes}
 use Rattle.base_types.specs.Fronts.{Whole}
 use Rattle.git_object.specs.Content.{Content}
-use Rattle.git_object.specs.Object.{FitOnePack, fault_of, total_bytes}
+use Rattle.git_object.specs.Object.{FitOnePack, IsPackable, fault_of, total_bytes}
 use Rattle.git_object.specs.declared.kind.Kind.{Kind}
 use Rattle.git_object.specs.declared.kind.Kind.TheVariants.{Commit, Tree, Blob, Tag}
 use Rattle.raw_pack.specs.Formats.{Format, gives, fails, wants, bytes, ◌>>=◌, front, behind}
-use Rattle.raw_pack.specs.Grammar.{kind_bits, spelled_head, spelled_entry, before_trailer, spelled_pack, IsPackable, ArePackable}
+use Rattle.raw_pack.specs.Grammar.{kind_bits, spelled_head, spelled_entry, before_trailer, spelled_pack, ArePackable}
 use Rattle.raw_pack.specs.Laws.{BeginsWith}
 use Rattle.raw_pack.specs.Packs.{word, signature, version, entry_count, header, byte, is_too_large, sized, more_size, kind_of_bits, head_by_kind, entry_head, formed, pack_entry, pack_entries, signed_part, trailer, pack_end, pack_front}
 use Rattle.raw_pack.specs.declared.fault.PackFault.{PackFault}

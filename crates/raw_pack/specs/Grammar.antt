@@ -1,9 +1,9 @@
 -- The grammar of raw packs: how the pack of a list of objects is spelled.
-use Rattle.std.specs.Prelude.{◌≡◌, ℕ, ◌+◌, ◌*◌, ◌/◌, ◌%◌, ◌<◌, ◌≤◌, nat_lt, if◌then◌else◌, List, [], ◌∷◌, ◌++◌, length, flat_map, All, None, codes}
+use Rattle.std.specs.Prelude.{◌≡◌, ℕ, ◌+◌, ◌*◌, ◌/◌, ◌%◌, ◌<◌, nat_lt, if◌then◌else◌, List, [], ◌∷◌, ◌++◌, length, flat_map, All, codes}
 use Rattle.std.specs.Int.{w32, to_be_bytes}
 use Rattle.sha1.specs.Sha1.{sha1}
 use Rattle.git_object.specs.Content.{Content}
-use Rattle.git_object.specs.Object.{fault_of}
+use Rattle.git_object.specs.Object.{IsPackable}
 use Rattle.git_object.specs.declared.kind.Kind.{Kind}
 use Rattle.git_object.specs.declared.kind.Kind.TheVariants.{Commit, Tree, Blob, Tag}
 
@@ -41,11 +41,6 @@ before_trailer contents = codes "PACK" ++ to_be_bytes w32 2 ++ to_be_bytes w32 (
 -- the pack of these objects; the trailer is the SHA-1 of all before it
 unfoldable pub spelled_pack : List Content → List ℕ
 spelled_pack contents = before_trailer contents ++ sha1 (before_trailer contents)
-
--- an object that can be an entry: its body is of the form of its kind, and not too long
-pub record IsPackable (content : Content) : Type 0 where
-  pub short : length content.body ≤ largest_body
-  pub form : fault_of content.kind content.body ≡ None
 
 -- objects that a pack can have, which four bytes can count
 pub record ArePackable (contents : List Content) : Type 0 where

@@ -1,6 +1,6 @@
 // Entries, the trailer, and a whole pack.
-ghost use Rattle.std.specs.Prelude.{◌≡◌, ◌+◌, ◌≤◌, [], length, IfOk};
-ghost use Rattle.git_object.specs.Object.{FitOnePack, total_bytes};
+ghost use Rattle.std.specs.Prelude.{◌≡◌, ◌+◌, ◌≤◌, [], length, All, IfOk};
+ghost use Rattle.git_object.specs.Object.{FitOnePack, IsPackable, total_bytes};
 ghost use Rattle.pktline_core.specs.Links.{IsLater, KeepsWriting};
 ghost use Rattle.raw_pack.specs.Formats.{front};
 ghost use Rattle.raw_pack.specs.Packs.{pack_entries, pack_entry, pack_front, trailer};
@@ -59,6 +59,7 @@ pub fn read_entries<S: Source>(
     ensures reads { Reads (pack_entries count 0 0 []) (S.state source.old) (S.state source.new) hasher.old hasher.new result }
     ensures all { IfOk result (λ objects. length objects ≡ count) }
     ensures light { IfOk result (λ objects. total_bytes objects ≤ MAX_SUM) }
+    ensures formed { IfOk result (All IsPackable) }
     ensures tells { TellsFault (S.state source.old) (S.state source.new) result }
     ensures writing { KeepsWriting (S.state source.old) (S.state source.new) }
     ensures later { IsLater (S.state source.old) (S.state source.new) }

@@ -2,7 +2,8 @@
 ghost use Rattle.std.specs.Prelude.{◌≡◌, ◌<◌, ◌≤◌, ◌++◌, length, codes, flat_map, All, OnOk};
 ghost use Rattle.std.specs.Int.{w32, to_be_bytes};
 ghost use Rattle.pktline_core.specs.Links.{IsLater, KeepsReading, TellsWriting, Writes};
-ghost use Rattle.raw_pack.specs.Grammar.{ArePackable, IsPackable, kind_bits, spelled_entry, spelled_head, spelled_pack};
+ghost use Rattle.git_object.specs.Object.{IsPackable};
+ghost use Rattle.raw_pack.specs.Grammar.{ArePackable, kind_bits, spelled_entry, spelled_head, spelled_pack};
 ghost use Rattle.raw_pack.specs.Writing.{WritesHashed, objects_at};
 
 use git_object::{Kind, MAX_BODY, Object};

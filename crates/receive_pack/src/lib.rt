@@ -12,8 +12,8 @@ mod changes;
 mod commands;
 mod receiving;
 mod reports;
-#[cfg(test)]
-mod tests;
 mod text;
 
 pub use receiving::{advertise_receive, receive, receive_commands};
+pub use reports::ReportedPush;
+pub use text::status_line;

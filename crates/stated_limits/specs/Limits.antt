@@ -7,7 +7,8 @@ use Rattle.conf_groups.specs.declared.conf_file.TheConstants.{MAX_FILE_NAME}
 use Rattle.conf_groups.specs.declared.limits.TheConstants.{MAX_FILES, MAX_FILE_BYTES, MAX_LINES, MAX_SPLICED_BYTES}
 use Rattle.rule_compile.specs.declared.limits.TheConstants.{MAX_PATTERNS, MAX_RULES}
 use Rattle.policy_swap.specs.declared.rows.TheConstants.{MAX_ROWS}
-use Rattle.refex.specs.declared.limits.TheConstants.{MAX_NAME, MAX_POSITIONS}
+use Rattle.refex.specs.declared.limits.TheConstants.{MAX_COUNT, MAX_NAME, MAX_POSITIONS, MAX_REPEAT, NAME_POSITIONS}
+use Rattle.vref.specs.declared.walk.TheConstants.{MAX_PATH, MAX_ROWS as MAX_PATHS}
 
 -- names and words of a conf, in bytes
 pub record OfWords : Type 0 where
@@ -24,9 +25,18 @@ pub record OfFiles : Type 0 where
   pub lines : MAX_LINES ≡ 65536
   pub rows_below_conf : MAX_ROWS ≡ 10000
 
--- the rules of a conf and the texts of their patterns; the positions of a pattern, and the bytes of the name in its hole
+-- the rules of a conf and the texts of their patterns; the positions of a pattern, the bytes of the name in its hole, for which as many positions are
+-- kept, the number in a count, and where counting positions ends
 pub record OfRules : Type 0 where
   pub rules : MAX_RULES ≡ 100000
   pub patterns : MAX_PATTERNS ≡ 4096
   pub positions : MAX_POSITIONS ≡ 127
   pub hole : MAX_NAME ≡ 64
+  pub hole_positions : NAME_POSITIONS ≡ 64
+  pub repeat : MAX_REPEAT ≡ 127
+  pub count : MAX_COUNT ≡ 65535
+
+-- the paths that a change is said to change, and the bytes of each
+pub record OfPaths : Type 0 where
+  pub paths : MAX_PATHS ≡ 200000
+  pub path : MAX_PATH ≡ 4096

@@ -4,11 +4,12 @@
 //! each number once more, as a law. `docs/MAP.md` has all limits, with what happens past them.
 #![tactic(auto)]
 
-ghost use Rattle.stated_limits.specs.Limits.{OfFiles, OfRules, OfWords};
+ghost use Rattle.stated_limits.specs.Limits.{OfFiles, OfPaths, OfRules, OfWords};
 
 /// Tells the numbers of the limits. It does nothing, and is called for its clauses.
 pub fn hold_limits()
     ensures words { OfWords }
     ensures files { OfFiles }
     ensures rules { OfRules }
+    ensures paths { OfPaths }
 {}

@@ -38,3 +38,4 @@ pub use laws::hold_laws;
 pub use path_list::PathList;
 pub use paths::{Paths, changed_paths};
 pub use root::root_of;
+pub use walk::{MAX_PATH, MAX_ROWS};

@@ -21,10 +21,10 @@ use std::alloc::{AllocError, AllocFailed, Global};
 use std::cmp::Ordering;
 
 /// At how many paths two trees differ at most for which paths are listed.
-const MAX_ROWS: usize = 200_000;
+pub const MAX_ROWS: usize = 200_000;
 
 /// How many bytes such a path has at most.
-const MAX_PATH: usize = 4096;
+pub const MAX_PATH: usize = 4096;
 
 /// Why a walk stops early.
 #[derive(Clone, Copy)]

@@ -9,7 +9,7 @@ use Rattle.hub_state.specs.Prepared.{PackView}
 use Rattle.hub_history.specs.Push.{is_done}
 use Rattle.push_settling.proofs.CollisionLemmas.{collision_none}
 use Rattle.hub_history.proofs.PushLemmas.{none_alike}
-use Rattle.push_settling.proofs.PushLemmas.{landed_none, all_collided, all_full, as_in_order, ok_along, ok_along_both}
+use Rattle.push_settling.proofs.PushLemmas.{none_left, all_collided, all_full, as_in_order, ok_along, ok_along_both}
 use Rattle.push_settling.proofs.settling.settle.Goals as goal
 
 pub settle_with-requires-clause-among : goal.settle_with-requires-clause-among
@@ -48,7 +48,7 @@ pub returns-in-Collision-clause-next : goal.returns-in-Collision-clause-next
 returns-in-Collision-clause-next c =
     let now = c.args.now.now in
     ok_along_both c.refuse_all.result _ _ _
-    (λ d told none. none ∙ landed_none now (with_pack now.objects c.args.pack.now) c.args.commands.now d.outcomes (ap (list_any is_done) told ∙ none_alike (Collided c.in-Collision.id) refl c.args.commands.now))
+    (λ d told none. none ∙ none_left now (with_pack now.objects c.args.pack.now) c.args.commands.now d.outcomes (ap (list_any is_done) told ∙ none_alike (Collided c.in-Collision.id) refl c.args.commands.now))
     c.refuse_all.ensures.outcomes c.refuse_all.ensures.next
 
 pub returns-in-Full-clause-outcomes : goal.returns-in-Full-clause-outcomes
@@ -63,5 +63,5 @@ pub returns-in-Full-clause-next : goal.returns-in-Full-clause-next
 returns-in-Full-clause-next c =
     let now = c.args.now.now in
     ok_along_both c.refuse_all-in-Full.result _ _ _
-    (λ d told none. none ∙ landed_none now (with_pack now.objects c.args.pack.now) c.args.commands.now d.outcomes (ap (list_any is_done) told ∙ none_alike (Full c.in-Full.count) refl c.args.commands.now))
+    (λ d told none. none ∙ none_left now (with_pack now.objects c.args.pack.now) c.args.commands.now d.outcomes (ap (list_any is_done) told ∙ none_alike (Full c.in-Full.count) refl c.args.commands.now))
     c.refuse_all-in-Full.ensures.outcomes c.refuse_all-in-Full.ensures.next

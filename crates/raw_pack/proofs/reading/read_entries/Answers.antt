@@ -1,4 +1,6 @@
-use Rattle.std.proofs.Common.{◌≡◌, ◌-◌, ◌+◌, ◌++◌, ◌∷◌, [], Err, rules, refl, ap, arith, length, length-append, ◌∙◌}
+use Rattle.std.proofs.Common.{◌≡◌, ◌-◌, ◌+◌, ◌++◌, ◌∷◌, ◌≤◌, [], Err, None, rules, refl, ap, arith, length, length-append, subst, ◌∙◌}
+use Rattle.std.proofs.lemmas.List.Elements.{All-nil, All-push}
+use Rattle.git_object.specs.Object.{IsPackable, fault_of}
 use Rattle.pktline_core.proofs.LinkLemmas.{later_same, later_more, writing_more}
 use Rattle.raw_pack.specs.declared.fault.PackFault.TheVariants.{NoMemory}
 use Rattle.raw_pack.proofs.ReadLemmas.{leaves_whole, leaves_lacks}
@@ -16,6 +18,7 @@ loop-entry-init g c =
       sum = omega arith;
       all = rw c.new-objects.ensures;
       light = rw c.new-objects.ensures refl;
+      formed = rw c.new-objects.ensures (All-nil IsPackable);
     }
 
 pub returns-in_err-object-clause-reads : goal.returns-in_err-object-clause-reads
@@ -43,6 +46,10 @@ loop-entry-preserved g c =
       sum = rw c.body.ensures.body c.in_ok-object.ensures.small;
       all = rw pushed (omega (arith, length-append c.loop-entry.objects (c.in_ok-object.object ∷ []), c.loop-entry.invariant.all));
       light = rw (pushed, c.body.ensures.body) (total_bytes-more c.loop-entry.objects c.in_ok-object.object ∙ ap (λ n. n + length c.in_ok-object.object.body) c.loop-entry.invariant.light);
+      formed = rw pushed (All-push IsPackable c.loop-entry.objects c.in_ok-object.object c.loop-entry.invariant.formed (record {
+        short = subst (λ l. length l ≤ 16777216) c.body.ensures.body c.body.ensures.small;
+        form = subst (λ l. fault_of c.in_ok-object.object.kind l ≡ None) c.body.ensures.body c.body.ensures.form;
+      }));
     }
 
 pub returns-clause-reads : goal.returns-clause-reads

@@ -1,5 +1,5 @@
-use Rattle.std.proofs.Common.{◌≡◌, ◌-◌, ◌≤◌, [], length}
-use Rattle.git_object.specs.Object.{total_bytes}
+use Rattle.std.proofs.Common.{◌≡◌, ◌-◌, ◌≤◌, [], All, length}
+use Rattle.git_object.specs.Object.{IsPackable, total_bytes}
 use Rattle.pktline_core.specs.Links.{IsLater, KeepsWriting}
 use Rattle.raw_pack.specs.Packs.{pack_entries}
 use Rattle.raw_pack.specs.Reading.{Leaves}
@@ -14,4 +14,5 @@ invariant-loop-entry g l = record {
   sum : l.sum ≤ 268435456;
   all : length l.objects ≡ l.entry;
   light : total_bytes l.objects ≡ l.sum;
+  formed : All IsPackable l.objects;
 }

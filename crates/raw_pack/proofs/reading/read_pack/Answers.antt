@@ -49,4 +49,4 @@ pub returns-in-Err-clause-told : goal.returns-in-Err-clause-told
 returns-in-Err-clause-told g c = told_pack _ _ _ (returns-in-Err-clause-reads g c)
 
 pub returns-in-Ok-clause-fit : goal.returns-in-Ok-clause-fit
-returns-in-Ok-clause-fit g c = record { few = omega (arith, c.in_ok-objects.ensures.all, c.in_ok-count.ensures.few); light = c.in_ok-objects.ensures.light }
+returns-in-Ok-clause-fit g c = record { few = omega (arith, c.in_ok-objects.ensures.all, c.in_ok-count.ensures.few); formed = c.in_ok-objects.ensures.formed; light = c.in_ok-objects.ensures.light }

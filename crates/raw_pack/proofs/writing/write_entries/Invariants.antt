@@ -1,6 +1,7 @@
 use Rattle.std.proofs.Common.{◌≡◌, take, Ok, flat_map, All}
 use Rattle.pktline_core.specs.Links.{IsLater, KeepsReading}
-use Rattle.raw_pack.specs.Grammar.{IsPackable, spelled_entry}
+use Rattle.git_object.specs.Object.{IsPackable}
+use Rattle.raw_pack.specs.Grammar.{spelled_entry}
 use Rattle.raw_pack.specs.Writing.{WritesHashed, objects_at}
 use Rattle.raw_pack.proofs.writing.write_entries.Given as goal
 

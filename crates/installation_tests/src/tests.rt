@@ -1,9 +1,6 @@
 // Draws, the conf and the inputs of installations. All numbers, texts and digests were reckoned apart from the code.
-use crate::conf::conf_text;
-use crate::draws::Draws;
-use crate::sessions::Visit;
-use crate::{first_input, next_visit, repo_name, visit_input};
 use git_object::ObjectId;
+use installation::{Draws, Visit, conf_text, first_input, next_visit, repo_name, visit_input};
 use sha1::Sha1;
 use std::alloc::Global;
 use std::test::Fail;
