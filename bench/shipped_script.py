@@ -453,6 +453,54 @@ session(asks(b"wanda", b"git-receive-pack 'core2'"))
 # 145: the conf's branch isn't deleted
 session(pushes(b"admin", b"gitolite-admin", [(inner, None, MASTER)], b""))
 
+# VI. more fetches of `shelf`, whose lines end in no line feed, and a tag of a tag
+
+SHELVES = b"""repo gitolite-admin
+    RW+  = admin
+repo shelf
+    RW+  = carol
+    R    = bob
+repo bare
+    R    = bob
+"""
+shelves, shelves_objects = conf(SHELVES, inner)
+outer = ("tag", b"object " + hexed(tag).encode() + b"\ntype tag\ntag v2\ntagger Carol <carol@example.com> 1700000000 +0000\n\ntwo\n")
+
+
+def bare_line(word, item, words=b""):
+    return packet(word + b" " + hexed(item).encode() + words)
+
+
+# 146: the conf, under which the refs of 120 are there
+session(pushes(b"admin", b"gitolite-admin", [(inner, shelves, MASTER)], raw_pack([shelves] + shelves_objects)))
+
+# 147 to 152: nothing in common; words, flushes and haves; a tag in common; what isn't advertised; what leaves the form
+fetches(b"bob", b"shelf", bare_line(b"want", tag) + b"0000" + packet(b"done"))
+fetches(
+    b"bob",
+    b"shelf",
+    bare_line(b"want", second, b" ofs-delta")
+    + bare_line(b"want", tag)
+    + b"00000000"
+    + bare_line(b"have", side)
+    + bare_line(b"have", first)
+    + b"0000"
+    + bare_line(b"have", second)
+    + packet(b"done"),
+)
+fetches(b"bob", b"shelf", bare_line(b"want", second, b" ") + b"0000" + bare_line(b"have", tag) + packet(b"done"))
+fetches(b"bob", b"shelf", bare_line(b"want", second) + bare_line(b"want", first) + b"0000")
+fetches(b"bob", b"shelf", bare_line(b"want", second, b"x"))
+fetches(b"bob", b"shelf", bare_line(b"want", second) + bare_line(b"want", second, b" a") + b"0000")
+
+# 153: forty zeros of a repository without refs
+fetches(b"bob", b"bare", bare_line(b"want", None) + b"0000")
+
+# 154 and 155: a tag of the tag
+session(pushes(b"carol", b"shelf", [(None, outer, b"refs/tags/v2")], raw_pack([outer])))
+fetches(b"bob", b"shelf", b"0000")
+
+
 if __name__ == "__main__":
     for body in sessions:
         sys.stdout.buffer.write(b"session %d\n" % len(body) + body + b"\n")

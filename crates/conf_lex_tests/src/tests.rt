@@ -382,14 +382,13 @@ fn by_repo(alloc: Global) -> Result<HashMap<RepoName, u8>, Fail> {
 }
 
 fn are_in_order(numbers: &BTreeMap<UserName, u8>, wanted: &[u8]) -> bool {
-    let mut at = 0;
+    let mut left = wanted.iter();
     for (_, number) in numbers.iter() {
-        if wanted.get(at) != Some(number) {
+        if left.next() != Some(number) {
             return false;
         }
-        at += 1;
     }
-    at == wanted.len()
+    left.next().is_none()
 }
 
 #[test]
