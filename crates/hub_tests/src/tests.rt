@@ -129,17 +129,34 @@ fn are(outcomes: &OutcomeList, first: u8, second: u8, third: u8) -> bool {
         && number_at(outcomes, 2) == third
 }
 
-// Whether three pushes are told what is due that were all opened before the first was settled.
-fn are_overtaken<D: Desk>(alloc: Global, desk: &mut D) -> Result<bool, Fail> {
-    let user = user_name(alloc, "bob")?;
-    let repo = repo_name(alloc, "testing")?;
-    let first = pin(alloc, desk, &user, &repo)?;
-    let second = pin(alloc, desk, &user, &repo)?;
-    let third = pin(alloc, desk, &user, &repo)?;
+// Two openings before either push.
+fn two_pins<D: Desk>(
+    alloc: Global,
+    desk: &mut D,
+    user: &UserName,
+    repo: &RepoName,
+) -> Result<(Pin, Pin), Fail>
+    ensures write { IfOk result (λ pins. (pins.0.pinned.want ≡ want.Write) × (pins.1.pinned.want ≡ want.Write)) }
+    ensures stand { IfOk result (λ pins. Stands pins.0 (D.view desk.new).admin (D.view desk.new).seen × Stands pins.1 (D.view desk.new).admin (D.view desk.new).seen) }
+{
+    let first = pin(alloc, desk, user, repo)?;
+    let second = pin(alloc, desk, user, repo)?;
+    Ok((first, second))
+}
+
+// Whether of two pushes, both opened before the first was settled, the second is told these numbers: it is stale at the ref that the first has made.
+fn is_overtaken<D: Desk>(
+    alloc: Global,
+    desk: &mut D,
+    user: &UserName,
+    repo: &RepoName,
+    atomic: bool,
+    number: u8,
+) -> Result<bool, Fail> {
+    let (first, second) = two_pins(alloc, desk, user, repo)?;
     let one = tag(alloc, desk, first, b"1", b"b", false)?;
-    let two = tag(alloc, desk, second, b"2", b"abc", true)?;
-    let three = tag(alloc, desk, third, b"3", b"abc", false)?;
-    Ok(are(&one, 1, 0, 0) && are(&two, 13, 11, 13) && are(&three, 1, 11, 1))
+    let two = tag(alloc, desk, second, b"2", b"abc", atomic)?;
+    Ok(are(&one, 1, 0, 0) && are(&two, number, 11, number))
 }
 
 // How many objects `testing` has, how many refs there are, and how many entries.
@@ -148,11 +165,16 @@ fn counts(alloc: Global, hub: &Hub) -> Result<(usize, u64, usize), Fail> {
     Ok((repo.count(), hub.ref_count(), hub.log().len()))
 }
 
+fn leaves(alloc: Global, atomic: bool, number: u8, due: (usize, u64, usize)) -> Result<bool, Fail> {
+    let (user, repo) = (user_name(alloc, "bob")?, repo_name(alloc, "testing")?);
+    let mut desk = new_desk(alloc)?;
+    let overtaken = is_overtaken(alloc, &mut desk, &user, &repo, atomic, number)?;
+    Ok(overtaken && counts(alloc, &desk.into_hub())? == due)
+}
+
 #[test]
 fn a_push_is_settled_by_what_is_there_then(rt: HostRuntime) -> Result<(), Fail> {
-    let mut desk = new_desk(rt.alloc())?;
-    assert!(rt; are_overtaken(rt.alloc(), &mut desk)?);
-    let hub = desk.into_hub();
-    assert_eq!(rt; counts(rt.alloc(), &hub)?, (2, 3, 6));
+    assert!(rt; leaves(rt.alloc(), false, 1, (2, 3, 4))?);
+    assert!(rt; leaves(rt.alloc(), true, 13, (1, 1, 4))?);
     Ok(())
 }

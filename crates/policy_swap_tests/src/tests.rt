@@ -353,13 +353,28 @@ fn put_folders(
     put_root(alloc, objects, conf)
 }
 
+// How many files the conf has at a root, or the fault.
+fn count_at(alloc: Global, objects: &ObjectList, root: ObjectId) -> Result<Vec<u8>, Fail> {
+    let lens = lens_of(alloc, objects)?;
+    print_count(alloc, &conf_files(alloc, &lens, root))
+}
+
+fn put_wide_root(
+    alloc: Global,
+    objects: &mut ObjectList,
+    folders: usize,
+    count: usize,
+    mode: &str,
+) -> Result<ObjectId, Fail> {
+    let blob = put(alloc, objects, Kind::Blob, b"1".to_vec(alloc)?)?;
+    let below = put_wide(alloc, objects, mode, count, blob)?;
+    put_folders(alloc, objects, folders, below, blob)
+}
+
 fn wide_conf(alloc: Global, folders: usize, count: usize, mode: &str) -> Result<Vec<u8>, Fail> {
     let mut objects = ObjectList::new(alloc);
-    let blob = put(alloc, &mut objects, Kind::Blob, b"1".to_vec(alloc)?)?;
-    let below = put_wide(alloc, &mut objects, mode, count, blob)?;
-    let root = put_folders(alloc, &mut objects, folders, below, blob)?;
-    let lens = lens_of(alloc, &objects)?;
-    print_count(alloc, &conf_files(alloc, &lens, root))
+    let root = put_wide_root(alloc, &mut objects, folders, count, mode)?;
+    count_at(alloc, &objects, root)
 }
 
 #[test]
@@ -392,6 +407,19 @@ fn long_body(alloc: Global, mode: &str, length: usize, id: ObjectId) -> Result<V
     Ok(body)
 }
 
+// A root with a conf of these entries, and of a main file behind them.
+fn put_beside(
+    alloc: Global,
+    objects: &mut ObjectList,
+    entries: Vec<u8>,
+    main: ObjectId,
+) -> Result<ObjectId, Fail> {
+    let mut body = entries;
+    add_entry(&mut body, "100644", b"gitolite.conf", main)?;
+    let conf = put(alloc, objects, Kind::Tree, body)?;
+    put_root(alloc, objects, conf)
+}
+
 fn put_long(
     alloc: Global,
     objects: &mut ObjectList,
@@ -399,21 +427,19 @@ fn put_long(
     length: usize,
 ) -> Result<ObjectId, Fail> {
     let blob = put(alloc, objects, Kind::Blob, b"1".to_vec(alloc)?)?;
-    let mut body = long_body(alloc, "100644", length, blob)?;
-    if folder > 0 {
-        let below = put(alloc, objects, Kind::Tree, body)?;
-        body = long_body(alloc, "40000", folder, below)?;
+    let file = long_body(alloc, "100644", length, blob)?;
+    if folder == 0 {
+        return put_beside(alloc, objects, file, blob);
     }
-    add_entry(&mut body, "100644", b"gitolite.conf", blob)?;
-    let conf = put(alloc, objects, Kind::Tree, body)?;
-    put_root(alloc, objects, conf)
+    let below = put(alloc, objects, Kind::Tree, file)?;
+    let body = long_body(alloc, "40000", folder, below)?;
+    put_beside(alloc, objects, body, blob)
 }
 
 fn long_conf(alloc: Global, folder: usize, length: usize) -> Result<Vec<u8>, Fail> {
     let mut objects = ObjectList::new(alloc);
     let root = put_long(alloc, &mut objects, folder, length)?;
-    let lens = lens_of(alloc, &objects)?;
-    print_count(alloc, &conf_files(alloc, &lens, root))
+    count_at(alloc, &objects, root)
 }
 
 #[test]
@@ -432,14 +458,27 @@ static SIZES: [(usize, usize, &str); 2] = [
     (67_108, 67_973, TOO_LONG),
 ];
 
+// A file of so many bytes.
+fn put_large(alloc: Global, objects: &mut ObjectList, size: usize) -> Result<ObjectId, Fail> {
+    put(alloc, objects, Kind::Blob, vec![in alloc; b'#'; size]?)
+}
+
+fn put_large_root(
+    alloc: Global,
+    objects: &mut ObjectList,
+    each: usize,
+    main: usize,
+) -> Result<ObjectId, Fail> {
+    let each = put_large(alloc, objects, each)?;
+    let main = put_large(alloc, objects, main)?;
+    let below = put_wide(alloc, objects, "100644", 999, each)?;
+    put_folders(alloc, objects, 1, below, main)
+}
+
 fn large_conf(alloc: Global, each: usize, main: usize) -> Result<Vec<u8>, Fail> {
     let mut objects = ObjectList::new(alloc);
-    let each = put(alloc, &mut objects, Kind::Blob, vec![in alloc; b'#'; each]?)?;
-    let main = put(alloc, &mut objects, Kind::Blob, vec![in alloc; b'#'; main]?)?;
-    let below = put_wide(alloc, &mut objects, "100644", 999, each)?;
-    let root = put_folders(alloc, &mut objects, 1, below, main)?;
-    let lens = lens_of(alloc, &objects)?;
-    print_count(alloc, &conf_files(alloc, &lens, root))
+    let root = put_large_root(alloc, &mut objects, each, main)?;
+    count_at(alloc, &objects, root)
 }
 
 #[test]

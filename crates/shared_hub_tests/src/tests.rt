@@ -148,24 +148,19 @@ fn are(one: &Told, other: &Told, new: ObjectId, numbers: (u8, u8)) -> bool {
 
 // How many of the entries are openings, how many of those are denied, and how many are pushes.
 fn kinds(log: &[Entry]) -> (usize, usize, usize) {
-    let openings = log
-        .iter()
-        .filter(|e| matches!(e.event, Event::Entered { .. }))
-        .count();
-    let denied = log
-        .iter()
-        .filter(|e| matches!(
-            e.event,
-            Event::Entered {
-                answer: EnterKept::Denied(_),
-                ..
+    let (mut openings, mut denied, mut pushes) = (0usize, 0usize, 0usize);
+    for entry in log {
+        match &entry.event {
+            Event::Entered { answer, .. } => {
+                openings = openings.saturating_add(1);
+                if matches!(answer, EnterKept::Denied(_)) {
+                    denied = denied.saturating_add(1);
+                }
             }
-        ))
-        .count();
-    let pushes = log
-        .iter()
-        .filter(|e| matches!(e.event, Event::Pushed { .. }))
-        .count();
+            Event::Pushed { .. } => pushes = pushes.saturating_add(1),
+            _ => {}
+        }
+    }
     (openings, denied, pushes)
 }
 
@@ -335,23 +330,32 @@ fn count_of(log: &[Entry], caller: u64) -> usize {
     count
 }
 
+fn jobs_of(alloc: Global) -> Result<[Job; 4], Fail> {
+    let early = (job_of(alloc, &JOBS[0])?, job_of(alloc, &JOBS[1])?);
+    let late = (job_of(alloc, &JOBS[2])?, job_of(alloc, &JOBS[3])?);
+    Ok([early.0, early.1, late.0, late.1])
+}
+
+// Whether each of four callers has so many entries.
+fn have_entries(log: &[Entry], due: u64) -> bool {
+    for caller in 0..4u64 {
+        if count_of(log, caller) as u64 != due {
+            return false;
+        }
+    }
+    true
+}
+
 fn are_in_order<R: Threads + Wait + Sync>(
     rt: &R,
     alloc: Global,
     rounds: u64,
 ) -> Result<bool, Fail> {
-    let jobs = [
-        job_of(alloc, &JOBS[0])?,
-        job_of(alloc, &JOBS[1])?,
-        job_of(alloc, &JOBS[2])?,
-        job_of(alloc, &JOBS[3])?,
-    ];
+    let jobs = jobs_of(alloc)?;
     let hub = four_callers(rt, alloc, new_hub(alloc)?, &jobs, rounds)?;
-    let log = hub.log().as_slice();
-    let each = (0..4).all(|caller| count_of(log, caller) as u64
-        == rounds.saturating_mul(2).saturating_add(2));
+    let due = rounds.saturating_mul(2).saturating_add(2);
     // each has made its ref and deleted it in turn, as often as the other
-    Ok(each && hub.ref_count() == 0)
+    Ok(have_entries(hub.log().as_slice(), due) && hub.ref_count() == 0)
 }
 
 #[test]

@@ -231,16 +231,37 @@ fn changed_paths_come_in_byte_order(rt: HostRuntime) -> Result<(), Fail> {
     Ok(())
 }
 
-// How many bytes the name of a folder has in which a file with a name of four bytes is, how many the name of a file beside it has, and how many changed
-// paths there are then.
-static LENGTHS: [(usize, usize, &str); 6] = [
+// A tree that is compared with nothing. Files have names of four bytes, but where it is said.
+#[derive(Clone, Copy)]
+enum Shape {
+    // a folder whose name has so many bytes, with one file, and a file beside it whose name has so many
+    Long(usize, usize),
+    // so many folders in one another, so many entries of each, all of one tree, and so many files of the last one
+    Nest(usize, usize, usize),
+    // a folder with a name of 4,000 bytes, in which are 100 folders of one tree, of so many files
+    BelowLong(usize),
+}
+
+// A tree, and how many changed paths there are.
+static COUNTS: [(Shape, &str); 13] = [
     // paths of 4,096 and of 4,097 bytes
-    (4091, 1, "2"),
-    (4092, 1, "too many"),
-    (1, 4096, "2"),
-    (1, 4097, "too many"),
-    (4091, 4096, "2"),
-    (5000, 1, "too many"),
+    (Shape::Long(4091, 1), "2"),
+    (Shape::Long(4092, 1), "too many"),
+    (Shape::Long(1, 4096), "2"),
+    (Shape::Long(1, 4097), "too many"),
+    (Shape::Long(4091, 4096), "2"),
+    (Shape::Long(5000, 1), "too many"),
+    // 131,070 and 262,142 rows
+    (Shape::Nest(15, 2, 2), "65536"),
+    (Shape::Nest(16, 2, 2), "too many"),
+    // 200,000 and 200,001 rows
+    (Shape::Nest(1, 100, 1999), "199900"),
+    (Shape::Nest(1, 409, 488), "too many"),
+    // paths of more than 4,096 bytes, before there are so many rows
+    (Shape::Nest(2000, 2, 1), "too many"),
+    // 199,901 rows, and 200,001
+    (Shape::BelowLong(1998), "199800"),
+    (Shape::BelowLong(1999), "too many"),
 ];
 
 fn add_long_entry(
@@ -267,33 +288,6 @@ fn put_long(
     add_long_entry(alloc, &mut body, "100644", (b'b', file), blob)?;
     put(alloc, objects, Kind::Tree, &body)
 }
-
-#[test]
-fn long_paths_are_too_many(rt: HostRuntime) -> Result<(), Fail> {
-    let alloc = rt.alloc();
-    for (folder, file, due) in &LENGTHS {
-        let mut objects = ObjectList::new(alloc);
-        let tree = put_long(alloc, &mut objects, *folder, *file)?;
-        let lens = lens_of(alloc, &objects)?;
-        let paths = changed_paths(alloc, &lens, ObjectId::zero(), tree);
-        let out = print_count(alloc, &paths)?;
-        assert_eq!(rt; out.as_slice(), due.as_bytes());
-    }
-    Ok(())
-}
-
-// How many folders lie in one another, how many entries each has, all of one tree, how many files the last one has, and how many changed paths there are
-// then.
-static ROWS: [(usize, usize, usize, &str); 5] = [
-    // 131,070 and 262,142 rows
-    (15, 2, 2, "65536"),
-    (16, 2, 2, "too many"),
-    // 200,000 and 200,001 rows
-    (1, 100, 1999, "199900"),
-    (1, 409, 488, "too many"),
-    // paths of more than 4,096 bytes, before there are so many rows
-    (2000, 2, 1, "too many"),
-];
 
 // A tree of so many entries of one mode that name one object; their names are numbers.
 fn put_wide(
@@ -326,24 +320,6 @@ fn put_nest(
     Ok(tree)
 }
 
-#[test]
-fn rows_are_counted(rt: HostRuntime) -> Result<(), Fail> {
-    let alloc = rt.alloc();
-    for (deep, wide, files, due) in &ROWS {
-        let mut objects = ObjectList::new(alloc);
-        let tree = put_nest(alloc, &mut objects, *deep, *wide, *files)?;
-        let lens = lens_of(alloc, &objects)?;
-        let paths = changed_paths(alloc, &lens, ObjectId::zero(), tree);
-        let out = print_count(alloc, &paths)?;
-        assert_eq!(rt; out.as_slice(), due.as_bytes());
-    }
-    Ok(())
-}
-
-// How many files each of 100 folders has that lie in a folder with a name of 4,000 bytes, and how many changed paths there are then: of 199,901 rows, and of
-// 200,001.
-static BELOW_LONG: [(usize, &str); 2] = [(1998, "199800"), (1999, "too many")];
-
 fn put_below_long(alloc: Global, objects: &mut ObjectList, files: usize) -> Result<ObjectId, Fail> {
     let below = put_nest(alloc, objects, 1, 100, files)?;
     let mut body = Vec::new(alloc);
@@ -351,15 +327,26 @@ fn put_below_long(alloc: Global, objects: &mut ObjectList, files: usize) -> Resu
     put(alloc, objects, Kind::Tree, &body)
 }
 
+fn put_shape(alloc: Global, objects: &mut ObjectList, shape: Shape) -> Result<ObjectId, Fail> {
+    match shape {
+        Shape::Long(folder, file) => put_long(alloc, objects, folder, file),
+        Shape::Nest(deep, wide, files) => put_nest(alloc, objects, deep, wide, files),
+        Shape::BelowLong(files) => put_below_long(alloc, objects, files),
+    }
+}
+
+// How many changed paths a tree has.
+fn count_of(alloc: Global, shape: Shape) -> Result<Vec<u8>, Fail> {
+    let mut objects = ObjectList::new(alloc);
+    let tree = put_shape(alloc, &mut objects, shape)?;
+    let lens = lens_of(alloc, &objects)?;
+    print_count(alloc, &changed_paths(alloc, &lens, ObjectId::zero(), tree))
+}
+
 #[test]
-fn rows_below_a_long_name_are_counted(rt: HostRuntime) -> Result<(), Fail> {
-    let alloc = rt.alloc();
-    for (files, due) in &BELOW_LONG {
-        let mut objects = ObjectList::new(alloc);
-        let tree = put_below_long(alloc, &mut objects, *files)?;
-        let lens = lens_of(alloc, &objects)?;
-        let paths = changed_paths(alloc, &lens, ObjectId::zero(), tree);
-        let out = print_count(alloc, &paths)?;
+fn changed_paths_are_counted(rt: HostRuntime) -> Result<(), Fail> {
+    for (shape, due) in &COUNTS {
+        let out = count_of(rt.alloc(), *shape)?;
         assert_eq!(rt; out.as_slice(), due.as_bytes());
     }
     Ok(())

@@ -33,13 +33,24 @@ pub struct Job {
     pub new: ObjectId,
 }
 
+fn user_of(alloc: Global, name: &str) -> Result<UserName, Fail> {
+    Ok(UserName::parse(alloc, name.as_bytes())?.ok_or("a user's name")?)
+}
+
+fn repo_of(alloc: Global, name: &str) -> Result<RepoName, Fail> {
+    Ok(RepoName::parse(alloc, name.as_bytes())?.ok_or("a repository's name")?)
+}
+
 pub fn job_of(alloc: Global, asks: &Asks) -> Result<Job, Fail> {
     let (user, repo, name, text, letter) = asks;
+    let user = user_of(alloc, user)?;
+    let repo = repo_of(alloc, repo)?;
+    let name = Text::of(alloc, name.as_bytes())?;
     let (pack, new) = pack_of(alloc, text, *letter)?;
     Ok(Job {
-        user: UserName::parse(alloc, user.as_bytes())?.ok_or("a user's name")?,
-        repo: RepoName::parse(alloc, repo.as_bytes())?.ok_or("a repository's name")?,
-        name: Text::of(alloc, name.as_bytes())?,
+        user,
+        repo,
+        name,
         pack,
         new,
     })

@@ -13,39 +13,28 @@ fn put(alloc: Global, pack: &mut ObjectList, kind: Kind, body: &[u8]) -> Result<
     Ok(name)
 }
 
-// A tree of one entry, which is given as the tree has it, but for the name of the object.
-fn put_tree(
+// An object whose body is these parts.
+fn put_parts(
     alloc: Global,
     pack: &mut ObjectList,
-    entry: &[u8],
-    id: ObjectId,
+    kind: Kind,
+    parts: &[&[u8]],
 ) -> Result<ObjectId, Fail> {
-    let mut body = entry.to_vec(alloc)?;
-    body.extend_from_slice(&id.bytes)?;
-    put(alloc, pack, Kind::Tree, &body)
-}
-
-// A commit of this tree, without parents, and with this letter as its message.
-fn put_commit(
-    alloc: Global,
-    pack: &mut ObjectList,
-    tree: ObjectId,
-    letter: u8,
-) -> Result<ObjectId, Fail> {
-    let mut body = b"tree ".to_vec(alloc)?;
-    body.extend_from_slice(&tree.hex())?;
-    body.extend_from_slice(b"\nauthor a <a> 0 +0000\ncommitter a <a> 0 +0000\n\n")?;
-    body.push(letter)?;
-    put(alloc, pack, Kind::Commit, &body)
+    let mut body = Vec::new(alloc);
+    for part in parts {
+        body.extend_from_slice(part)?;
+    }
+    put(alloc, pack, kind, &body)
 }
 
 // A tree with this conf: the admin's own rule, and this behind it.
 fn put_conf(alloc: Global, pack: &mut ObjectList, text: &str) -> Result<ObjectId, Fail> {
-    let mut main = b"repo gitolite-admin\n    RW+ = ann\n".to_vec(alloc)?;
-    main.extend_from_slice(text.as_bytes())?;
-    let file = put(alloc, pack, Kind::Blob, &main)?;
-    let folder = put_tree(alloc, pack, b"100644 gitolite.conf\0", file)?;
-    put_tree(alloc, pack, b"40000 conf\0", folder)
+    let main = b"repo gitolite-admin\n    RW+ = ann\n".as_slice();
+    let file = put_parts(alloc, pack, Kind::Blob, &[main, text.as_bytes()])?;
+    let entry = [b"100644 gitolite.conf\0".as_slice(), file.bytes.as_slice()];
+    let folder = put_parts(alloc, pack, Kind::Tree, &entry)?;
+    let entry = [b"40000 conf\0".as_slice(), folder.bytes.as_slice()];
+    put_parts(alloc, pack, Kind::Tree, &entry)
 }
 
 /// A pack of a commit with this conf, or with no file where there is no text, and the commit's name.
@@ -56,6 +45,15 @@ pub fn pack_of(alloc: Global, text: &str, letter: u8) -> Result<(ObjectList, Obj
     } else {
         put_conf(alloc, &mut pack, text)?
     };
-    let commit = put_commit(alloc, &mut pack, tree, letter)?;
+    // without parents, and with the letter as its message
+    let id = tree.hex();
+    let message = [letter];
+    let parts = [
+        b"tree ".as_slice(),
+        id.as_slice(),
+        b"\nauthor a <a> 0 +0000\ncommitter a <a> 0 +0000\n\n".as_slice(),
+        message.as_slice(),
+    ];
+    let commit = put_parts(alloc, &mut pack, Kind::Commit, &parts)?;
     Ok((pack, commit))
 }
