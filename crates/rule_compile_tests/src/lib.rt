@@ -2,8 +2,6 @@
 #![tactic(auto)]
 
 #[cfg(test)]
-mod index_tests;
-#[cfg(test)]
 mod limit_tests;
 #[cfg(test)]
 mod tests;

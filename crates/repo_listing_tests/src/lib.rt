@@ -1,5 +1,0 @@
-//! Tests of `repo_listing`, by what is public there.
-#![tactic(auto)]
-
-#[cfg(test)]
-mod tests;
