@@ -12,7 +12,7 @@ returns-then-any_done-clause-next c =
     let ran = in_order now.refs commands c.args.judged.now in
     ok_along_both c.settle_done.result _ _ _
     (λ d told next.
-        next ∙ ap (λ (r : Refs). Some (with_store now (record { objects = objects; refs = r }))) c.in_ok-ran.ensures.refs
-            ∙ some_left now objects commands c.args.atomic ran c.in_ok-ran.ran.outcomes c.in_ok-ran.ensures.outcomes (sym c.any_done.ensures ∙ c.if-any_done.true)
-            ∙ ap (λ os. repository_left_with now objects commands os) (sym told))
+    next ∙ ap (λ (r : Refs). Some (with_store now (record { objects = objects; refs = r }))) c.in_ok-ran.ensures.refs
+    ∙ some_left now objects commands c.args.atomic ran c.in_ok-ran.ran.outcomes c.in_ok-ran.ensures.outcomes (sym c.any_done.ensures ∙ c.if-any_done.true)
+    ∙ ap (λ os. repository_left_with now objects commands os) (sym told))
     c.settle_done.ensures.outcomes c.settle_done.ensures.next
