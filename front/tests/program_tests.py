@@ -23,27 +23,36 @@ def words(here):
     """Words that are no command."""
     for given in (), ("script",), ("script", "--admin"), ("script", "--admin", "a", "b"), ("--help",), ("-h",), ("help",), ("--version",), ("check", "a"):
         ends(here, given, 1, USAGE)
+    for given in ("script", "--admin", ""), ("script", "--admin", "-a"), ("serve", "--admin", "a"), ("check", "--admin"), ("Check",), ("load", "3"):
+        ends(here, given, 1, USAGE)
     for given in (b"\xff",), ("serve", "--admin", "a", "--workers", "9", "--sessions", "1"), ("load", "0", "1"), ("load", "5001", "1"), ("load", "01", "1"):
         ends(here, given, 1, USAGE)
 
 
 def scripts(here):
-    """Scripts that end well, and a bad one."""
+    """Scripts that end well, and bad ones."""
     ends(here, SCRIPT, 0)
     ends(here, ("script", "--admin=admin"), 0, SERVED, EMPTY)
-    ends(here, SCRIPT, 7, b"bad script at 0\n", b"session 5\nabc")
+    for bad in b"5\nabc", b"5\nabcde", b"5\nabcdef", b"05\nabcde\n", b"+5\nabcde\n", b"\n\n", b"300000001\n", b"4294967301\nabcde\n":
+        ends(here, SCRIPT, 7, b"bad script at 0\n", b"session " + bad)
+    for bad in b"Session 5\nabcde\n", b"\n":
+        ends(here, SCRIPT, 7, b"bad script at 0\n", bad)
     ends(here, SCRIPT, 7, SERVED + b"bad script at 11\n", EMPTY + b"x")
 
 
 def confs(here):
-    """A good conf, and a bad one."""
+    """Good confs, the setup's and an empty one among them, and a bad one."""
+    ends(here, ("check",), 0, b"ok 0 rules, 0 repositories\n")
+    setup = b"repo gitolite-admin\n    RW+     =   admin\n\nrepo testing\n    RW+     =   @all\n"
+    rules = b"1 gitolite-admin RW+ refs/.* admin gitolite.conf 2\n2 testing RW+ refs/.* @all gitolite.conf 5\nok 2 rules, 2 repositories\n"
+    ends(here, ("check",), 0, rules, setup)
     ends(here, ("check",), 0, b"1 a RW refs/.* b gitolite.conf 2\nok 1 rules, 1 repositories\n", b"repo a\n RW = b\n")
     ends(here, ("check",), 6, b"gitolite.conf line 1: rule before repo\n", b"RW = b\n")
 
 
 def installations(here):
     """Generated installations, whose lines were reckoned apart from the program."""
-    for number, start, line in (3, 2, "done 2, denied 2, refused 0, refs 2"), (300, 7, "done 42, denied 259, refused 0, refs 41"), (5000, 1, "done 694, denied 4307, refused 0, refs 665"):
+    for number, start, line in (3, 2, "done 2, denied 2, refused 0, refs 2"), (1, 1, "done 1, denied 1, refused 0, refs 1"), (300, 7, "done 42, denied 259, refused 0, refs 41"), (5000, 1, "done 694, denied 4307, refused 0, refs 665"):
         ends(here, ("load", str(number), str(start)), 0, b"load %d %d: sessions %d, %s\n" % (number, start, number + 1, line.encode()))
 
 

@@ -2,13 +2,9 @@
 #![tactic(auto)]
 
 #[cfg(test)]
-mod check_tests;
-#[cfg(test)]
 mod edge_tests;
 #[cfg(test)]
 mod fetch_tests;
-#[cfg(test)]
-mod load_tests;
 #[cfg(test)]
 mod lone_tests;
 #[cfg(test)]

@@ -1,7 +1,7 @@
 // Sessions that push several commands, or a pack that is refused. The shipped script has the rows of what each is told.
 ghost use Rattle.std.specs.Prelude.{◌≤◌};
 
-use crate::session_tests::{EMPTY, OPENING, first_push, is_granted, new_desk, serve};
+use crate::session_tests::{OPENING, first_push, new_desk, serve};
 use hub::NoMemory;
 use raw_pack::PackFault;
 use session_core::SessionEnd;
@@ -42,23 +42,6 @@ pub fn first_pack(alloc: Global) -> Result<Vec<u8>, NoMemory> {
         Some((_, pack)) => Ok(pack.to_vec(alloc)?),
         None => Ok(input),
     }
-}
-
-// The pack's last byte is missing.
-#[test]
-fn a_refused_pack_leaves_the_opening_alone(rt: HostRuntime) -> Result<(), Fail> {
-    let alloc = rt.alloc();
-    let mut input = first_push(alloc)?;
-    input.pop();
-    let mut desk = new_desk(alloc)?;
-    let (end, written) = serve(alloc, &mut desk, &input, 5)?;
-    assert!(rt; end == SessionEnd::BadPack(PackFault::Truncated(2)) && end.number() == 13);
-    let rest = b"0020unpack truncated at entry 2\n0028ng refs/heads/master unpacker error\n0000";
-    assert!(rt; written.starts_with(EMPTY) && written.ends_with(rest));
-    assert_eq!(rt; written.len(), EMPTY.len() + rest.len());
-    let log = desk.into_hub().into_log();
-    assert!(rt; log.len() == 1 && is_granted(&log, 0));
-    Ok(())
 }
 
 // The first packet has 36 bytes, the commands up to their flush 121, and the two entries of the pack 170 and 1.

@@ -28,9 +28,6 @@ pub const MASTER: &[u8] =
 
 pub const DONE: &[u8] = b"000eunpack ok\n0019ok refs/heads/master\n0000";
 
-const TOLD: &[u8] =
-    b"000eunpack ok\n0059ng refs/heads/master not advertised, it was 1c73cda3964d5dd51bdaad94efd235c910cf59de\n0000";
-
 // An opening, a create of a branch, and its pack.
 pub fn first_push(alloc: Global) -> Result<Vec<u8>, NoMemory> {
     let mut input = OPENING.to_vec(alloc)?;
@@ -99,24 +96,6 @@ impl Gate for LastPlace {
         self.calls = self.calls.saturating_add(1);
         self.place = Some(place);
     }
-}
-
-#[test]
-fn a_first_push_is_done_and_a_second_is_told(rt: HostRuntime) -> Result<(), Fail> {
-    let alloc = rt.alloc();
-    let input = first_push(alloc)?;
-    assert_eq!(rt; input.len(), 348);
-    let mut desk = new_desk(alloc)?;
-    for (most, refs, report) in [(65_520, EMPTY, DONE), (1, MASTER, TOLD)] {
-        let (end, written) = serve(alloc, &mut desk, &input, most)?;
-        assert!(rt; end == SessionEnd::Served && written.len() == refs.len() + report.len());
-        assert!(rt; written.starts_with(refs) && written.ends_with(report));
-    }
-    let log = desk.into_hub().into_log();
-    assert!(rt; log.len() == 4 && is_granted(&log, 0) && is_granted(&log, 2));
-    assert!(rt; matches!(told(&log, 1), Some(Outcome::Done)));
-    assert!(rt; matches!(told(&log, 3), Some(Outcome::NotAdvertised(_))));
-    Ok(())
 }
 
 // The end of the first push over a link that moves a byte a call and fails at these, how many bytes were written, and
@@ -194,103 +173,6 @@ fn the_gate_stands_between_an_opening_and_what_is_written(rt: HostRuntime) -> Re
         assert_eq!(rt; session(alloc, &mut link, &mut desk, &mut gate), due);
         assert!(rt; gate.calls == calls && gate.place == place);
         assert!(rt; link.written().is_empty() == (failing == 0));
-    }
-    Ok(())
-}
-
-const FORTY: &[u8] = b"1c73cda3964d5dd51bdaad94efd235c910cf59de";
-
-// Whether a first session over an opening and these bytes ends so, with this behind the advertisement.
-fn ends_behind_opening(
-    alloc: Global,
-    rest: &[u8],
-    due: SessionEnd,
-    reply: &[u8],
-) -> Result<bool, NoMemory> {
-    let mut input = OPENING.to_vec(alloc)?;
-    input.extend_from_slice(rest)?;
-    let mut desk = new_desk(alloc)?;
-    let (end, written) = serve(alloc, &mut desk, &input, 9)?;
-    let is_due = written.starts_with(EMPTY) && written.ends_with(reply);
-    Ok(end == due && is_due && written.len() == EMPTY.len() + reply.len())
-}
-
-#[test]
-fn what_leaves_the_form_has_its_end(rt: HostRuntime) -> Result<(), Fail> {
-    let alloc = rt.alloc();
-    let malformed = b"0017ERR malformed input".as_slice();
-    for (rest, due, reply) in [
-        ("0000", SessionEnd::Served, b"".as_slice()),
-        ("", SessionEnd::Truncated, b"".as_slice()),
-        ("00", SessionEnd::Truncated, b"".as_slice()),
-        ("0003", SessionEnd::Malformed(36), malformed),
-        ("0004", SessionEnd::Malformed(36), malformed),
-        ("0005\n", SessionEnd::Malformed(36), malformed),
-    ] {
-        assert!(rt;
-            ends_behind_opening(alloc, rest.as_bytes(), due, reply)?,
-            "{rest}"
-        );
-    }
-    let mut second = b"00720000000000000000000000000000000000000000 ".to_vec(alloc)?;
-    second.extend_from_slice(FORTY)?;
-    second.extend_from_slice(b" refs/heads/aaa\0report-status")?;
-    second.extend_from_slice(b"0005x")?;
-    let due = SessionEnd::Malformed(36 + 114);
-    assert!(rt; ends_behind_opening(alloc, &second, due, malformed)?);
-    Ok(())
-}
-
-#[test]
-fn a_first_packet_has_its_end(rt: HostRuntime) -> Result<(), Fail> {
-    let alloc = rt.alloc();
-    for (input, due, reply) in [
-        ("", SessionEnd::Truncated, ""),
-        ("0000", SessionEnd::BadCommand, "0013ERR bad command"),
-        ("0003", SessionEnd::Malformed(0), "0017ERR malformed input"),
-        (
-            "0025carol! git-receive-pack 'testing'",
-            SessionEnd::BadUser,
-            "0010ERR bad user",
-        ),
-        (
-            "001dcarol git-fetch 'testing'",
-            SessionEnd::BadCommand,
-            "0013ERR bad command",
-        ),
-        (
-            "0023carol git-receive-pack 'nothing",
-            SessionEnd::BadCommand,
-            "0013ERR bad command",
-        ),
-        (
-            "0023carol git-upload-pack 'nothing'",
-            SessionEnd::Denied,
-            "002eERR R any nothing carol DENIED by fallthru",
-        ),
-        (
-            "0024carol git-receive-pack 'nothing'",
-            SessionEnd::Denied,
-            "002eERR W any nothing carol DENIED by fallthru",
-        ),
-        ("0020carol perms -l testing", SessionEnd::Truncated, ""),
-        (
-            "001acarol perms -l testing",
-            SessionEnd::Served,
-            "002aperms: not a wild repository of yours\n0000",
-        ),
-        (
-            "0026carol perms testing + OWNERS carol",
-            SessionEnd::Served,
-            "0018perms: no such role\n0000",
-        ),
-    ] {
-        let mut desk = new_desk(alloc)?;
-        let (end, written) = serve(alloc, &mut desk, input.as_bytes(), 65_520)?;
-        assert!(rt;
-            end == due && written.as_slice() == reply.as_bytes(),
-            "{input}"
-        );
     }
     Ok(())
 }
