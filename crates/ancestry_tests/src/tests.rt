@@ -550,12 +550,6 @@ fn links_to_a_known_tree(rt: HostRuntime) -> Result<(), Fail> {
     Ok(())
 }
 
-// The objects of a pack alone.
-fn lens_alone(alloc: Global, pack: &ObjectList) -> Result<Lens, Fail> {
-    let repo = Repo::empty(alloc)?;
-    Ok(Lens::new(alloc, &repo, pack)?)
-}
-
 // Whether what is told of all that an id leads to is settled, and is this.
 fn is_settled(walks: &Walks<'_>, id: ObjectId, verdict: Verdict) -> bool {
     walks.settled(id) == Some(verdict)

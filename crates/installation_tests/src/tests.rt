@@ -1,16 +1,9 @@
-// Draws, the conf and the inputs of installations. All numbers, texts and digests were reckoned apart from the code.
+// The inputs of installations, the first of which has the conf. All numbers, texts and digests were reckoned apart from the code.
 use git_object::ObjectId;
-use installation::{Draws, Visit, conf_text, first_input, next_visit, repo_name, visit_input};
+use installation::{Draws, Visit, first_input, next_visit, repo_name, visit_input};
 use sha1::Sha1;
 use std::alloc::Global;
 use std::test::Fail;
-
-static DRAWN: [u32; 9] = [
-    224, 16_874, 20_421, 24_298, 52_925, 37_229, 39_695, 28_034, 5_440,
-];
-
-static CONF: &str =
-    "repo gitolite-admin\n    RW+ = admin\nrepo r0\n    RW+ = u4\n    RW master$ = u4\n    R = @all\nrepo r1\n    RW+ = u1\n    RW master$ = u8\n    R = @all\n";
 
 // How many repositories, from which start, the number behind the conf's draws, and the digest of the first input.
 static FIRST: [(u32, u32, u32, &str); 3] = [
@@ -21,22 +14,6 @@ static FIRST: [(u32, u32, u32, &str); 3] = [
 
 // User, repository, and whether the ref is `refs/heads/master`.
 static VISITS: [(u32, u32, bool); 3] = [(5, 2, true), (2, 0, true), (7, 0, false)];
-
-#[test]
-fn draws_numbers(rt: HostRuntime) {
-    let mut draws = Draws::new(65_539);
-    for number in DRAWN {
-        assert_eq!(rt; draws.next(), number);
-    }
-}
-
-#[test]
-fn writes_a_conf(rt: HostRuntime) -> Result<(), Fail> {
-    let mut draws = Draws::new(2);
-    let text = conf_text(rt.alloc(), 2, 2, &mut draws)?;
-    assert_eq!(rt; text.as_slice(), CONF.as_bytes());
-    Ok(())
-}
 
 // Whether a text has this digest.
 fn has_digest(text: &[u8], digest: &str) -> bool {
