@@ -320,7 +320,30 @@ def history(program):
     program_now.end()
 
 
-CASES = {case.__name__: case for case in (refused, old, one_file, rootless, large_trees, deep_refs, one_ref, large_pack, installation, clone, others, history)}
+def alike(program):
+    """Trees of 10,000 files on each side of an update, each nearly equal to each: every one of 100, of 200 and of 300 is compared with every one, where a rule asks of paths."""
+    base = [b"100644 %05d\0" % k + object_id(("blob", b"base %d" % k)) for k in range(10_000)]
+    for count in (100, 200, 300):
+        blobs = [("blob", b"base %d" % k) for k in range(10_000)] + [("blob", b"side %d %d" % (side, n)) for side in range(2) for n in range(count)]
+        sides = [[("tree", b"".join(base[:5_000]) + b"100644 05000\0" + object_id(("blob", b"side %d %d" % (side, n))) + b"".join(base[5_001:])) for n in range(count)] for side in range(2)]
+        ids = [[object_id(it) for it in side] for side in sides]
+        roots = [("tree", b"".join(b"40000 %05d\0" % (n * count + k) + ids[side][(n, k)[side]] for n in range(count) for k in range(count))) for side in range(2)]
+        made = commit(b"old\n", object_id(roots[0]))
+        next_one = commit(b"new\n", object_id(roots[1]), [object_id(made)])
+        program_now = Program(program)
+        program_now.expect(admin_push(b"repo gitolite-admin\n    RW+ = admin\nrepo testing\n    - VREF/NAME/none/ = bob\n    RW+ = @all\n"))
+        program_now.expect(push([("refs/heads/master", object_id(made))], [made, roots[0]] + sides[0] + blobs))
+        took = {}
+        for user in (b"bob", b"carol"):
+            line = packet(("%s %s refs/heads/master" % (object_id(made).hex(), object_id(next_one).hex())).encode() + b"\0report-status")
+            took[user] = program_now.expect(packet(user + b" git-receive-pack 'testing'") + line + b"0000" + raw_pack([next_one, roots[1]] + sides[1]))
+            back = packet(("%s %s refs/heads/master" % (object_id(next_one).hex(), object_id(made).hex())).encode() + b"\0report-status")
+            program_now.expect(packet(b"carol git-receive-pack 'testing'") + back + b"0000" + raw_pack([]))
+        print("%d trees of 10,000 files on each side: a push %.2f s, and with its paths asked for %.2f s" % (count, took[b"carol"], took[b"bob"]))
+        program_now.end()
+
+
+CASES = {case.__name__: case for case in (refused, old, one_file, rootless, large_trees, deep_refs, one_ref, large_pack, installation, clone, others, history, alike)}
 
 
 def main():

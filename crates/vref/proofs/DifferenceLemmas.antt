@@ -24,6 +24,7 @@ use Rattle.git_object.specs.Tree.{Entry, entry_of}
 use Rattle.git_object.specs.declared.tree.TreeEntry.{TreeEntry}
 use Rattle.vref.specs.Rows.{Name, entry_named}
 use Rattle.vref.specs.Differences.{name_cmp, name_of, old_of, new_of, old_entry, new_entry, difference_of, FindsBoth, Joins, IsDifference, IsNamed, AreDifferences, AreSifted}
+use Rattle.vref.specs.Through.{HasSides}
 use Rattle.vref.specs.declared.differences.Difference.{Difference}
 use Rattle.vref.specs.declared.differences.Sides.{Sides}
 
@@ -51,7 +52,7 @@ unfolding IsStrictlySortedBy
 sorted_push R [] y up below = (tt, tt)
 sorted_push R (x ∷ xs) y up below = (all_pushed (λ z. R x z ≡ Less) xs y up.0 below.0, sorted_push R xs y up.1 below.1)
 
-sorted_none : {K : Type 0} (R : K → K → Ordering) → IsStrictlySortedBy R []
+pub sorted_none : {K : Type 0} (R : K → K → Ordering) → IsStrictlySortedBy R []
 unfolding IsStrictlySortedBy
 sorted_none R = tt
 
@@ -68,7 +69,7 @@ or_some : {X : Type 0} (a b : Option X) → ¬ (a ≡ None) → option_or a b �
 or_some None b some = absurd (some refl)
 or_some (Some x) b some = refl
 
-got : (m n : BTreeMap (Bor Name) Sides) (key : Bor Name) (s : Sides) → Updates name_cmp m n key (Some s) → (name : Bor Name) → get name_cmp n name ≡ cond (bytes_eq key.now name.now) (Some s) (get name_cmp m name)
+pub got : (m n : BTreeMap (Bor Name) Sides) (key : Bor Name) (s : Sides) → Updates name_cmp m n key (Some s) → (name : Bor Name) → get name_cmp n name ≡ cond (bytes_eq key.now name.now) (Some s) (get name_cmp m name)
 got m n key s updates name = updates.0 name ∙ ap (λ b. cond b (Some s) (get name_cmp m name)) (is_eq-slice_cmp key.now name.now)
 
 module _ (side : Option Sides → Option Entry) where
@@ -230,30 +231,43 @@ looked_up key (e ∷ es) s is = by_test (looked_up key es s) (is_eq (name_cmp ke
 name_total : IsTotalOrder name_cmp
 name_total = on_total (λ (b : Bor Name). b.now) nat_list_cmp_total
 
-pub sifted_differences : (old new : List Entry) (m : BTreeMap (Bor Name) Sides) (list : List Difference) → FindsBoth old new m → AreSifted m.entries list → AreDifferences old new list
-sifted_differences old new m list finds sifted = record {
-  ascend = sifted.ascend finds.ordered;
+-- of a map that has what is on either side wherever two trees differ, what is left differs just where they do
+pub sifted_sides : (old new : List Entry) (m : BTreeMap (Bor Name) Sides) (list : List Difference) → HasSides (entry_named old) (entry_named new) m → AreSifted m.entries list → AreDifferences old new list
+sifted_sides old new m list has sifted = record {
+  ascend = sifted.ascend has.ordered;
   each = All-weaker (Named m.entries) (IsDifference old new) is_difference list sifted.each;
   all = λ name differ. by_found name differ (get name_cmp m (record { ref_ptr = (0, 0); now = name })) refl;
 }
   where
     there : (e : Bor Name × Sides) → Contains m.entries e → get name_cmp m e.0 ≡ Some e.1
-    there e c = All-contains (λ f. get name_cmp m f.0 ≡ Some f.1) m.entries e (All-found name_total m finds.ordered) c
+    there e c = All-contains (λ f. get name_cmp m f.0 ≡ Some f.1) m.entries e (All-found name_total m has.ordered) c
 
     is_difference : (d : Difference) → Named m.entries d → IsDifference old new d
     is_difference d is = record {
-      old_is = ap old_entry is.2 ∙ sym (ap old_of (there is.0 is.1)) ∙ finds.old_is is.0.0 ∙ sym (ap (λ (g : Difference). entry_named old g.name.now) is.2);
-      new_is = ap new_entry is.2 ∙ sym (ap new_of (there is.0 is.1)) ∙ finds.new_is is.0.0 ∙ sym (ap (λ (g : Difference). entry_named new g.name.now) is.2);
+      old_is = ap old_entry is.2 ∙ has.old_is is.0.0 is.0.1 (there is.0 is.1) ∙ sym (ap (λ (g : Difference). entry_named old g.name.now) is.2);
+      new_is = ap new_entry is.2 ∙ has.new_is is.0.0 is.0.1 (there is.0 is.1) ∙ sym (ap (λ (g : Difference). entry_named new g.name.now) is.2);
       differ = is.3;
     }
 
     by_found : (name : Name) → ¬ (entry_named old name ≡ entry_named new name) → (o : Option Sides) → get name_cmp m (record { ref_ptr = (0, 0); now = name }) ≡ o → IsNamed old new list name
-    by_found name differ None none = absurd (differ (sym (finds.old_is (record { ref_ptr = (0, 0); now = name })) ∙ ap old_of none ∙ sym (ap new_of none) ∙ finds.new_is (record { ref_ptr = (0, 0); now = name })))
+    by_found name differ None none = absurd (differ (has.alike (record { ref_ptr = (0, 0); now = name }) none))
     by_found name differ (Some s) some =
         let found = looked_up (record { ref_ptr = (0, 0); now = name }) m.entries s some in
         elim (sifted.all found.0 found.1) [
           | inl same ↦ absurd (differ (
-              sym (finds.old_is (record { ref_ptr = (0, 0); now = name })) ∙ ap old_of some ∙ ap (λ (t : Sides). old_of (Some t)) (sym found.3) ∙ same
-              ∙ ap (λ (t : Sides). new_of (Some t)) found.3 ∙ sym (ap new_of some) ∙ finds.new_is (record { ref_ptr = (0, 0); now = name })))
+              sym (has.old_is (record { ref_ptr = (0, 0); now = name }) s some) ∙ ap (λ (t : Sides). old_of (Some t)) (sym found.3) ∙ same
+              ∙ ap (λ (t : Sides). new_of (Some t)) found.3 ∙ has.new_is (record { ref_ptr = (0, 0); now = name }) s some))
           | inr listed ↦ (difference_of found.0, listed, sym found.2)
         ]
+
+-- a map that has what both trees have has it where they differ
+sides_of_both : (old new : List Entry) (m : BTreeMap (Bor Name) Sides) → FindsBoth old new m → HasSides (entry_named old) (entry_named new) m
+sides_of_both old new m finds = record {
+  old_is = λ name s some. sym (ap old_of some) ∙ finds.old_is name;
+  new_is = λ name s some. sym (ap new_of some) ∙ finds.new_is name;
+  alike = λ name none. sym (sym (ap old_of none) ∙ finds.old_is name) ∙ (sym (ap new_of none) ∙ finds.new_is name);
+  ordered = finds.ordered;
+}
+
+pub sifted_differences : (old new : List Entry) (m : BTreeMap (Bor Name) Sides) (list : List Difference) → FindsBoth old new m → AreSifted m.entries list → AreDifferences old new list
+sifted_differences old new m list finds sifted = sifted_sides old new m list (sides_of_both old new m finds) sifted

@@ -6,6 +6,8 @@ mod AdvanceLemmas
 mod RowLemmas
 mod PartLemmas
 mod DifferenceLemmas
+mod ThroughLemmas
+mod BaseLemmas
 mod ComparisonLemmas
 mod TableLemmas
 mod OrderLemmas

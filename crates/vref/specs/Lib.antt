@@ -6,6 +6,8 @@ pub mod Root
 pub mod Rows
 pub mod Paths
 pub mod Differences
+pub mod Through
+pub mod Bases
 pub mod Comparisons
 pub mod PathTable
 pub mod Walk

@@ -152,8 +152,8 @@ fn byte_behind(entry: &TreeEntry<'_>, left: &[u8]) -> u8 {
 // What is under a name on either side.
 #[derive(Clone, Copy)]
 pub struct Sides<'a> {
-    old: Option<TreeEntry<'a>>,
-    new: Option<TreeEntry<'a>>,
+    pub old: Option<TreeEntry<'a>>,
+    pub new: Option<TreeEntry<'a>>,
 }
 
 // The names at which some entries differ, in order.
@@ -228,8 +228,8 @@ fn join_entry<'a>(known: Option<Sides<'a>>, entry: &TreeEntry<'a>) -> Option<Sid
     })
 }
 
-// The names whose sides differ.
-fn sift_names<'a>(
+/// The names whose sides differ.
+pub fn sift_names<'a>(
     alloc: Global,
     names: BTreeMap<&'a [u8], Sides<'a>>,
 ) -> Result<Vec<Difference<'a>>, NoMemory>

@@ -12,11 +12,14 @@
 //! - `path_table`: the table that they are in;
 //! - `walk`: the walk over two trees at once;
 //! - `comparisons`: what was found out of pairs of trees;
+//! - `bases`: trees from which others differ in a few names;
+//! - `through`: where two trees differ, by where each differs from a third;
 //! - `differences`: the entries in which two trees differ;
 //! - `laws`: laws of the definitions.
 #![tactic(auto)]
 
 mod advances;
+mod bases;
 mod bits;
 mod comparisons;
 mod differences;
@@ -29,6 +32,7 @@ mod path_list;
 mod path_table;
 mod paths;
 mod root;
+mod through;
 mod walk;
 
 pub use ancestry::{Change, Facts};

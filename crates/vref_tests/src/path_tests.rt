@@ -351,3 +351,106 @@ fn changed_paths_are_counted(rt: HostRuntime) -> Result<(), Fail> {
     }
     Ok(())
 }
+
+const FILES: usize = 40;
+
+// Trees of 40 files each: which of the files name another blob, by bits. Some trees differ in one file, some in many.
+static OTHERS: [u64; 12] = [
+    0,
+    0b1,
+    0b10,
+    0b100,
+    0b11,
+    0x80_0000_0000,
+    0xff,
+    0xff_ffff_ffff,
+    0x7f_ffff_ffff,
+    0x55_5555_5555,
+    0xaa_aaaa_aaaa,
+    0x100,
+];
+
+fn put_files(
+    alloc: Global,
+    objects: &mut ObjectList,
+    blobs: (ObjectId, ObjectId),
+    others: u64,
+) -> Result<ObjectId, Fail> {
+    let mut body = Vec::new(alloc);
+    for number in 0..FILES {
+        let name = format!(in alloc; "{:02}", number)?;
+        let id = if (others >> number) & 1 == 1 {
+            blobs.1
+        } else {
+            blobs.0
+        };
+        add_entry(&mut body, "100644", name.as_bytes(), id)?;
+    }
+    put(alloc, objects, Kind::Tree, &body)
+}
+
+fn put_all_files(alloc: Global, objects: &mut ObjectList) -> Result<Vec<ObjectId>, Fail> {
+    let one = put(alloc, objects, Kind::Blob, b"1")?;
+    let two = put(alloc, objects, Kind::Blob, b"2")?;
+    let mut trees = Vec::new(alloc);
+    for others in &OTHERS {
+        let tree = put_files(alloc, objects, (one, two), *others)?;
+        trees.push(tree)?;
+    }
+    Ok(trees)
+}
+
+// A tree with a folder for each pair of trees, in which the first of the pair is, or the second.
+fn put_pairs(
+    alloc: Global,
+    objects: &mut ObjectList,
+    trees: &[ObjectId],
+    is_first: bool,
+) -> Result<ObjectId, Fail> {
+    let mut body = Vec::new(alloc);
+    for pair in 0..OTHERS.len() * OTHERS.len() {
+        let tree = if is_first {
+            pair / OTHERS.len()
+        } else {
+            pair % OTHERS.len()
+        };
+        let name = format!(in alloc; "{:03}", pair)?;
+        let Some(id) = trees.get(tree) else {
+            return Err(Fail::from("a tree of each"));
+        };
+        add_entry(&mut body, "40000", name.as_bytes(), *id)?;
+    }
+    put(alloc, objects, Kind::Tree, &body)
+}
+
+// The paths at which the trees of a pair differ.
+fn add_due_of_pair(alloc: Global, due: &mut Vec<u8>, pair: usize) -> Result<(), Fail> {
+    let one = OTHERS.get(pair / OTHERS.len()).copied().unwrap_or(0);
+    let other = OTHERS.get(pair % OTHERS.len()).copied().unwrap_or(0);
+    for number in 0..FILES {
+        if (one >> number) & 1 != (other >> number) & 1 {
+            let path = format!(in alloc; "{:03}/{:02}\n", pair, number)?;
+            due.extend_from_slice(path.as_bytes())?;
+        }
+    }
+    Ok(())
+}
+
+// Twelve trees are each compared with each, many of them by others.
+#[test]
+fn trees_are_compared_by_others(rt: HostRuntime) -> Result<(), Fail> {
+    let alloc = rt.alloc();
+    let mut objects = ObjectList::new(alloc);
+    let trees = put_all_files(alloc, &mut objects)?;
+    let old = put_pairs(alloc, &mut objects, &trees, true)?;
+    let new = put_pairs(alloc, &mut objects, &trees, false)?;
+    let mut due = Vec::new(alloc);
+    for pair in 0..OTHERS.len() * OTHERS.len() {
+        add_due_of_pair(alloc, &mut due, pair)?;
+    }
+    let lens = lens_of(alloc, &objects)?;
+    let paths = changed_paths(alloc, &lens, old, new);
+    let out = print_paths(alloc, &paths)?;
+    assert_eq!(rt; out.as_slice(), due.as_slice());
+    Ok(())
+}

@@ -8,4 +8,4 @@ use Rattle.vref.proofs.comparisons.Comparisons.differences_of.Goals as goal
 pub returns : goal.returns
 returns c =
     subst (λ (xs : List Difference). AreDifferences (entries_in (first_named c.args.lens.now c.args.pair.old)) (entries_in (first_named c.args.lens.now c.args.pair.new)) xs) (sym c.deref.ensures.value)
-    (c.requires.sound c.args.pair c.in-Some.list.now (sym c.in-Some.ensures.value))
+    (c.requires.sound.pairs c.args.pair c.in-Some.list.now (sym c.in-Some.ensures.value))
