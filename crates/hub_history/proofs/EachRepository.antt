@@ -9,6 +9,7 @@ use Rattle.std.specs.Cmp.Lexicographic.{slice_cmp, nat_list_cmp_total}
 use Rattle.std.specs.FinMap.{get, insert, empty, get-insert, get-empty}
 use Rattle.base_types.specs.Names.{ByName}
 use Rattle.git_object.specs.Content.{Content}
+use Rattle.git_object.specs.Object.{FitOnePack}
 use Rattle.ref_store.specs.Objects.{with_pack}
 use Rattle.ref_store.specs.Refs.{Name}
 use Rattle.ref_store.specs.declared.command.Command.{Command}
@@ -101,7 +102,7 @@ module _ (P : Repository → Type 0) where
   abbrev pub IsKept : Type 0
   IsKept =
       (ps : Patterns) (now : Repository) (pinned : Pinned) (pack : List Content) (commands : List Command) (atomic : Bool) (judged : List (Option Outcome))
-      → AreWithinLimits commands → JudgesAll ps pinned pack commands judged → P now → list_any is_done (outcomes_in now pack commands atomic judged) ≡ true
+      → AreWithinLimits commands → FitOnePack pack → JudgesAll ps pinned pack commands judged → P now → list_any is_done (outcomes_in now pack commands atomic judged) ≡ true
       → P (record now { objects = with_pack now.objects pack; refs = refs_left now.refs commands (outcomes_in now pack commands atomic judged) })
 
   each-after : ((creator : Option Name) → P (empty_repository creator)) → IsKeptByRoles → IsKept → (ps : Patterns) (h : History) (event : Event) → IsDue ps h event → Each h.state.repositories → Each (after h event).state.repositories
@@ -113,7 +114,7 @@ module _ (P : Repository → Type 0) where
       by_opening (Some pinned) due =
           each-push h.state pinned pack commands outcomes made (new None)
           (λ done. subst (λ (os : List Outcome). P (record (repository_at h.state pinned.repo) { objects = with_pack (repository_at h.state pinned.repo).objects pack; refs = refs_left (repository_at h.state pinned.repo).refs commands os })) (sym due.told)
-          (keeps ps (repository_at h.state pinned.repo) pinned pack commands atomic due.judged due.within due.judges (each_at h.state pinned.repo (new None) each)
+          (keeps ps (repository_at h.state pinned.repo) pinned pack commands atomic due.judged due.within due.fit due.judges (each_at h.state pinned.repo (new None) each)
           (subst (λ (os : List Outcome). list_any is_done os ≡ true) due.told done))) each
   each-after new free keeps ps h (Permitted user repo asked answer) due each = each-given free h.state repo asked answer (new None) each
   each-after new free keeps ps h (Looked user) due each = each

@@ -5,6 +5,7 @@ pub mod PushLemmas
 pub mod JudgeLemmas
 mod ShortNames
 mod ObjectLemmas
+mod FormedObjects
 mod RefsApart
 pub mod CollisionLemmas
 pub mod GrownObjects

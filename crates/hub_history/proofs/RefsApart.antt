@@ -66,7 +66,7 @@ abbrev IsApart : Repository → Type 0
 IsApart repository = HasRefsApart repository.refs
 
 apart-pushed : IsKept IsApart
-apart-pushed ps now pinned pack commands atomic judged within judges apart done =
+apart-pushed ps now pinned pack commands atomic judged within fit judges apart done =
     subst (λ (os : List Outcome). HasRefsApart (refs_left now.refs commands os)) (sym (done_in_order now pack commands atomic judged done).1)
     (apart-left now.refs commands judged (all_along (λ c o is. refused o (by_opening ps pinned pack commands c o is)) commands judged judges) apart)
 

@@ -59,7 +59,7 @@ set_after repository change.List set = set
 
 module _ (ps : Patterns) (ok : AreTrue ps) where
   sets_replayed : (admin : Name) (log : List Entry) → IsLegal admin log → Each HasRoleSet (replay admin log).repositories
-  sets_replayed = each_replayed HasRoleSet ps ok (λ creator. tt) set_after (λ ps now pinned pack commands atomic judged within judges set done. set)
+  sets_replayed = each_replayed HasRoleSet ps ok (λ creator. tt) set_after (λ ps now pinned pack commands atomic judged within fit judges set done. set)
 
   pub roles_sets : OfEachRepository (λ repository. IsRoleSet repository.roles)
   roles_sets admin log legal = (

@@ -1,8 +1,9 @@
 -- Laws of the definitions.
 use Rattle.std.specs.Prelude.{◌≡◌, ◌↔◌, ◌⊎◌, ℕ, ◌+◌, ◌<◌, ◌≤◌, Bool, true, List, [], ◌∷◌, ◌++◌, length, take, Option, Some}
-use Rattle.std.specs.List.{slice_get}
+use Rattle.std.specs.List.{All, slice_get}
 use Rattle.std.specs.FinMap.{get}
 use Rattle.git_object.specs.Content.{Content}
+use Rattle.git_object.specs.Object.{IsPackable}
 use Rattle.git_object.specs.declared.object_id.ObjectId.{ObjectId}
 use Rattle.conf_lex.specs.Names.{is_user_name}
 use Rattle.ancestry.specs.declared.facts.Facts.{Facts}
@@ -84,6 +85,10 @@ OfEachRepository P =
 -- no two objects of a repository have one name
 abbrev pub NamesStayOnce : Type 0
 NamesStayOnce = OfEachRepository (λ repository. HasNamesOnce repository.objects)
+
+-- each object of a repository is of its kind's form, and not too long
+abbrev pub ObjectsAreFormed : Type 0
+ObjectsAreFormed = OfEachRepository (λ repository. All IsPackable repository.objects)
 
 -- no ref's name has more than 1,024 bytes
 abbrev pub NamesStayShort : Type 0

@@ -1,5 +1,5 @@
 // What holds of the definitions themselves.
-ghost use Rattle.hub_history.specs.Laws.{BeginningIsLegal, ChangesAreDone, ConfChangesAreDone, ConfStaysGood, DirFileIsInTheWay, DoneHasNoneInTheWay, DoneIsLet, DoneMoves, LegalByPlaces, NamesStayOnce, NamesStayShort, ObjectsOnlyGrow, OneAnswer, OpeningStays, PinsAreOfOpenings, PinsOfItsPlace, RefsStayApart, RefsStayNonzero, RefsStayWhole, RefusedAtomicChangesNothing, RepositoriesStay, StaleIsStale, StateStays};
+ghost use Rattle.hub_history.specs.Laws.{BeginningIsLegal, ChangesAreDone, ConfChangesAreDone, ConfStaysGood, DirFileIsInTheWay, DoneHasNoneInTheWay, DoneIsLet, DoneMoves, LegalByPlaces, NamesStayOnce, NamesStayShort, ObjectsAreFormed, ObjectsOnlyGrow, OneAnswer, OpeningStays, PinsAreOfOpenings, PinsOfItsPlace, RefsStayApart, RefsStayNonzero, RefsStayWhole, RefusedAtomicChangesNothing, RepositoriesStay, StaleIsStale, StateStays};
 ghost use Rattle.hub_history.specs.RoleLaws.{AnswersTellOfRoles, ChangesAreOfOneRole, CreatedIsNew, CreatorsOpened, NewIsEmpty, RolesChangeThere, RolesStaySets};
 
 use rule_compile::some_patterns_are_true;
@@ -14,6 +14,7 @@ pub fn hold_laws()
     ensures openings { PinsAreOfOpenings }
     ensures short { NamesStayShort }
     ensures names { NamesStayOnce }
+    ensures formed { ObjectsAreFormed }
     ensures apart { RefsStayApart }
     ensures whole { RefsStayWhole }
     ensures nonzero { RefsStayNonzero }

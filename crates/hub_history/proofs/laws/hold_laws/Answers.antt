@@ -13,6 +13,7 @@ use Rattle.hub_history.proofs.NoZero.{refs_nonzero}
 use Rattle.hub_history.proofs.MovedLogs.{changes_are_done, done_let, done_moves, refused_atomic, stale_is}
 use Rattle.hub_history.proofs.RoleLemmas.{answers_tell, change_of_one, created_is_new, creators_opened, new_is_empty, roles_change_there, roles_sets}
 use Rattle.hub_history.proofs.ObjectLemmas.{names_once}
+use Rattle.hub_history.proofs.FormedObjects.{objects_formed}
 use Rattle.hub_history.proofs.RefsApart.{refs_apart}
 use Rattle.hub_history.proofs.ShortNames.{names_short}
 use Rattle.hub_history.proofs.laws.hold_laws.Goals as goal
@@ -40,6 +41,9 @@ returns-clause-short c = names_short c.some_patterns_are_true.ensures.0 c.some_p
 
 pub returns-clause-names : goal.returns-clause-names
 returns-clause-names c = names_once c.some_patterns_are_true.ensures.0 c.some_patterns_are_true.ensures.1
+
+pub returns-clause-formed : goal.returns-clause-formed
+returns-clause-formed c = objects_formed c.some_patterns_are_true.ensures.0 c.some_patterns_are_true.ensures.1
 
 pub returns-clause-apart : goal.returns-clause-apart
 returns-clause-apart c = refs_apart c.some_patterns_are_true.ensures.0 c.some_patterns_are_true.ensures.1
