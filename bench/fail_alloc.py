@@ -44,9 +44,15 @@ def cases():
     listed = shipped.asks(b"alice", b"perms -l alice/x")
     update = shipped.pushes(b"bob", b"alice/x", [(first, second, shipped.MASTER)], shipped.raw_pack([second]))
     denied = shipped.pushes(b"cal", b"alice/x", [(first, second, shipped.MASTER)], shipped.raw_pack([second]))
+    refused = shipped.pushes(b"admin", b"gitolite-admin", [(None, shipped.refused, shipped.MASTER)], shipped.raw_pack(shipped.refused_objects))
+    tagged = shipped.pushes(b"carol", b"testing", [(first, second, shipped.MASTER), (None, shipped.tag, shipped.TAG)], shipped.raw_pack([second, shipped.tag]))
+    behind = shipped.line(b"want", shipped.tag) + b"0000" + shipped.line(b"have", first) + shipped.DONE
+    fetch = shipped.asks(b"carol", b"git-upload-pack 'testing'") + behind
     return {
         "push": framed(push, shipped.asks(b"carol", b"perms -l testing"), shipped.asks(b"carol", b"info")),
         "clone": framed(push, clone),
+        "refused": framed(refused),
+        "fetch": framed(push, tagged, fetch),
         "conf": framed(swap, alices, grant, listed, update, denied, shipped.asks(b"alice", b"info")),
     }
 

@@ -500,6 +500,68 @@ fetches(b"bob", b"bare", bare_line(b"want", None) + b"0000")
 session(pushes(b"carol", b"shelf", [(None, outer, b"refs/tags/v2")], raw_pack([outer])))
 fetches(b"bob", b"shelf", b"0000")
 
+# 156: the tag of the tag, with all behind it
+fetches(b"bob", b"shelf", line(b"want", outer) + b"0000" + DONE)
+
+# 157 and 158: a tag that moves to a child of its commit, by who may rewind
+session(pushes(b"carol", b"shelf", [(None, first, b"refs/tags/v3")]))
+session(pushes(b"carol", b"shelf", [(first, second, b"refs/tags/v3")]))
+
+# 159: names of refs that only the rules judge
+session(pushes(b"carol", b"shelf", [(None, first, branch(b"feature#7")), (None, first, branch(b"a=b")), (None, first, branch("é".encode()))]))
+
+# 160 to 162: a ref's name of 1,025 bytes, and of 1,024
+session(pushes(b"carol", b"shelf", [(None, first, branch(b"a" * 1014))]))
+session(pushes(b"carol", b"shelf", [(None, first, branch(b"a" * 1013))]))
+session(pushes(b"carol", b"shelf", [(first, None, branch(b"a" * 1013))], b""))
+
+# 163 and 164: a commit that no ref leads to is stored, and is common though its tree isn't there
+lost = ("commit", b"tree " + b"1" * 40 + b"\n\nlost\n")
+session(pushes(b"carol", b"shelf", [(None, first, branch(b"keep"))], raw_pack([lost])))
+fetches(b"bob", b"shelf", line(b"want", second) + b"0000" + line(b"have", lost) + DONE)
+
+# 165: nothing in common at first, then all
+fetches(b"bob", b"shelf", line(b"want", second) + b"00000000" + line(b"have", second) + DONE)
+
+# VII. who may create and not read, and paths in a push
+
+ODD = b"""repo gitolite-admin
+    RW+  = admin
+repo shelf
+    RW+  = carol
+    R    = bob
+repo u/..*
+    C    = ann
+    R    = bob
+repo paths
+    -    VREF/NAME/d/ VREF/NAME/secret$ = junior
+    RW   = junior ann
+"""
+odd, odd_objects = conf(ODD, shelves)
+
+# 166 to 168: nothing is made by who may not read it
+session(pushes(b"admin", b"gitolite-admin", [(shelves, odd, MASTER)], raw_pack([odd] + odd_objects)))
+fetches(b"ann", b"u/x", b"0000")
+fetches(b"bob", b"u/x", b"0000")
+
+# 169 to 171: a path with bytes above 127, and a file that goes under another name
+kept_root, kept_objects = files([(b"secret", b"a\n")])
+kept = carols(b"secret", kept_root)
+accent_root, accent_objects = files([("d/é".encode(), b"b\n"), (b"secret", b"a\n")])
+accent = carols(b"accent", accent_root, kept)
+renamed_root, renamed_objects = files([(b"open", b"a\n")])
+renamed = carols(b"renamed", renamed_root, kept)
+session(pushes(b"ann", b"paths", [(None, kept, MASTER)], raw_pack([kept] + kept_objects)))
+session(pushes(b"junior", b"paths", [(kept, accent, MASTER)], raw_pack([accent] + accent_objects)))
+session(pushes(b"junior", b"paths", [(kept, renamed, MASTER)], raw_pack([renamed] + renamed_objects)))
+
+# 172: what came with a conf that was refused isn't there
+session(pushes(b"admin", b"gitolite-admin", [(None, refused, branch(b"x"))]))
+
+# 173 and 174: a user's name of 64 bytes, and of 65
+session(asks(b"a" * 64, b"info"))
+session(asks(b"a" * 65, b"info"))
+
 
 if __name__ == "__main__":
     for body in sessions:

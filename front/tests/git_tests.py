@@ -168,6 +168,15 @@ def nothing_new(here):
     assert here.git("ann", "ls-remote", "--heads", "here:t/nothing").count("refs/heads/") == 2
 
 
+def many_refs(here):
+    """Two thousand refs in one push, all of them advertised then."""
+    made = here.repository()
+    head = here.head(made)
+    (made / ".git/packed-refs").write_text("".join("%s refs/tags/v%04d\n" % (head, number) for number in range(2_000)))
+    here.git("ann", "push", "here:t/refs", "master", "refs/tags/*", cwd=made)
+    assert here.git("bob", "ls-remote", "--tags", "here:t/refs").count("refs/tags/v") == 2_000
+
+
 def denials(here):
     """What is denied is told with the rule, its file and its line."""
     made = here.repository()
@@ -203,6 +212,25 @@ def conf_refused(here):
     here.git("ann", "ls-remote", "here:site")
 
 
+def confs_at_their_limits(here):
+    """Subconfs with as many patterns as a conf may have beside that of the main file, and with one more; a group that has more; a line too many."""
+    was = (here.room / "gitolite-admin/conf/gitolite.conf").read_text()
+    main = "repo gitolite-admin\n    RW+ = admin\n%s"
+
+    def refused(text, subconf):
+        return here.put_conf(main % text, status=1, files={"conf/w.conf": subconf})
+
+    def refexes(count):
+        return "".join(" x%d" % number for number in range(count))
+
+    here.put_conf(main % "subconf w.conf\n", files={"conf/w.conf": "repo z\n    R%s = u\n" % refexes(4_095)})
+    expect(refused("subconf w.conf\n", "repo z\n    R%s = u\n" % refexes(4_096)), "conf refused: w.conf line 2: too many rules")
+    patterns = "".join(" p%d*" % number for number in range(4_097))
+    here.put_conf("@w =%s\n" % patterns + main % "subconf w.conf\n", files={"conf/w.conf": "repo w\n    R = u\n"})
+    expect(refused("\n" * 65_533 + "subconf w.conf\n", "subconf x*\n"), "conf refused: w.conf line 1: too long")
+    here.put_conf(was, files={"conf/w.conf": ""})
+
+
 def info_and_perms(here):
     """What a user may see, and roles given and taken."""
     made = here.repository()
@@ -232,5 +260,5 @@ def eight_at_once(here):
 
 TESTS = (
     empty_repository, everything_there_and_back, deltas_of_both_kinds, incremental_fetch, tags_follow, forced_and_with_lease, deletes,
-    atomic, notes, nothing_new, denials, conf_takes_effect, conf_refused, info_and_perms, eight_at_once,
+    atomic, notes, nothing_new, many_refs, denials, conf_takes_effect, conf_refused, confs_at_their_limits, info_and_perms, eight_at_once,
 )

@@ -3,6 +3,8 @@ import os
 import resource
 import subprocess
 
+from cerolimau.packets import packet
+
 SCRIPT = "script", "--admin", "admin"
 USAGE = b"usage: gitolite_shell script --admin NAME | serve --admin NAME --workers K --sessions N | check | load N START\n"
 EMPTY = b"session 0\n\n"
@@ -25,7 +27,7 @@ def words(here):
         ends(here, given, 1, USAGE)
     for given in ("script", "--admin", ""), ("script", "--admin", "-a"), ("serve", "--admin", "a"), ("check", "--admin"), ("Check",), ("load", "3"):
         ends(here, given, 1, USAGE)
-    for given in (b"\xff",), ("serve", "--admin", "a", "--workers", "9", "--sessions", "1"), ("load", "0", "1"), ("load", "5001", "1"), ("load", "01", "1"):
+    for given in (b"\xff",), ("serve", "--admin", "a", "--workers", "9", "--sessions", "1"), ("load", "0", "1"), ("load", "5001", "1"), ("load", "01", "1"), ("serve", "--admin", "ann", "--workers", "1", "--sessions", "0"):
         ends(here, given, 1, USAGE)
 
 
@@ -38,6 +40,12 @@ def scripts(here):
     for bad in b"Session 5\nabcde\n", b"\n":
         ends(here, SCRIPT, 7, b"bad script at 0\n", bad)
     ends(here, SCRIPT, 7, SERVED + b"bad script at 11\n", EMPTY + b"x")
+    advertised = b"0066" + b"0" * 40 + b" capabilities^{}\0report-status delete-refs no-thin atomic\n0000"
+    ends(here, SCRIPT, 0, b"session 1 malformed 129\n" + advertised + b"0017ERR malformed input\n", b"session 40\n0024carol git-receive-pack 'testing'0003\n")
+    commands = [packet(b"%s %s refs/heads/%d" % (b"0" * 40, b"1" * 40, number)) for number in range(10_001)]
+    for last, said in (commands[-1], b"too-long 122\n" + advertised + b"0010ERR too long\n"), (b"0004", b"malformed 129\n" + advertised + b"0017ERR malformed input\n"):
+        body = packet(b"carol git-receive-pack 'testing'") + b"".join(commands[:-1]) + last + b"0000"
+        ends(here, SCRIPT, 0, b"session 1 " + said, b"session %d\n" % len(body) + body + b"\n")
 
 
 def confs(here):
@@ -48,11 +56,18 @@ def confs(here):
     ends(here, ("check",), 0, rules, setup)
     ends(here, ("check",), 0, b"1 a RW refs/.* b gitolite.conf 2\nok 1 rules, 1 repositories\n", b"repo a\n RW = b\n")
     ends(here, ("check",), 6, b"gitolite.conf line 1: rule before repo\n", b"RW = b\n")
+    ends(here, ("check",), 6, b"gitolite.conf line 2: bad word at 9\n", b"repo a\nRW = ann \\\n")
+    refexes = b"repo r\n    R" + b"".join(b" x%d" % number for number in range(4_096))
+    ends(here, ("check",), 6, b"gitolite.conf line 2: bad pattern refs/heads/( at 11\n", refexes + b" ( = u\n")
+    patterns = b"repo" + b"".join(b" p%d*" % number for number in range(4_095)) + b"\nR x = u\n"
+    ends(here, ("check",), 6, b"gitolite.conf line 3: too many rules\n", patterns + b"R y = u\n")
+    lines = b"".join(b"%d p%d* R refs/heads/x u gitolite.conf 2\n" % (number + 1, number) for number in range(4_095))
+    ends(here, ("check",), 0, lines + b"ok 4095 rules, 0 repositories\n", patterns)
 
 
 def installations(here):
-    """Generated installations, whose lines were reckoned apart from the program."""
-    for number, start, line in (3, 2, "done 2, denied 2, refused 0, refs 2"), (1, 1, "done 1, denied 1, refused 0, refs 1"), (300, 7, "done 42, denied 259, refused 0, refs 41"), (5000, 1, "done 694, denied 4307, refused 0, refs 665"):
+    """Generated installations, one of them twice, whose lines were reckoned apart from the program."""
+    for number, start, line in (3, 2, "done 2, denied 2, refused 0, refs 2"), (1, 1, "done 1, denied 1, refused 0, refs 1"), (300, 7, "done 42, denied 259, refused 0, refs 41"), (300, 7, "done 42, denied 259, refused 0, refs 41"), (5000, 1, "done 694, denied 4307, refused 0, refs 665"):
         ends(here, ("load", str(number), str(start)), 0, b"load %d %d: sessions %d, %s\n" % (number, start, number + 1, line.encode()))
 
 
@@ -83,9 +98,15 @@ def too_little_memory(here):
     ends(here, ("load", "5000", "1"), 4, preexec_fn=lambda: resource.setrlimit(resource.RLIMIT_AS, (eight, eight)))
 
 
+def no_room_by_a_claim(here):
+    """A frame that claims 300 MB and has three bytes, in an address space of 64 MB."""
+    small = 64 << 20
+    ends(here, SCRIPT, 7, b"bad script at 0\n", b"session 300000000\nabc", preexec_fn=lambda: resource.setrlimit(resource.RLIMIT_AS, (small, small)))
+
+
 def address_in_use(here):
     """A second server at the same address."""
     ends(here, ("serve", "--admin", "admin", "--workers", "1", "--sessions", "1"), 5, b"served 0 sessions, 0 events\n")
 
 
-TESTS = words, scripts, confs, installations, failing_input, failing_output, too_little_memory, address_in_use
+TESTS = words, scripts, confs, installations, failing_input, failing_output, too_little_memory, no_room_by_a_claim, address_in_use

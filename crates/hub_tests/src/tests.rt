@@ -11,8 +11,8 @@ ghost use Rattle.hub.specs.Desk.{KeepsPins};
 use base_types::Text;
 use git_object::{Kind, Object, ObjectId, ObjectList, fit_one_pack};
 use hub::{
-    Desk, Entered, Hub, LoneDesk, NoMemory, OutcomeList, Pin, Pushed, RepoName, UserName, Want,
-    judge,
+    Desk, Entered, Hub, LoneDesk, NoMemory, Outcome, OutcomeList, Pin, Pushed, RepoName, UserName,
+    Want, judge,
 };
 use ref_store::{Command, CommandList};
 use std::alloc::Global;
@@ -115,6 +115,22 @@ fn tag<D: Desk>(
     push(alloc, desk, pin, pack, commands, atomic)
 }
 
+// What a stale command is told: the value that its ref has.
+fn stale_at(outcomes: &OutcomeList, place: usize) -> Option<ObjectId> {
+    match outcomes.get(place) {
+        Some(Outcome::Stale(value)) => Some(*value),
+        _ => None,
+    }
+}
+
+// The command that another of its atomic push names.
+fn first_at(outcomes: &OutcomeList, place: usize) -> Option<u32> {
+    match outcomes.get(place) {
+        Some(Outcome::AtomicOther(first)) => Some(*first),
+        _ => None,
+    }
+}
+
 fn number_at(outcomes: &OutcomeList, place: usize) -> u8 {
     match outcomes.get(place) {
         Some(outcome) => outcome.number(),
@@ -144,6 +160,13 @@ fn two_pins<D: Desk>(
     Ok((first, second))
 }
 
+// Whether the stale command is told the other's blob, and where the push is atomic the others are told of it.
+fn tells(alloc: Global, two: &OutcomeList, atomic: bool) -> Result<bool, Fail> {
+    let (_, there) = blob_pack(alloc, b"1")?;
+    let first = if atomic { Some(1) } else { None };
+    Ok(stale_at(two, 1) == Some(there) && first_at(two, 0) == first && first_at(two, 2) == first)
+}
+
 // Whether of two pushes, both opened before the first was settled, the second is told these numbers: it is stale at the ref that the first has made.
 fn is_overtaken<D: Desk>(
     alloc: Global,
@@ -156,7 +179,7 @@ fn is_overtaken<D: Desk>(
     let (first, second) = two_pins(alloc, desk, user, repo)?;
     let one = tag(alloc, desk, first, b"1", b"b", false)?;
     let two = tag(alloc, desk, second, b"2", b"abc", atomic)?;
-    Ok(are(&one, 1, 0, 0) && are(&two, number, 11, number))
+    Ok(are(&one, 1, 0, 0) && are(&two, number, 11, number) && tells(alloc, &two, atomic)?)
 }
 
 // How many objects `testing` has, how many refs there are, and how many entries.

@@ -14,16 +14,22 @@ const WANT: &[u8] = b"0032want 1c73cda3964d5dd51bdaad94efd235c910cf59de\n";
 
 const FLUSH: &[u8] = b"0000";
 
+// No object has this name.
+const HAVE: &[u8] = b"0032have 1111111111111111111111111111111111111111\n";
+
 const DONE: &[u8] = b"0009done\n";
 
-// An opening, so many wants, so many flushes, of which the first ends the wants, and `done`.
-fn fetch_of(alloc: Global, wants: u32, flushes: u32) -> Result<Vec<u8>, NoMemory> {
+// An opening, so many wants, so many flushes, of which the first ends the wants, so many haves, and `done`.
+fn fetch_of(alloc: Global, wants: u32, flushes: u32, haves: u32) -> Result<Vec<u8>, NoMemory> {
     let mut input = OPENING.to_vec(alloc)?;
     for _ in 0..wants {
         input.extend_from_slice(WANT)?;
     }
     for _ in 0..flushes {
         input.extend_from_slice(FLUSH)?;
+    }
+    for _ in 0..haves {
+        input.extend_from_slice(HAVE)?;
     }
     input.extend_from_slice(DONE)?;
     Ok(input)
@@ -32,25 +38,32 @@ fn fetch_of(alloc: Global, wants: u32, flushes: u32) -> Result<Vec<u8>, NoMemory
 // The last bytes of the pack of the first push.
 const TRAILER: [u8; 4] = [0x82, 0x69, 0xdb, 0xdb];
 
+// How many wants, flushes and haves a fetch has, how it ends, and how many bytes are due: the advertisement of 147, a `NAK` of 8 for each flush behind
+// the first one and for `done`, and the pack of 191, or the refusal of 16.
+const LIMITS: [(u32, u32, u32, SessionEnd, usize); 6] = [
+    (10_000, 1, 0, SessionEnd::Served, 346),
+    (10_001, 1, 0, SessionEnd::TooLong(10_001), 163),
+    (1, 100_001, 0, SessionEnd::Served, 800_346),
+    (1, 100_002, 0, SessionEnd::TooLong(100_001), 800_163),
+    (1, 1, 100_000, SessionEnd::Served, 346),
+    (1, 1, 100_001, SessionEnd::TooLong(100_001), 163),
+];
+
 #[test]
 fn as_many_wants_and_flushes_are_taken_as_there_may_be(rt: HostRuntime) -> Result<(), Fail> {
     let alloc = rt.alloc();
     let mut desk = new_desk(alloc)?;
     let (end, _) = serve(alloc, &mut desk, &first_push(alloc)?, 65_520)?;
     assert!(rt; end == SessionEnd::Served);
-    for (wants, flushes, due, text) in [
-        (10_000, 1, SessionEnd::Served, TRAILER.as_slice()),
-        (10_001, 1, SessionEnd::TooLong(10_001), b"0010ERR too long"),
-        (1, 100_001, SessionEnd::Served, TRAILER.as_slice()),
-        (
-            1,
-            100_002,
-            SessionEnd::TooLong(100_001),
-            b"0010ERR too long",
-        ),
-    ] {
-        let (end, written) = serve(alloc, &mut desk, &fetch_of(alloc, wants, flushes)?, 65_520)?;
-        assert!(rt; end == due && written.ends_with(text));
+    for (wants, flushes, haves, due, length) in LIMITS {
+        let input = fetch_of(alloc, wants, flushes, haves)?;
+        let (end, written) = serve(alloc, &mut desk, &input, 65_520)?;
+        let text = if end == SessionEnd::Served {
+            TRAILER.as_slice()
+        } else {
+            b"0010ERR too long"
+        };
+        assert!(rt; end == due && written.len() == length && written.ends_with(text));
     }
     Ok(())
 }
@@ -81,7 +94,7 @@ fn fetch_failing(
     takes: &[u64],
     puts: &[u64],
 ) -> Result<(SessionEnd, usize), NoMemory> {
-    let input = fetch_of(alloc, 1, 2)?;
+    let input = fetch_of(alloc, 1, 2, 0)?;
     let mut link = MemoryLink::new(input, 1, takes.to_vec(alloc)?, puts.to_vec(alloc)?);
     let end = session(alloc, &mut link, desk, &mut OpenGate);
     Ok((end, link.written().len()))
@@ -91,7 +104,7 @@ fn fetch_failing(
 fn a_fetch_whose_input_ends_early_has_its_end(rt: HostRuntime) -> Result<(), Fail> {
     let alloc = rt.alloc();
     let mut desk = pushed_desk(alloc)?;
-    let input = fetch_of(alloc, 1, 2)?;
+    let input = fetch_of(alloc, 1, 2, 0)?;
     assert_eq!(rt; input.len(), 102);
     for size in 0..103u64 {
         let part = input.split_at((size as usize).min(input.len())).0;

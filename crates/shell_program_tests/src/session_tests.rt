@@ -1,7 +1,7 @@
 // Sessions over a link of memory and the only desk of a new hub.
 use conf_lex::UserName;
 use git_session::session;
-use hub::{EnterKept, EntryList, Event, Hub, LoneDesk, NoMemory, Outcome};
+use hub::{EnterKept, EntryList, Event, Hub, LoneDesk, NoMemory, Outcome, Verdict};
 use pktline_core::MemoryLink;
 use session_core::{Gate, OpenGate, SessionEnd};
 use std::alloc::Global;
@@ -142,6 +142,28 @@ fn each_write_that_fails_ends_a_session(rt: HostRuntime) -> Result<(), Fail> {
     Ok(())
 }
 
+// A session without a good user leaves nothing in the log, and a denied one its denial.
+#[test]
+fn a_denial_is_in_the_log(rt: HostRuntime) -> Result<(), Fail> {
+    let alloc = rt.alloc();
+    let mut desk = new_desk(alloc)?;
+    for (input, due) in [
+        (b"0003".as_slice(), SessionEnd::Malformed(0)),
+        (b"000acarol!", SessionEnd::BadUser),
+        (
+            b"002bcarol git-receive-pack 'gitolite-admin'",
+            SessionEnd::Denied,
+        ),
+    ] {
+        let (end, _) = serve(alloc, &mut desk, input, 65_520)?;
+        assert!(rt; end == due);
+    }
+    let log = desk.into_hub().into_log();
+    assert_eq!(rt; log.len(), 1);
+    assert!(rt; is_answered(&log, 0, EnterKept::Denied(Verdict::Fallthru)));
+    Ok(())
+}
+
 // Where the first write fails nothing of the session is written, and the gate was called before.
 #[test]
 fn the_gate_stands_between_an_opening_and_what_is_written(rt: HostRuntime) -> Result<(), Fail> {
@@ -165,6 +187,13 @@ fn the_gate_stands_between_an_opening_and_what_is_written(rt: HostRuntime) -> Re
             SessionEnd::Served,
             4,
             Some(4),
+        ),
+        (
+            b"0024carol git-receive-pack 'testing'0003",
+            99,
+            SessionEnd::Malformed(36),
+            5,
+            Some(6),
         ),
     ] {
         let mut puts = Vec::new(alloc);
