@@ -85,8 +85,8 @@ pub struct Advance {
     pub merge: bool,
 }
 
-/// How the new commit follows the old one. It walks back from the new commit and not beyond the old one; where it meets a merge it walks back from the
-/// old one too.
+/// How the new commit follows the old one. It walks back from the new commit and not beyond the old one; where it meets a merge on the way there it walks
+/// back from the old one too.
 pub fn advance_between(
     alloc: Global,
     lens: &Lens,
@@ -111,8 +111,9 @@ pub fn advance_between(
 fn has_new_merge(alloc: Global, lens: &Lens, old: ObjectId, line: &IdSet) -> Result<bool, NoMemory>
     ensures { IfOk result (λ has. IsTrue has ↔ HasNewMerge lens.now old line.now) }
 {
-    let none = IdSet::new(alloc, lens.salt());
-    if !has_merge(lens, line, &none) {
+    let mut itself = IdSet::new(alloc, lens.salt());
+    itself.insert(old)?;
+    if !has_merge(lens, line, &itself) {
         return Ok(false);
     }
     let steps = ToParents { lens, stop: None };

@@ -2,7 +2,7 @@
 ghost use Rattle.std.specs.Prelude.{◌≡◌, IfOk, IfSome, List, OnOk};
 ghost use Rattle.git_object.specs.Content.{Content};
 
-use crate::layers::Layers;
+use crate::layers::{Layer, Layers};
 use crate::table::Table;
 use crate::verdict::Verdict;
 use base_types::NoMemory;
@@ -10,28 +10,28 @@ use git_object::ObjectId;
 use ref_store::Salt;
 use std::alloc::{AllocError, Global};
 
-/// What one walker found out.
+/// What a walker has found out so far.
 #[derive(Drop)]
-pub struct Findings {
+pub struct Notes {
     whole: Table,
     amiss: Table,
 }
 
-impl Findings {
-    ghost use Rattle.ancestry.specs.Known.{AreFound, IsRight};
+impl Notes {
+    ghost use Rattle.ancestry.specs.Known.{AreFound, AreNoted, IsRight};
 
-    pub(crate) fn none(alloc: Global, salt: Salt) -> Findings
-        ensures { (objects : List Content) → AreFound objects result }
+    pub fn none(alloc: Global, salt: Salt) -> Notes
+        ensures { (objects : List Content) → AreNoted objects result }
     {
-        Findings {
+        Notes {
             whole: Table::new(alloc, salt),
             amiss: Table::new(alloc, salt),
         }
     }
 
-    // What is told of all that the links of an object lead to, where it was found out.
-    pub(crate) fn get(&self, id: ObjectId) -> Option<Verdict>
-        ensures { (objects : List Content) → AreFound objects self.now → IfSome result (IsRight objects id) }
+    /// What is told of all that the links of an object lead to, where it was found out.
+    pub fn get(&self, id: ObjectId) -> Option<Verdict>
+        ensures { (objects : List Content) → AreNoted objects self.now → IfSome result (IsRight objects id) }
     {
         if let Some(verdict) = self.whole.get(id) {
             return Some(verdict);
@@ -42,8 +42,8 @@ impl Findings {
         }
     }
 
-    pub(crate) fn insert(&mut self, id: ObjectId, verdict: Verdict) -> Result<(), NoMemory>
-        ensures { (objects : List Content) → AreFound objects self.old → IsRight objects id verdict → AreFound objects self.new }
+    pub fn insert(&mut self, id: ObjectId, verdict: Verdict) -> Result<(), NoMemory>
+        ensures { (objects : List Content) → AreNoted objects self.old → IsRight objects id verdict → AreNoted objects self.new }
     {
         match verdict {
             Verdict::Whole => {
@@ -56,6 +56,24 @@ impl Findings {
             }
         }
     }
+
+    /// All of it, from when on it doesn't change.
+    pub fn into_findings(self, alloc: Global) -> Result<Findings, NoMemory>
+        ensures { (objects : List Content) → AreNoted objects self → IfOk result (AreFound objects) }
+    {
+        let Notes { whole, amiss } = self;
+        Ok(Findings {
+            whole: Layer::of(alloc, whole)?,
+            amiss: Layer::of(alloc, amiss)?,
+        })
+    }
+}
+
+/// What one walker found out.
+#[derive(Drop)]
+pub struct Findings {
+    whole: Layer,
+    amiss: Layer,
 }
 
 /// What earlier walks found out about the objects of a repository. Clones share it.
@@ -92,17 +110,18 @@ impl Known {
         }
     }
 
-    /// The same, and what a walker found out among the same objects.
-    pub fn with(&self, alloc: Global, findings: Findings) -> Result<Known, NoMemory>
-        ensures { (objects : List Content) → AreKnown objects self.now → AreFound objects findings → IfOk result (AreKnown objects) }
+    /// The same, and what a walker found out among the same objects. Over many calls it costs what was found out times the logarithm of what is known,
+    /// and in one call it may cost all that is known.
+    pub fn with(&self, alloc: Global, findings: &Findings) -> Result<Known, NoMemory>
+        ensures { (objects : List Content) → AreKnown objects self.now → AreFound objects findings.now → IfOk result (AreKnown objects) }
     {
         Ok(Known {
-            whole: self.whole.with(alloc, findings.whole)?,
-            amiss: self.amiss.with(alloc, findings.amiss)?,
+            whole: self.whole.with(alloc, &findings.whole)?,
+            amiss: self.amiss.with(alloc, &findings.amiss)?,
         })
     }
 
-    /// What stays known where objects come.
+    /// What stays known where objects come. It costs a few shares.
     pub fn grown(&self, alloc: Global) -> Result<Known, NoMemory>
         ensures { (fewer more : List Content) → Extends fewer more → AreKnown fewer self.now → IfOk result (AreKnown more) }
     {
@@ -112,12 +131,13 @@ impl Known {
         })
     }
 
-    /// What stays known where objects come, and what of that a walker found out among some of them.
-    pub fn grown_with(&self, alloc: Global, findings: Findings) -> Result<Known, NoMemory>
-        ensures { (fewer among more : List Content) → Extends fewer more → Extends among more → AreKnown fewer self.now → AreFound among findings → IfOk result (AreKnown more) }
+    /// What stays known where objects come, and what of that a walker found out among some of them. It costs a few shares, and nothing is copied; only where
+    /// this was done many times, and nothing was joined in between, it costs what `with` does.
+    pub fn grown_with(&self, alloc: Global, findings: &Findings) -> Result<Known, NoMemory>
+        ensures { (fewer among more : List Content) → Extends fewer more → Extends among more → AreKnown fewer self.now → AreFound among findings.now → IfOk result (AreKnown more) }
     {
         Ok(Known {
-            whole: self.whole.with(alloc, findings.whole)?,
+            whole: self.whole.beside(alloc, &findings.whole)?,
             amiss: Layers::none(alloc),
         })
     }

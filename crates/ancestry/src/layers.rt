@@ -27,6 +27,14 @@ impl Model for Layer {
 }
 
 impl Layer {
+    pub fn of(alloc: Global, table: Table) -> Result<Layer, NoMemory>
+        ensures { IfOk result (λ layer. layer ≡ table) }
+    {
+        Ok(Layer {
+            table: Arc::new(alloc, table)?,
+        })
+    }
+
     fn table(&self) -> &Table
         ensures { result.now ≡ self.now }
     {
@@ -43,6 +51,9 @@ impl Clone for Layer {
         })
     }
 }
+
+// A look-up goes through all tables, so no more than these are put beside one another unjoined.
+const MANY: usize = 40;
 
 /// Tables, the oldest first. Each has at least twice as many verdicts as the next, so there are few. A clone shares them.
 #[derive(Drop)]
@@ -82,18 +93,32 @@ impl Layers {
 
     /// These tables and one more, which is joined with those before it while they have fewer than twice as many verdicts. So over time a verdict
     /// is joined as often as the logarithm of their number.
-    pub fn with(&self, alloc: Global, table: Table) -> Result<Layers, NoMemory>
-        ensures { IfOk result (AreOf self.now table) }
+    pub fn with(&self, alloc: Global, layer: &Layer) -> Result<Layers, NoMemory>
+        ensures { IfOk result (AreOf self.now layer.now) }
     {
-        if table.len() == 0 {
+        let len = layer.table().len();
+        if len == 0 {
             return Ok(self.clone()?);
         }
-        let (older, newer) = self.layers.split_at(self.staying(table.len()));
+        let (older, newer) = self.layers.split_at(self.staying(len));
         let mut layers = older.to_vec(alloc)?;
-        let table = joined(alloc, newer, table)?;
-        layers.push(Layer {
-            table: Arc::new(alloc, table)?,
-        })?;
+        let layer = joined(alloc, newer, layer)?;
+        layers.push(layer)?;
+        Ok(Layers { layers })
+    }
+
+    /// These tables and one more, of which none is joined unless there are many.
+    pub fn beside(&self, alloc: Global, layer: &Layer) -> Result<Layers, NoMemory>
+        ensures { IfOk result (AreOf self.now layer.now) }
+    {
+        if self.layers.len() >= MANY {
+            return self.with(alloc, layer);
+        }
+        if layer.table().len() == 0 {
+            return Ok(self.clone()?);
+        }
+        let mut layers = self.layers.to_vec(alloc)?;
+        layers.push(layer.clone()?)?;
         Ok(Layers { layers })
     }
 
@@ -126,18 +151,19 @@ impl Clone for Layers {
 }
 
 // A table with the verdicts of several put in. Its salt is made of all their salts, so whoever chooses names knows it for none of them.
-fn joined(alloc: Global, layers: &[Layer], table: Table) -> Result<Table, NoMemory>
-    ensures { IfOk result (IsOfAll layers.now table) }
+fn joined(alloc: Global, layers: &[Layer], last: &Layer) -> Result<Layer, NoMemory>
+    ensures { IfOk result (IsOfAll layers.now last.now) }
 {
     if layers.is_empty() {
-        return Ok(table);
+        return Ok(last.clone()?);
     }
-    let empty = Table::new(alloc, joined_salt(layers, table.salt()));
-    let mut joined = empty.with_all(&table)?;
+    let empty = Table::new(alloc, joined_salt(layers, last.table().salt()));
+    let mut joined = empty.with_all(last.table())?;
     for layer in layers {
         joined = joined.with_all(layer.table())?;
     }
-    Ok(joined)
+    let whole = Layer::of(alloc, joined)?;
+    Ok(whole)
 }
 
 // The salt of the names in several tables and in one more.

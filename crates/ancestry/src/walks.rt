@@ -6,7 +6,7 @@ ghost use Rattle.ancestry.specs.Verdict.{IsToldOf, IsToldOfAll};
 ghost use Rattle.ancestry.specs.Walk.{links_at, wanted_by};
 ghost use Rattle.ancestry.specs.Wholeness.{TellsOfWholeness};
 
-use crate::known::{Findings, Known};
+use crate::known::{Findings, Known, Notes};
 use crate::seen;
 use crate::verdict::Verdict;
 use crate::wholeness::Wholeness;
@@ -25,19 +25,19 @@ pub struct Walks<'a> {
     alloc: Global,
     lens: &'a Lens,
     known: Known,
-    findings: Findings,
+    notes: Notes,
 }
 
 impl<'a> Model for Walks<'a> {
     ghost use Rattle.std.specs.Prelude.{List};
     ghost use Rattle.git_object.specs.Content.{Content};
-    ghost use Rattle.ancestry.specs.Known.{AreFound, AreKnown};
+    ghost use Rattle.ancestry.specs.Known.{AreKnown, AreNoted};
 
     ghost Value = { List Content };
 
     ghost view = { λ w. w.lens.now };
 
-    ghost invariant = { λ w. AreKnown w.lens.now w.known × AreFound w.lens.now w.findings };
+    ghost invariant = { λ w. AreKnown w.lens.now w.known × AreNoted w.lens.now w.notes };
 }
 
 impl<'a> Walks<'a> {
@@ -58,21 +58,21 @@ impl<'a> Walks<'a> {
             alloc,
             lens,
             known,
-            findings: Findings::none(alloc, lens.salt()),
+            notes: Notes::none(alloc, lens.salt()),
         }
     }
 
     /// What the walks found out, apart from what was known.
-    pub fn into_findings(self) -> Findings
-        ensures { AreFound self.entry result }
+    pub fn into_findings(self) -> Result<Findings, NoMemory>
+        ensures { IfOk result (AreFound self.entry) }
     {
         let Walks {
-            alloc: _,
+            alloc,
             lens: _,
             known: _,
-            findings,
+            notes,
         } = self;
-        findings
+        notes.into_findings(alloc)
     }
 
     /// Whether all that an id leads to is there and of the kind wanted; of the id itself this kind is wanted, or any.
@@ -106,7 +106,7 @@ impl<'a> Walks<'a> {
     pub fn settled(&self, id: ObjectId) -> Option<Verdict>
         ensures { IfSome result (IsRight self.now id) }
     {
-        match self.findings.get(id) {
+        match self.notes.get(id) {
             Some(verdict) => Some(verdict),
             None => self.known.get(id),
         }
@@ -156,7 +156,7 @@ impl<'a> Walks<'a> {
         requires { IsRight self.old id verdict }
         ensures { self.new ≡ self.old }
     {
-        self.findings.insert(id, verdict)
+        self.notes.insert(id, verdict)
     }
 
     // Settles an id and all that it leads to, links before what they are links of. An id comes up twice where a link of it isn't settled: when

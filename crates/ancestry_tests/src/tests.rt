@@ -189,7 +189,10 @@ fn found_from(alloc: Global, lens: &Lens, known: ObjectId) -> Result<Findings, F
     let Wholeness::Whole = earlier.whole(known, None) else {
         return Err(Fail::from("an id that is whole"));
     };
-    Ok(earlier.into_findings())
+    match earlier.into_findings() {
+        Ok(findings) => Ok(findings),
+        Err(_) => Err(Fail::from("memory")),
+    }
 }
 
 fn known_from(alloc: Global, lens: &Lens, known: ObjectId) -> Result<Known, Fail>
@@ -197,7 +200,7 @@ fn known_from(alloc: Global, lens: &Lens, known: ObjectId) -> Result<Known, Fail
 {
     let findings = found_from(alloc, lens, known)?;
     let nothing = Known::nothing(alloc);
-    match nothing.with(alloc, findings) {
+    match nothing.with(alloc, &findings) {
         Ok(known) => Ok(known),
         Err(_) => Err(Fail::from("memory")),
     }
@@ -589,4 +592,63 @@ fn check_settled_chain(rt: &impl Abort, alloc: Global, pack: &mut ObjectList) ->
 fn all_that_a_settled_id_leads_to_is_settled(rt: HostRuntime) -> Result<(), Fail> {
     let mut pack = ObjectList::new(rt.alloc());
     check_settled_chain(&rt, rt.alloc(), &mut pack)
+}
+
+// ---- what many walkers found out, put beside one another as pushes do that cross
+
+fn known_beside(alloc: Global, lens: &Lens, known: &Known, id: ObjectId) -> Result<Known, Fail>
+    requires { AreKnown lens.now known.now }
+    ensures { IfOk result (AreKnown lens.now) }
+{
+    let findings = found_from(alloc, lens, id)?;
+    match known.grown_with(alloc, &findings) {
+        Ok(known) => Ok(known),
+        Err(_) => Err(Fail::from("memory")),
+    }
+}
+
+fn all_beside(alloc: Global, lens: &Lens, ids: &[ObjectId]) -> Result<Known, Fail>
+    ensures { IfOk result (AreKnown lens.now) }
+{
+    let mut known = Known::nothing(alloc);
+    for id in ids {
+        known = known_beside(alloc, lens, &known, *id)?;
+    }
+    Ok(known)
+}
+
+// The first of these ids of which it isn't known that all is whole that it leads to.
+fn first_unknown(walks: &Walks<'_>, ids: &[ObjectId]) -> Option<ObjectId> {
+    for id in ids {
+        if !is_settled(walks, *id, Verdict::Whole) {
+            return Some(*id);
+        }
+    }
+    None
+}
+
+fn first_forgotten(
+    alloc: Global,
+    pack: &ObjectList,
+    ids: &[ObjectId],
+) -> Result<Option<ObjectId>, Fail> {
+    let repo = Repo::empty(alloc)?;
+    let lens = Lens::new(alloc, &repo, pack)?;
+    let walks = Walks::knowing(alloc, &lens, all_beside(alloc, &lens, ids)?);
+    Ok(first_unknown(&walks, ids))
+}
+
+fn first_forgotten_of_a_chain(alloc: Global) -> Result<Option<ObjectId>, Fail> {
+    let mut pack = ObjectList::new(alloc);
+    let empty = put_tree(alloc, &mut pack, &[])?;
+    let names = chain(alloc, &mut pack, empty, empty)?;
+    first_forgotten(alloc, &pack, names.as_slice())
+}
+
+// There are 200 of them, so that they are joined a few times.
+#[test]
+fn what_many_found_out_stays_known(rt: HostRuntime) -> Result<(), Fail> {
+    let forgotten = first_forgotten_of_a_chain(rt.alloc())?;
+    assert!(rt; forgotten.is_none());
+    Ok(())
 }

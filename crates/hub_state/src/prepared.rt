@@ -1,31 +1,33 @@
 // What is found out of a push's pack before its turn.
 ghost use Rattle.std.specs.Prelude.{◌≡◌};
-ghost use Rattle.ancestry.specs.Known.{AreFound};
+ghost use Rattle.ancestry.specs.Known.{AreFound, AreKnown};
 ghost use Rattle.hub_state.specs.Prepared.{IsPrepared};
 
-use ancestry::Findings;
+use ancestry::{Findings, Known};
 use ref_store::{FreshObjects, Lens, Repo};
 use std::marker::Model;
 
-/// A pack beside the repository as it was at an opening: what it adds, with the segments that there are then, and what walks found out.
+/// A pack beside the repository as it was at an opening: what it adds, with the segments that there are then; what walks found out; and what is known with
+/// that.
 #[derive(Drop)]
 pub struct PreparedPack {
     repo: Repo,
     lens: Lens,
     findings: Findings,
+    known: Known,
     // Nothing where no command may be done.
     fresh: Option<FreshObjects>,
 }
 
 impl Model for PreparedPack {
-    ghost use Rattle.ancestry.specs.Known.{AreFound};
+    ghost use Rattle.ancestry.specs.Known.{AreFound, AreKnown};
     ghost use Rattle.hub_state.specs.Prepared.{IsPrepared, PackView};
 
     ghost Value = { PackView };
 
     ghost view = { λ p. record { before = p.repo.objects; objects = p.lens } };
 
-    ghost invariant = { λ p. AreFound p.lens p.findings × IsPrepared p.repo.objects p.lens p.fresh };
+    ghost invariant = { λ p. AreFound p.lens p.findings × AreKnown p.lens p.known × IsPrepared p.repo.objects p.lens p.fresh };
 }
 
 impl PreparedPack {
@@ -33,9 +35,11 @@ impl PreparedPack {
         repo: Repo,
         lens: Lens,
         findings: Findings,
+        known: Known,
         fresh: Option<FreshObjects>,
     ) -> PreparedPack
         requires found { AreFound lens findings }
+        requires known { AreKnown lens known }
         requires fresh { IsPrepared repo.objects lens fresh }
         ensures { result ≡ record { before = repo.objects; objects = lens } }
     {
@@ -43,6 +47,7 @@ impl PreparedPack {
             repo,
             lens,
             findings,
+            known,
             fresh,
         }
     }
@@ -55,15 +60,24 @@ impl PreparedPack {
         self.fresh.take()
     }
 
-    pub fn into_findings(self) -> Findings
-        ensures { AreFound self.objects result }
+    /// What walks found out.
+    pub fn findings(&self) -> &Findings
+        ensures { AreFound self.now.objects result.now }
+    {
+        &self.findings
+    }
+
+    /// What is known of the objects, the pack's among them.
+    pub fn into_known(self) -> Known
+        ensures { AreKnown self.objects result }
     {
         let PreparedPack {
             repo: _,
             lens: _,
-            findings,
+            findings: _,
+            known,
             fresh: _,
         } = self;
-        findings
+        known
     }
 }

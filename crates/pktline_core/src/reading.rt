@@ -14,7 +14,7 @@ use crate::packets::{MAX_PAYLOAD, Pkt, PktFault};
 use std::alloc::Global;
 use std::marker::Model;
 
-/// A reader of packets, which keeps the payload of the last one.
+/// A reader of packets, which keeps the payload of the last one. It has room for the longest payload from the start, and clears of it what payloads use.
 #[derive(Drop)]
 pub struct PktReader {
     buffer: Vec<u8>,
@@ -23,14 +23,15 @@ pub struct PktReader {
 }
 
 impl Model for PktReader {
-    ghost use Rattle.std.specs.Prelude.{◌≡◌, length};
+    ghost use Rattle.std.specs.Prelude.{◌≤◌, length};
+    ghost use Rattle.std.specs.Vec.{vec_capacity};
     ghost use Rattle.pktline_core.specs.Reading.{ReaderState};
 
     ghost Value = { ReaderState };
 
     ghost view = { λ r. record { offset = r.offset; failed = r.failed; buffer = r.buffer.items } };
 
-    ghost invariant = { λ r. length r.buffer.items ≡ 65516 };
+    ghost invariant = { λ r. (length r.buffer.items ≤ 65516) × (65516 ≤ vec_capacity r.buffer) };
 }
 
 impl PktReader {
@@ -40,7 +41,7 @@ impl PktReader {
         ensures failed { IfOk result (λ r. r.failed ≡ false) }
     {
         Ok(PktReader {
-            buffer: vec![in alloc; 0; MAX_PAYLOAD]?,
+            buffer: Vec::with_capacity(alloc, MAX_PAYLOAD)?,
             offset: 0,
             failed: false,
         })
@@ -94,6 +95,7 @@ impl PktReader {
         };
         match head {
             Head::Line(size) => {
+                self.lengthen(size);
                 if let Err(fault) = take_all(source, self.buffer.split_at_mut(size).0) {
                     self.failed = true;
                     return Err(fault.into());
@@ -106,6 +108,21 @@ impl PktReader {
                 Ok(Head::Flush)
             }
         }
+    }
+
+    // Makes the buffer as long as a payload, where it is shorter. It has room for any payload, so this takes no memory, and a byte is cleared once.
+    fn lengthen(&mut self, size: usize)
+        requires { size ≤ 65516 }
+        ensures within { size ≤ length self.new.buffer }
+        ensures offset { self.new.offset ≡ self.old.offset }
+        ensures failed { self.new.failed ≡ self.old.failed }
+    {
+        if self.buffer.len() >= size {
+            return;
+        }
+        let Ok(()) = self.buffer.resize(size, 0) else {
+            unreachable!()
+        };
     }
 
     fn payload(&self, size: usize) -> &[u8]

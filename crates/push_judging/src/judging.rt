@@ -1,6 +1,7 @@
 // All commands of a push.
 ghost use Rattle.std.specs.Prelude.{◌≡◌, ◌++◌, IfOk, false};
 ghost use Rattle.std.specs.FinMap as map;
+ghost use Rattle.std.specs.List.{AllZip};
 ghost use Rattle.std.specs.Option.{option_map_or};
 ghost use Rattle.ancestry.specs.Known.{AreFound, AreKnown};
 ghost use Rattle.rule_compile.specs.Patterns.{AreTrue, Patterns};
@@ -77,8 +78,7 @@ pub fn judge(
         confs,
         findings,
     } = tell_all(alloc, pin, &lens, pack, commands.as_slice())?;
-    let fresh = fresh_in(pin.repo(), &lens, pack, &outcomes)?;
-    let pack = PreparedPack::new(pin.repo().copy()?, lens, findings, fresh);
+    let pack = prepared_pack(alloc, pin, lens, pack, findings, &outcomes)?;
     Ok(Judged {
         outcomes,
         confs,
@@ -106,27 +106,59 @@ fn tell_all(
     ensures confs { IfOk result (λ all. all.confs.items ≡ confs_of pin.now.pinned pack.now commands.now all.outcomes.items) }
     ensures found { IfOk result (λ all. AreFound lens.now all.findings) }
 {
-    let mut walks = Walks::knowing(alloc, lens, known_with(alloc, pin, pack)?);
     let names = names_of(alloc, commands)?;
     let facts = facts_of_all(alloc, lens, commands)?;
-    let check = UpdateCheck::new(pin.policy(), pin.wild(), pin.repo_name(), pin.user());
-    let mut outcomes = Vec::with_capacity(alloc, commands.len())?;
-    let mut confs = Vec::with_capacity(alloc, commands.len())?;
-    for k in 0..commands.len() {
-        let command = &commands[k];
-        let twice = is_named_twice(&names, command);
-        let Told { outcome, conf } = tell(
-            alloc, pin, lens, pack, &check, &mut walks, &facts[k], twice, command,
-        )?;
-        outcomes.push(outcome)?;
-        confs.push(conf)?;
-    }
-    let findings = walks.into_findings();
+    let mut walks = Walks::knowing(alloc, lens, known_with(alloc, pin, pack)?);
+    let EachTold { outcomes, confs } = tell_each(
+        alloc, pin, lens, pack, commands, &names, &facts, &mut walks,
+    )?;
+    let findings = walks.into_findings()?;
     Ok(AllTold {
         outcomes,
         confs,
         findings,
     })
+}
+
+// What each command is told, and the conf that it would put in force.
+#[derive(Drop)]
+struct EachTold {
+    outcomes: Vec<Option<Outcome>>,
+    confs: Vec<Option<ConfInForce>>,
+}
+
+fn tell_each(
+    alloc: Global,
+    pin: &Pin,
+    lens: &Lens,
+    pack: &ObjectList,
+    commands: &[Command],
+    names: &NameMap<bool>,
+    all_facts: &[Facts],
+    walks: &mut Walks<'_>,
+) -> Result<EachTold, NoMemory>
+    requires lens { lens.now ≡ pin.now.pinned.repository.objects ++ pack.now }
+    requires names { Counts names.now commands.now }
+    requires facts { AllZip (λ change facts. AreFacts lens.now change.name change.old change.new facts) commands.now all_facts.now }
+    requires walks { walks.old ≡ lens.now }
+    ensures outcomes { IfOk result (λ each. (ps : Patterns) → AreTrue ps → JudgesAll ps pin.now.pinned pack.now commands.now each.outcomes.items) }
+    ensures confs { IfOk result (λ each. each.confs.items ≡ confs_of pin.now.pinned pack.now commands.now each.outcomes.items) }
+    ensures walks { walks.new ≡ walks.old }
+{
+    let check = UpdateCheck::new(pin.policy(), pin.wild(), pin.repo_name(), pin.user());
+    let mut outcomes = Vec::with_capacity(alloc, commands.len())?;
+    let mut confs = Vec::with_capacity(alloc, commands.len())?;
+    for k in 0..commands.len() {
+        let command = &commands[k];
+        let facts = &all_facts[k];
+        let twice = is_named_twice(names, command);
+        let Told { outcome, conf } = tell(
+            alloc, pin, lens, pack, &check, walks, facts, twice, command,
+        )?;
+        outcomes.push(outcome)?;
+        confs.push(conf)?;
+    }
+    Ok(EachTold { outcomes, confs })
 }
 
 // What one command is told.
@@ -161,6 +193,25 @@ fn tell(
     by_conf(alloc, pin, lens, pack, command)
 }
 
+// What was found out of a pack beside the repository of the opening.
+fn prepared_pack(
+    alloc: Global,
+    pin: &Pin,
+    lens: Lens,
+    pack: &ObjectList,
+    findings: Findings,
+    outcomes: &[Option<Outcome>],
+) -> Result<PreparedPack, NoMemory>
+    requires lens { lens ≡ pin.now.pinned.repository.objects ++ pack.now }
+    requires found { AreFound lens findings }
+    ensures { IfOk result (λ p. p ≡ record { before = pin.now.pinned.repository.objects; objects = lens }) }
+{
+    let repo = pin.repo().copy()?;
+    let known = known_behind(alloc, pin, pack, &findings)?;
+    let fresh = fresh_in(&repo, &lens, pack, outcomes)?;
+    Ok(PreparedPack::new(repo, lens, findings, known, fresh))
+}
+
 // What a pack adds to a repository, with the segments that it has then, where some command isn't refused.
 fn fresh_in(
     repo: &Repo,
@@ -189,6 +240,20 @@ fn known_with(alloc: Global, pin: &Pin, pack: &ObjectList) -> Result<Known, NoMe
         return Ok(pin.known().clone()?);
     }
     pin.known().grown(alloc)
+}
+
+// The same, with what walks found out.
+fn known_behind(
+    alloc: Global,
+    pin: &Pin,
+    pack: &ObjectList,
+    findings: &Findings,
+) -> Result<Known, NoMemory>
+    requires { AreFound (pin.now.pinned.repository.objects ++ pack.now) findings.now }
+    ensures { IfOk result (AreKnown (pin.now.pinned.repository.objects ++ pack.now)) }
+{
+    let known = known_with(alloc, pin, pack)?;
+    known.with(alloc, findings)
 }
 
 // The refs of the commands, each with whether there are several commands for it.

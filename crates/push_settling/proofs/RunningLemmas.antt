@@ -3,7 +3,6 @@ use Rattle.std.proofs.Common.{◌≡◌, ℕ, zero, suc, ◌<◌, Bool, true, fa
 use Rattle.std.specs.Prelude.{Option, Some, None, if◌then◌else◌}
 use Rattle.git_object.specs.declared.object_id.ObjectId.{ObjectId}
 use Rattle.ref_store.specs.Objects.{same_id}
-use Rattle.ref_store.specs.RefName.{is_ref_name}
 use Rattle.ref_store.specs.Refs.{Name, Refs, zero_id, value, moved, first_at_odds}
 use Rattle.ref_store.specs.Store.{Store, TellsOfMove, moved_by}
 use Rattle.ref_store.specs.declared.command.Command.{Command}
@@ -69,11 +68,3 @@ pub ran_beside : (store next : Store) (c : Command) (name r : Name) → name ≡
 ran_beside store next c name r is told left =
     let beside = moved_beside store.refs c r (subst (λ (n : Name). TellsOfMove store.refs n c.old (moving.DirFile r)) is told) in
     (beside, left ∙ ap (λ (o : Outcome). record { objects = store.objects; refs = refs_after store.refs c o }) beside)
-
--- a name that was read is the text
-pub name_read : (text name : Name) (o : Option Name) → o ≡ (if is_ref_name text then Some text else None) → o ≡ Some name → name ≡ text
-name_read text name o is some = by_rule (is_ref_name text) (sym some ∙ is)
-  where
-    by_rule : (b : Bool) → Some name ≡ (if b then Some text else None) → name ≡ text
-    by_rule true same = cc
-    by_rule false same = cc

@@ -1,14 +1,16 @@
 // The outcomes of a push by what is there just before it, and the repository that it leaves.
-ghost use Rattle.std.specs.Prelude.{◌≡◌, ◌+◌, ◌++◌, ◌<◌, ◌≤◌, ◌^◌, [], IfOk, IfSome, length, map, None, not, OnOk, Some, true};
+ghost use Rattle.std.specs.Prelude.{◌≡◌, ◌+◌, ◌++◌, ◌<◌, ◌≤◌, ◌^◌, [], IfOk, IfSome, length, List, map, None, not, OnOk, Some, true};
 ghost use Rattle.std.specs.List.{list_any, position};
 ghost use Rattle.ref_store.specs.RefName.{is_ref_name};
 ghost use Rattle.ref_store.specs.Objects.{HasNamesOnce, with_pack};
-ghost use Rattle.ancestry.specs.Known.{Extends};
+ghost use Rattle.ancestry.specs.Known.{AreKnown, Extends};
+ghost use Rattle.git_object.specs.Content.{Content};
 ghost use Rattle.hub_history.specs.Collision.{collision};
 ghost use Rattle.hub_history.specs.Push.{beside, by_refs, in_order, is_done, repository_left, repository_left_with, outcomes_in, refs_after, refs_left, together};
 ghost use Rattle.push_settling.specs.Running.{FitCommands, FitsCommand, IsReadyFor};
 ghost use Rattle.ref_store.specs.Store.{TellsOfComparing};
 
+use ancestry::Known;
 use base_types::NoMemory;
 use git_object::ObjectList;
 use hub_state::{HostedRepo, Outcome, OutcomeList, PreparedPack};
@@ -28,7 +30,7 @@ pub struct Settled {
 /// since the push was judged, it compares the pack again, and adds what it lacks where a command is done.
 ///
 /// Where no command is done no segment is built. What was found out on the way is kept where a command is done, and where the push brings no objects
-/// and none came since it was judged. That costs what was found out, and may join it with what was known.
+/// and none came since it was judged. It was joined with what was known then; where objects came since, it is put beside what is known now.
 ///
 /// `same` tells that the objects are those of the opening.
 pub fn settle(
@@ -56,7 +58,7 @@ pub fn settle(
     let unchanged = is_unchanged(same, pack);
     match compared(now, &mut prepared, pack, same) {
         Compared::Fresh(fresh) => settle_with(
-            alloc, now, judged, prepared, fresh, commands, atomic, unchanged,
+            alloc, now, judged, prepared, fresh, commands, atomic, same, unchanged,
         ),
         Compared::Collision { id, .. } => refuse_all(alloc, commands, &Outcome::Collided(id)),
         Compared::Full(count) => refuse_all(alloc, commands, &Outcome::Full(count)),
@@ -118,6 +120,7 @@ fn settle_with(
     fresh: FreshObjects,
     commands: &CommandList,
     atomic: bool,
+    same: bool,
     unchanged: bool,
 ) -> Result<Settled, NoMemory>
     requires alike { length judged.now ≡ length commands.now }
@@ -134,7 +137,7 @@ fn settle_with(
 {
     let ran = run_all(alloc, now, judged, commands, atomic)?;
     if any_done(&ran.outcomes) {
-        return settle_done(alloc, now, ran.outcomes, ran.repo, fresh, prepared);
+        return settle_done(alloc, now, ran.outcomes, ran.repo, fresh, prepared, same);
     }
     settle_undone(alloc, now, ran.outcomes, prepared, unchanged)
 }
@@ -174,6 +177,7 @@ fn settle_done(
     repo: Repo,
     fresh: FreshObjects,
     prepared: PreparedPack,
+    same: bool,
 ) -> Result<Settled, NoMemory>
     requires objects { repo.objects ≡ now.now.objects }
     requires names { HasNamesOnce (now.now.objects ++ fresh.objects) }
@@ -184,12 +188,11 @@ fn settle_done(
     ensures next { IfOk result (λ d. d.next ≡ Some (record { objects = now.now.objects ++ fresh.objects; refs = repo.refs; creator = now.now.creator; roles = now.now.roles })) }
     ensures same { IfOk result (λ d. d.same ≡ None) }
 {
-    let next = Some(land(alloc, now, repo, fresh, prepared)?);
-    let same = None;
+    let next = Some(land(alloc, now, repo, fresh, prepared, same)?);
     Ok(Settled {
         outcomes,
         next,
-        same,
+        same: None,
     })
 }
 
@@ -228,9 +231,8 @@ fn remember(
     if !unchanged {
         return Ok(None);
     }
-    let known = now.known().with(alloc, prepared.into_findings())?;
     let repo = now.repo().copy()?;
-    Ok(Some(now.with_repo(alloc, repo, known)?))
+    Ok(Some(now.with_repo(alloc, repo, prepared.into_known())?))
 }
 
 // The commands in order, over the refs as the earlier ones left them.
@@ -274,9 +276,7 @@ fn move_one(alloc: Global, repo: &mut Repo, command: &Command) -> Result<Outcome
     ensures outcome { IfOk result (λ o. o ≡ by_refs repo.old.refs command.now None) }
     ensures repo { OnOk result (repo.new ≡ record { objects = repo.old.objects; refs = refs_after repo.old.refs command.now (by_refs repo.old.refs command.now None) }) }
 {
-    let Some(name) = RefName::parse(alloc, command.name.bytes())? else {
-        unreachable!()
-    };
+    let name = RefName::known(command.name.clone()?);
     match repo.apply(&name, command.old, command.new) {
         Applied::Moved => Ok(Outcome::Done),
         Applied::Stale(value) => Ok(Outcome::Stale(value)),
@@ -343,6 +343,7 @@ fn land(
     mut repo: Repo,
     fresh: FreshObjects,
     prepared: PreparedPack,
+    same: bool,
 ) -> Result<HostedRepo, NoMemory>
     requires objects { repo.objects ≡ now.now.objects }
     requires names { HasNamesOnce (now.now.objects ++ fresh.objects) }
@@ -352,8 +353,25 @@ fn land(
     ensures { IfOk result (λ next. next ≡ record { objects = now.now.objects ++ fresh.objects; refs = repo.refs; creator = now.now.creator; roles = now.now.roles }) }
 {
     repo.add(fresh)?;
-    let known = now.known().grown_with(alloc, prepared.into_findings())?;
+    let known = known_with(alloc, now, prepared, same)?;
     now.with_repo(alloc, repo, known)
+}
+
+// What is known once the fresh objects are added: as it was joined when the push was judged, where no objects came since, and else what is known now with
+// what was found out then beside it. Nothing is joined here.
+fn known_with(
+    alloc: Global,
+    now: &HostedRepo,
+    prepared: PreparedPack,
+    same: bool,
+) -> Result<Known, NoMemory>
+    ensures { (more : List Content) → Extends now.now.objects more → Extends prepared.objects more → IfOk result (AreKnown more) }
+{
+    if same {
+        let known = prepared.into_known();
+        return known.grown(alloc);
+    }
+    now.known().grown_with(alloc, prepared.findings())
 }
 
 fn any_done(outcomes: &OutcomeList) -> bool

@@ -49,8 +49,8 @@ impl RefName {
         is_ref_name(text)
     }
 
-    // The name whose text is known to keep the rule.
-    pub(crate) fn known(text: Text) -> RefName
+    /// The name whose text is known to keep the rule, which isn't looked at again.
+    pub fn known(text: Text) -> RefName
         requires { is_ref_name text ≡ true }
         ensures { result ≡ text }
     {
@@ -116,7 +116,10 @@ fn all_ref_bytes(text: &[u8]) -> bool
 fn is_ref_byte(c: u8) -> bool
     ensures { result ≡ is_ref_byte c }
 {
-    c > 32 && c != 127 && !b"~^:?*[\\".contains(&c)
+    !matches!(
+        c,
+        0..=32 | 127 | b'~' | b'^' | b':' | b'?' | b'*' | b'[' | b'\\'
+    )
 }
 
 // As many pieces as slashes, and one more.

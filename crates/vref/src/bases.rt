@@ -1,6 +1,7 @@
 // Trees that were compared, each with a base from which it differs in a few names.
 ghost use Rattle.std.specs.Prelude.{◌≡◌, IfOk, IfSome, List};
 ghost use Rattle.git_object.specs.Content.{Content};
+ghost use Rattle.indexmap.specs.IndexMap.{hasher_of};
 ghost use Rattle.vref.specs.Bases.{AreBased, DifferAt};
 
 use crate::differences::Difference;
@@ -11,7 +12,8 @@ use indexmap::IndexMap;
 use ref_store::Salt;
 use std::alloc::Global;
 
-// No more differences of two trees than these are kept: where trees differ in more, there are few of them.
+// Of two trees that differ in more names than these nothing is kept: where trees differ in more, there are few of them. A list that is kept is put together
+// of two, so it may be twice as long and ten more.
 const MAX_KEPT: usize = 1000;
 
 /// Where a tree differs from its base.
@@ -34,7 +36,8 @@ pub struct Bases<'a> {
 
 impl<'a> Bases<'a> {
     pub fn new(alloc: Global, salt: Salt) -> Bases<'a>
-        ensures { (objects : List Content) → AreBased objects result }
+        ensures based { (objects : List Content) → AreBased objects result }
+        ensures salt { (hasher_of result.trees ≡ salt) × (hasher_of result.counts ≡ salt) }
     {
         Bases {
             trees: IndexMap::with_hasher(alloc, salt),

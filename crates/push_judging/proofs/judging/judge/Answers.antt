@@ -14,6 +14,6 @@ returns c =
     record {
       outcomes = λ ps ok. subst (λ (cs : List Command). JudgesAll ps pinned pack cs all.outcomes.items) commands (c.in_ok-outcomes.ensures.outcomes ps ok);
       confs = c.in_ok-outcomes.ensures.confs ∙ ap (λ (cs : List Command). confs_of pinned pack cs all.outcomes.items) commands;
-      before = ap (λ p. p.before) c.new-pack.ensures ∙ ap (λ (s : Store). s.objects) (c.in_ok-copy.ensures ∙ c.repo-3.ensures.repo);
-      objects = ap (λ p. p.objects) c.new-pack.ensures ∙ c.in_ok-lens.ensures ∙ ap (λ (s : Store). s.objects ++ pack) c.repo.ensures.repo;
+      before = ap (λ p. p.before) c.in_ok-pack.ensures;
+      objects = ap (λ p. p.objects) c.in_ok-pack.ensures ∙ c.in_ok-lens.ensures ∙ ap (λ (s : Store). s.objects ++ pack) c.repo.ensures.repo;
     }

@@ -1,12 +1,11 @@
 use Rattle.std.proofs.Common.{◌≡◌, List, sym, ◌∙◌, ap, subst}
 use Rattle.git_object.specs.Content.{Content}
 use Rattle.ref_store.specs.Store.{Store}
-use Rattle.ancestry.specs.Known.{AreFound, AreKnown}
+use Rattle.ancestry.specs.Known.{AreKnown}
 use Rattle.push_settling.proofs.settling.remember.Goals as goal
 
 pub with_repo-requires : goal.with_repo-requires
 with_repo-requires c =
     let objects = c.args.now.now.objects in
-    let found : AreFound objects c.into_findings.result = subst (λ (os : List Content). AreFound os c.into_findings.result) (c.requires c.if-not-unchanged.false) c.into_findings.ensures in
     let store : c.in_ok-repo.repo.objects ≡ objects = ap (λ (s : Store). s.objects) (c.in_ok-repo.ensures ∙ c.repo.ensures) in
-    subst (λ (os : List Content). AreKnown os c.in_ok-known.known) (sym store) (c.in_ok-known.ensures objects c.known.ensures found)
+    subst (λ (os : List Content). AreKnown os c.into_known.result) (c.requires c.if-not-unchanged.false ∙ sym store) c.into_known.ensures

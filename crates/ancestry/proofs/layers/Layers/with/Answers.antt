@@ -13,6 +13,6 @@ returns c =
     let whole : c.deref.result.now ≡ all = c.deref.ensures.value ∙ c.self.view_is in
     let parts : all ≡ older ++ newer =
     sym whole ∙ sym (take-append-drop at c.deref.result.now) ∙ ap (λ (l : List Verdicts). l ++ drop at c.deref.result.now) (sym c.split_at.ensures.front) ∙ ap (λ (l : List Verdicts). older ++ l) (sym c.split_at.ensures.back) in
-    let items : c.push.new.self.items ≡ older ++ c.in_ok-table.table ∷ [] =
-    c.in_ok-push.ensures.items ∙ ap (λ (t : Verdicts). c.in_ok-layers.layers.items ++ t ∷ []) c.in_ok-new.ensures.ok ∙ ap (λ (l : List Verdicts). l ++ c.in_ok-table.table ∷ []) (c.in_ok-layers.ensures.items_if_clones_equal (λ x y e. e)) in
-    subst (λ (l : List Verdicts). AreOf all c.args.table l) (sym items) (of_parts all older newer c.args.table c.in_ok-table.table parts c.in_ok-table.ensures)
+    let items : c.push.new.self.items ≡ older ++ c.in_ok-layer.layer ∷ [] =
+    c.in_ok-push.ensures.items ∙ ap (λ (l : List Verdicts). l ++ c.in_ok-layer.layer ∷ []) (c.in_ok-layers.ensures.items_if_clones_equal (λ x y e. e)) in
+    subst (λ (l : List Verdicts). AreOf all c.args.layer.now l) (sym items) (of_parts all older newer c.args.layer.now c.in_ok-layer.layer parts c.in_ok-layer.ensures)

@@ -22,9 +22,9 @@ pub returns-in_default-clause-reads : goal.returns-in_default-clause-reads
 returns-in_default-clause-reads g c =
     let len = c.take_all.auto.room ∙ c.split_at_mut.ensures.front_len in
     let back = c.split_at_mut.result.1.now in
-    let whole : length (c.take_all.new.room ++ back) ≡ c.self.inside.buffer.len = omega (arith, length-append c.take_all.new.room back, len, c.split_at_mut.ensures.back_len, c.deref_mut.ensures.len) in
+    let whole : length (c.take_all.new.room ++ back) ≡ c.self-in-Line.inside.buffer.len = omega (arith, length-append c.take_all.new.room back, len, c.split_at_mut.ensures.back_len, c.deref_mut.ensures.len) in
     line_read _ _ _ c.in-Line.size c.take_all.new.room (rw c.in-Line.is at c.in-Ok.ensures.reads) c.read_head.ensures.later len _ c.in_default.ensures.takes
-    (ap (λ (l : List ℕ). take c.in-Line.size l) (with_items_is c.self.inside.buffer (c.take_all.new.room ++ back) whole) ∙ take_at c.take_all.new.room back c.in-Line.size len)
+    (ap (λ (l : List ℕ). take c.in-Line.size l) (with_items_is c.self-in-Line.inside.buffer (c.take_all.new.room ++ back) whole) ∙ take_at c.take_all.new.room back c.in-Line.size len)
 
 pub returns-in_default-clause-told : goal.returns-in_default-clause-told
 returns-in_default-clause-told g c = told _ _ _ (returns-in_default-clause-reads g c)

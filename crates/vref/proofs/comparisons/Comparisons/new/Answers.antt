@@ -6,5 +6,5 @@ use Rattle.vref.proofs.comparisons.Comparisons.new.Goals as goal
 pub returns : goal.returns
 returns c = record {
   pairs = λ pair list is. absurd (let none = ap (lookup (same_pair pair)) c.with_hasher.ensures.empty in cc (is, none));
-  bases = c.new.ensures c.args.lens.now;
+  bases = c.new.ensures.based c.args.lens.now;
 }

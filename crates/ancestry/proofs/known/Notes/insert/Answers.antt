@@ -2,7 +2,7 @@ use Rattle.std.proofs.Common.{subst}
 use Rattle.ancestry.specs.declared.verdict.Verdict.{Verdict}
 use Rattle.ancestry.specs.Known.{IsRight}
 use Rattle.ancestry.proofs.KnownLemmas.{found_more, found_whole_more}
-use Rattle.ancestry.proofs.known.Findings.insert.Goals as goal
+use Rattle.ancestry.proofs.known.Notes.insert.Goals as goal
 
 pub returns-in_ok-insert-in-Whole : goal.returns-in_ok-insert-in-Whole
 returns-in_ok-insert-in-Whole c = λ objects found right. record {

@@ -1,8 +1,9 @@
-use Rattle.std.proofs.Common.{◌≡◌, ◌++◌, ◌∷◌, [], ◌+◌, Bool, List, take, length, length-append, length-take, get_or, arith, sym, ◌∙◌, ap, subst}
+use Rattle.std.proofs.Common.{◌≡◌, ◌++◌, ◌∷◌, [], ◌+◌, Bool, false, List, take, length, length-append, length-take, get_or, arith, sym, ◌∙◌, ap, subst}
 use Rattle.std.specs.Prelude.{Option}
 use Rattle.std.specs.List.{AllZip}
 use Rattle.std.proofs.lemmas.List.{take_more}
 use Rattle.ref_store.specs.declared.command.Command.{Command}
+use Rattle.ancestry.specs.declared.facts.Change.TheVariants.{Create}
 use Rattle.ancestry.specs.declared.facts.Facts.{Facts}
 use Rattle.vref.specs.Facts.{AreFacts}
 use Rattle.hub_history.specs.declared.outcome.Outcome.{Outcome}
@@ -12,18 +13,17 @@ use Rattle.push_judging.specs.Judged.{confs_of}
 use Rattle.push_judging.specs.Rows.{Tells}
 use Rattle.push_judging.proofs.CountingLemmas.{twice_is}
 use Rattle.push_judging.proofs.RowLemmas.{as_many, confs_more, judged_more, take_all, zip_at}
-use Rattle.push_judging.proofs.judging.tell_all.Goals as goal
+use Rattle.push_judging.proofs.judging.tell_each.Goals as goal
 
-pub index-requires : goal.index-requires
-index-requires c =
-    omega (arith, c.loop-k-test.true, as_many (λ (change : Command) (facts : Facts). AreFacts c.args.lens.now change.name change.old change.new facts) c.args.commands.now c.in_ok-facts.facts.items c.in_ok-facts.ensures, c.in_ok-facts.facts.ok.0)
+pub bounds-all_facts-k : goal.bounds-all_facts-k
+bounds-all_facts-k c =
+    omega (arith, c.loop-k-test.true, as_many (λ (change : Command) (facts : Facts). AreFacts c.args.lens.now change.name change.old change.new facts) c.args.commands.now c.args.all_facts.now c.requires.facts)
 
 pub tell-requires-clause-facts : goal.tell-requires-clause-facts
 tell-requires-clause-facts c =
-    let at =
-    zip_at (λ (change : Command) (facts : Facts). AreFacts c.args.lens.now change.name change.old change.new facts) c.args.commands.now c.in_ok-facts.facts.items c.loop-k.k c.index-commands-k.result c.index.result.now c.in_ok-facts.ensures c.loop-k-test.true in
-    subst (λ (change : Command). AreFacts c.args.lens.now change.name change.old change.new c.index.result.now) (sym c.index-commands-k.is)
-    (subst (λ (facts : Facts). AreFacts c.args.lens.now (get_or c.args.commands.now c.loop-k.k c.index-commands-k.result).name (get_or c.args.commands.now c.loop-k.k c.index-commands-k.result).old (get_or c.args.commands.now c.loop-k.k c.index-commands-k.result).new facts) (sym c.index.ensures) at)
+    let none : Facts = record { change = Create; tag = false; commits = false; forward = false; merge = false } in
+    subst (λ (change : Command). AreFacts c.args.lens.now change.name change.old change.new (get_or c.args.all_facts.now c.loop-k.k none)) (sym c.index-commands-k.is)
+    (zip_at (λ (change : Command) (facts : Facts). AreFacts c.args.lens.now change.name change.old change.new facts) c.args.commands.now c.args.all_facts.now c.loop-k.k c.index-commands-k.result none c.requires.facts c.loop-k-test.true)
 
 pub loop-k-preserved : goal.loop-k-preserved
 loop-k-preserved c =
@@ -32,7 +32,7 @@ loop-k-preserved c =
     let commands = c.args.commands.now in
     let command = c.index-commands-k.result in
     let told : Option Outcome = c.in_ok-outcome.field-0.outcome in
-    let twice : c.is_named_twice-twice.result ≡ is_named_twice commands command.name = c.is_named_twice-twice.ensures ∙ twice_is c.in_ok-names.names commands command.name c.in_ok-names.ensures in
+    let twice : c.is_named_twice-twice.result ≡ is_named_twice commands command.name = c.is_named_twice-twice.ensures ∙ twice_is c.args.names.now commands command.name c.requires.names in
     let outcomes : c.push.new.self.items ≡ c.loop-k.outcomes.items ++ told ∷ [] = c.in_ok-push.ensures.items in
     let confs : c.push-in-loop-k.new.self.items ≡ c.loop-k.confs.items ++ c.in_ok-outcome.field-0.conf ∷ [] = c.in_ok-push-2.ensures.items in
     record {
