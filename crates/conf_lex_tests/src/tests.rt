@@ -5,8 +5,9 @@ use conf_lex::{
     kind_of, read_line, repo_word,
 };
 use std::alloc::{AllocError, Global};
-use std::collections::{BTreeMap, HashMap};
-use std::test::Fail;
+use std::cmp::Ordering;
+use std::hash::{DefaultHasher, Hash, Hasher};
+use std::process::Abort;
 
 // Lines that say something, and a short form of what they say.
 static STATEMENTS: [(&str, &str); 34] = [
@@ -155,8 +156,8 @@ static REPO_WORDS: [(&str, &str, RepoWordKind); 11] = [
     ("a*", "a*", RepoWordKind::Pattern),
 ];
 
-// Words that are permissions, and the texts of these.
-static PERMISSIONS: [(&str, &str); 23] = [
+// Words, and the texts of the permissions that they are; nothing for those that are none.
+static PERMISSIONS: [(&str, &str); 41] = [
     ("-", "-"),
     ("R", "R"),
     ("C", "C"),
@@ -180,265 +181,389 @@ static PERMISSIONS: [(&str, &str); 23] = [
     ("RW+DC", "RW+CD"),
     ("RW+CDM", "RW+CDM"),
     ("RW+DCM", "RW+CDM"),
+    ("", ""),
+    ("W", ""),
+    ("r", ""),
+    ("RR", ""),
+    ("R+", ""),
+    ("CD", ""),
+    ("DC", ""),
+    ("RDC", ""),
+    ("RW++", ""),
+    ("RWC+", ""),
+    ("RWMC", ""),
+    ("RWCDC", ""),
+    ("RWDCD", ""),
+    ("RWDD", ""),
+    ("RWDMC", ""),
+    ("RWMDC", ""),
+    ("RWDCMM", ""),
+    ("RW+CDM ", ""),
 ];
 
-// Words that are no permission.
-static NO_PERMISSIONS: [&str; 18] = [
-    "", "W", "r", "RR", "R+", "CD", "DC", "RDC", "RW++", "RWC+", "RWMC", "RWCDC", "RWDCD", "RWDD",
-    "RWDMC", "RWMDC", "RWDCMM", "RW+CDM ",
-];
-
-fn put_words(out: &mut Vec<u8>, words: &TextList) -> Result<(), AllocError> {
-    for word in words.as_slice() {
-        out.extend_from_slice(b" ")?;
-        out.extend_from_slice(word.bytes())?;
-    }
-    Ok(())
+// What is left of a text from which parts are taken, one behind the other; none where a part isn't next in it.
+#[derive(Clone, Copy)]
+struct Rest<'a> {
+    left: Option<&'a [u8]>,
 }
 
-fn put_statement(out: &mut Vec<u8>, statement: &Statement) -> Result<(), AllocError> {
-    match statement {
-        Statement::Blank => out.extend_from_slice(b"blank"),
-        Statement::NoEffect => out.extend_from_slice(b"no effect"),
-        Statement::Repo { words } => {
-            out.extend_from_slice(b"repo")?;
-            put_words(out, words)
+impl<'a> Rest<'a> {
+    fn take(&mut self, part: &[u8]) {
+        self.left = match self.left {
+            Some(left) => left.strip_prefix(part),
+            None => None,
+        };
+    }
+
+    fn take_words(&mut self, words: &TextList) {
+        for word in words.as_slice() {
+            self.take(b" ");
+            self.take(word.bytes());
         }
-        Statement::Include { pattern } => {
-            out.extend_from_slice(b"include ")?;
-            out.extend_from_slice(pattern.bytes())
+    }
+
+    // A word, and a text behind a space.
+    fn take_named(&mut self, word: &[u8], name: &[u8]) {
+        self.take(word);
+        self.take(b" ");
+        self.take(name);
+    }
+
+    // The short form of a statement.
+    fn take_statement(&mut self, statement: &Statement) {
+        match statement {
+            Statement::Blank => self.take(b"blank"),
+            Statement::NoEffect => self.take(b"no effect"),
+            Statement::Repo { words } => {
+                self.take(b"repo");
+                self.take_words(words);
+            }
+            Statement::Include { pattern } => self.take_named(b"include", pattern.bytes()),
+            Statement::Subconf { pattern } => self.take_named(b"subconf", pattern.bytes()),
+            Statement::Group { name, members } => {
+                self.take_named(b"group", name.bytes());
+                self.take(b":");
+                self.take_words(members);
+            }
+            Statement::Opt { key, value } => {
+                self.take_named(b"option", key.bytes());
+                self.take_named(b":", value.bytes());
+            }
+            Statement::Rule {
+                perm,
+                refexes,
+                users,
+            } => {
+                self.take_named(b"rule", perm.text());
+                self.take(b":");
+                self.take_words(refexes);
+                self.take(b" =");
+                self.take_words(users);
+            }
         }
-        Statement::Subconf { pattern } => {
-            out.extend_from_slice(b"subconf ")?;
-            out.extend_from_slice(pattern.bytes())
-        }
-        Statement::Group { name, members } => {
-            out.extend_from_slice(b"group ")?;
-            out.extend_from_slice(name.bytes())?;
-            out.extend_from_slice(b":")?;
-            put_words(out, members)
-        }
-        Statement::Opt { key, value } => {
-            out.extend_from_slice(b"option ")?;
-            out.extend_from_slice(key.bytes())?;
-            out.extend_from_slice(b": ")?;
-            out.extend_from_slice(value.bytes())
-        }
-        Statement::Rule {
-            perm,
-            refexes,
-            users,
-        } => {
-            out.extend_from_slice(b"rule ")?;
-            out.extend_from_slice(perm.text())?;
-            out.extend_from_slice(b":")?;
-            put_words(out, refexes)?;
-            out.extend_from_slice(b" =")?;
-            put_words(out, users)
+    }
+
+    fn is_empty(&self) -> bool {
+        match self.left {
+            Some(left) => left.is_empty(),
+            None => false,
         }
     }
 }
 
-// A short form of what a line says, or the text of its fault.
-fn shown(alloc: Global, line: &[u8]) -> Result<Vec<u8>, AllocError> {
-    let mut out = Vec::new(alloc);
+fn is_short_form(text: &[u8], statement: &Statement) -> bool {
+    let mut rest = Rest { left: Some(text) };
+    rest.take_statement(statement);
+    rest.is_empty()
+}
+
+fn is_text_of(alloc: Global, text: &[u8], fault: LexFault) -> bool {
+    match format!(in alloc; "{fault}") {
+        Ok(found) => found.as_bytes() == text,
+        Err(_) => false,
+    }
+}
+
+// Whether the text is a short form of what a line says, or the text of its fault.
+fn is_said(alloc: Global, text: &[u8], line: &[u8]) -> bool {
     match read_line(alloc, line) {
-        Ok(statement) => put_statement(&mut out, &statement)?,
-        Err(fault) => {
-            let text = format!(in alloc; "{fault}")?;
-            out.extend_from_slice(text.as_bytes())?;
-        }
+        Ok(statement) => is_short_form(text, &statement),
+        Err(fault) => is_text_of(alloc, text, fault),
     }
-    Ok(out)
 }
 
-// So many letters `a`.
-fn letters(alloc: Global, count: usize) -> Result<Vec<u8>, AllocError> {
-    let mut out = Vec::new(alloc);
+fn is_cleaned(alloc: Global, cleaned: &[u8], line: &[u8]) -> bool {
+    match clean(alloc, line) {
+        Ok(text) => text.bytes() == cleaned,
+        Err(_) => false,
+    }
+}
+
+fn check_lines(rt: &impl Abort, alloc: Global, rows: &[(&str, &str)]) {
+    for (line, says) in rows {
+        assert!(rt; is_said(alloc, says.as_bytes(), line.as_bytes()), "{line}");
+    }
+}
+
+#[test]
+fn lines_say_what_their_words_are(rt: HostRuntime) {
+    check_lines(&rt, rt.alloc(), &STATEMENTS);
+}
+
+#[test]
+fn lines_are_refused_at_the_first_bad_word(rt: HostRuntime) {
+    check_lines(&rt, rt.alloc(), &REFUSALS);
+}
+
+// Whether the line is cleaned to that, and that to itself.
+fn stays_clean(alloc: Global, cleaned: &[u8], line: &[u8]) -> bool {
+    is_cleaned(alloc, cleaned, line) && is_cleaned(alloc, cleaned, cleaned)
+}
+
+#[test]
+fn lines_are_cleaned(rt: HostRuntime) {
+    for (line, cleaned) in &CLEANED {
+        assert!(rt;
+            stays_clean(rt.alloc(), cleaned.as_bytes(), line.as_bytes()),
+            "{line}"
+        );
+    }
+}
+
+// A text, and so many letters `a` behind it.
+fn with_letters(alloc: Global, front: &str, count: usize) -> Result<Vec<u8>, AllocError> {
+    let mut out = front.as_bytes().to_vec(alloc)?;
     for _ in 0..count {
         out.push(b'a')?;
     }
     Ok(out)
 }
 
-#[test]
-fn lines_say_what_their_words_are(rt: HostRuntime) -> Result<(), Fail> {
-    for (line, says) in &STATEMENTS {
-        let answer = shown(rt.alloc(), line.as_bytes())?;
-        assert_eq!(rt; answer.as_slice(), says.as_bytes());
-    }
-    Ok(())
-}
+// The beginning of a line, how many letters follow it, and the text of its fault; without one the line says itself.
+static LONG_WORDS: [(&str, usize, &str); 5] = [
+    ("repo ", 1024, ""),
+    ("repo ", 1025, "bad word at 5"),
+    ("X @all = ", 1025, "bad word at 9"),
+    ("", 1025, "bad word at 0"),
+    ("desc = ", 1025, "bad word at 7"),
+];
 
-#[test]
-fn lines_are_refused_at_the_first_bad_word(rt: HostRuntime) -> Result<(), Fail> {
-    for (line, says) in &REFUSALS {
-        let answer = shown(rt.alloc(), line.as_bytes())?;
-        assert_eq!(rt; answer.as_slice(), says.as_bytes());
+fn long_line_is_said(alloc: Global, front: &str, count: usize, fault: &str) -> bool {
+    match with_letters(alloc, front, count) {
+        Ok(line) if fault.is_empty() => is_said(alloc, &line, &line),
+        Ok(line) => is_said(alloc, fault.as_bytes(), &line),
+        Err(_) => false,
     }
-    Ok(())
-}
-
-#[test]
-fn lines_are_cleaned(rt: HostRuntime) -> Result<(), Fail> {
-    for (line, cleaned) in &CLEANED {
-        let text = clean(rt.alloc(), line.as_bytes())?;
-        assert_eq!(rt; text.bytes(), cleaned.as_bytes());
-        let again = clean(rt.alloc(), text.bytes())?;
-        assert_eq!(rt; again.bytes(), cleaned.as_bytes());
-    }
-    Ok(())
 }
 
 // A word of 1,024 bytes is good, and one of 1,025 is reported before every other fault.
 #[test]
-fn a_word_may_have_1024_bytes(rt: HostRuntime) -> Result<(), Fail> {
-    let alloc = rt.alloc();
-    for (front, size, says) in [
-        ("repo ", 1024, "repo "),
-        ("repo ", 1025, "bad word at 5"),
-        ("X @all = ", 1025, "bad word at 9"),
-        ("", 1025, "bad word at 0"),
-        ("desc = ", 1025, "bad word at 7"),
-    ] {
-        let mut line = front.as_bytes().to_vec(alloc)?;
-        line.extend_from_slice(letters(alloc, size)?.as_slice())?;
-        let answer = shown(alloc, line.as_slice())?;
+fn a_word_may_have_1024_bytes(rt: HostRuntime) {
+    for (front, count, fault) in &LONG_WORDS {
         assert!(rt;
-            answer.starts_with(says.as_bytes()),
-            "{front} with {size} letters"
+            long_line_is_said(rt.alloc(), front, *count, fault),
+            "{front} with {count} letters"
         );
     }
-    Ok(())
+}
+
+// Whether a text is read as a user's name where it is one.
+fn user_is(alloc: Global, text: &[u8], is_name: bool) -> bool {
+    match UserName::parse(alloc, text) {
+        Ok(Some(name)) => is_name && name.bytes() == text,
+        Ok(None) => !is_name,
+        Err(_) => false,
+    }
+}
+
+// The same of a repository's name.
+fn repo_is(alloc: Global, text: &[u8], is_name: bool) -> bool {
+    match RepoName::parse(alloc, text) {
+        Ok(Some(name)) => is_name && name.bytes() == text,
+        Ok(None) => !is_name,
+        Err(_) => false,
+    }
 }
 
 #[test]
-fn names_keep_their_rule(rt: HostRuntime) -> Result<(), Fail> {
+fn names_keep_their_rule(rt: HostRuntime) {
     for (name, user, repo) in &NAMES {
-        assert_eq!(rt;
-            UserName::parse(rt.alloc(), name.as_bytes())?.is_some(),
-            *user,
-            "the user {name}"
-        );
-        assert_eq!(rt;
-            RepoName::parse(rt.alloc(), name.as_bytes())?.is_some(),
-            *repo,
-            "the repository {name}"
-        );
-    }
-    for (size, user, repo) in [
-        (64, true, true),
-        (65, false, true),
-        (200, false, true),
-        (201, false, false),
-    ] {
-        let name = letters(rt.alloc(), size)?;
-        assert_eq!(rt;
-            UserName::is_name(name.as_slice()),
-            user,
-            "a user of {size} letters"
-        );
-        assert_eq!(rt;
-            RepoName::is_name(name.as_slice()),
-            repo,
-            "a repository of {size} letters"
-        );
-    }
-    Ok(())
-}
-
-// Names beside numbers, one of them twice.
-static NUMBERED: [(&str, u8); 4] = [("bob", 1), ("Ann", 2), ("ann", 3), ("bob", 4)];
-
-fn user_of(alloc: Global, name: &str) -> Result<UserName, Fail> {
-    match UserName::parse(alloc, name.as_bytes()) {
-        Ok(Some(name)) => Ok(name),
-        _ => Err(Fail::from("a user")),
-    }
-}
-
-fn repo_of(alloc: Global, name: &str) -> Result<RepoName, Fail> {
-    match RepoName::parse(alloc, name.as_bytes()) {
-        Ok(Some(name)) => Ok(name),
-        _ => Err(Fail::from("a repository")),
-    }
-}
-
-// The last number of each user, in the order of the names.
-fn by_user(alloc: Global) -> Result<BTreeMap<UserName, u8>, Fail> {
-    let mut numbers = BTreeMap::new(alloc);
-    for (name, number) in &NUMBERED {
-        numbers.insert(user_of(alloc, name)?, *number)?;
-    }
-    Ok(numbers)
-}
-
-fn by_repo(alloc: Global) -> Result<HashMap<RepoName, u8>, Fail> {
-    let mut numbers = HashMap::new(alloc);
-    for (name, number) in &NUMBERED {
-        numbers.insert(repo_of(alloc, name)?, *number)?;
-    }
-    Ok(numbers)
-}
-
-fn are_in_order(numbers: &BTreeMap<UserName, u8>, wanted: &[u8]) -> bool {
-    let mut left = wanted.iter();
-    for (_, number) in numbers.iter() {
-        if left.next() != Some(number) {
-            return false;
-        }
-    }
-    left.next().is_none()
-}
-
-#[test]
-fn names_are_keys_of_maps(rt: HostRuntime) -> Result<(), Fail> {
-    assert!(rt; are_in_order(&by_user(rt.alloc())?, &[2, 3, 4]));
-    assert_eq!(rt; by_repo(rt.alloc())?.len(), 3);
-    Ok(())
-}
-
-#[test]
-fn copies_of_names_are_equal(rt: HostRuntime) -> Result<(), Fail> {
-    let user = user_of(rt.alloc(), "bob")?;
-    assert!(rt; user == user.clone()?);
-    let repo = repo_of(rt.alloc(), "bob")?;
-    assert!(rt; repo == repo.clone()?);
-    Ok(())
-}
-
-#[test]
-fn permissions_are_read_from_their_words(rt: HostRuntime) -> Result<(), Fail> {
-    for (word, text) in &PERMISSIONS {
-        let perm = Perm::parse(word.as_bytes()).ok_or("a permission")?;
-        assert_eq!(rt; perm.text(), text.as_bytes());
-    }
-    for word in &NO_PERMISSIONS {
+        let (text, alloc) = (name.as_bytes(), rt.alloc());
         assert!(rt;
-            Perm::parse(word.as_bytes()).is_none(),
-            "{word} is no permission"
+            user_is(alloc, text, *user) && repo_is(alloc, text, *repo),
+            "{name}"
         );
     }
-    let perm = Perm::parse(b"RW+D").ok_or("a permission")?;
-    assert!(rt; perm.read && perm.write && perm.rewind && perm.delete);
-    assert!(rt; !perm.deny && !perm.lone_create && !perm.create && !perm.merge);
-    hold_laws();
-    Ok(())
 }
 
-#[test]
-fn words_name_repositories(rt: HostRuntime) -> Result<(), Fail> {
-    for (word, name, kind) in &REPO_WORDS {
-        let answer = repo_word(word.as_bytes());
-        assert_eq!(rt; answer, name.as_bytes());
-        assert!(rt; kind_of(answer) == *kind, "the kind of {word}");
+// How many letters a name has, whether it is a user's, and whether it is a repository's.
+static LENGTHS: [(usize, bool, bool); 4] = [
+    (64, true, true),
+    (65, false, true),
+    (200, false, true),
+    (201, false, false),
+];
+
+fn letters_are_names(alloc: Global, count: usize, user: bool, repo: bool) -> bool {
+    match with_letters(alloc, "", count) {
+        Ok(name) => UserName::is_name(&name) == user && RepoName::is_name(&name) == repo,
+        Err(_) => false,
     }
-    Ok(())
 }
 
 #[test]
-fn faults_have_their_texts(rt: HostRuntime) -> Result<(), Fail> {
-    let text = format!(in rt.alloc(); "{}", LexFault::NoMemory)?;
-    assert_eq!(rt; text.as_str(), "out of memory");
-    Ok(())
+fn names_have_a_length(rt: HostRuntime) {
+    for (count, user, repo) in &LENGTHS {
+        assert!(rt;
+            letters_are_names(rt.alloc(), *count, *user, *repo),
+            "{count} letters"
+        );
+    }
+}
+
+// Two names, and how the first stands to the second.
+static ORDERED: [(&str, &str, Ordering); 4] = [
+    ("Ann", "ann", Ordering::Less),
+    ("ann", "bob", Ordering::Less),
+    ("bob", "ann", Ordering::Greater),
+    ("bob", "bob", Ordering::Equal),
+];
+
+fn hash_of<T: Hash>(value: &T) -> u64 {
+    let mut hasher = DefaultHasher::new();
+    value.hash(&mut hasher);
+    hasher.finish()
+}
+
+// Whether two are ordered so, and are equal, and have one hash, where that says so.
+fn are_ordered<T: Ord + Hash>(first: &T, second: &T, due: Ordering) -> bool {
+    let is_equal = due == Ordering::Equal;
+    first.cmp(second) == due
+        && (first == second) == is_equal
+        && (hash_of(first) == hash_of(second)) == is_equal
+}
+
+fn user_is_beside(alloc: Global, first: &UserName, second: &str, due: Ordering) -> bool {
+    match UserName::parse(alloc, second.as_bytes()) {
+        Ok(Some(second)) => are_ordered(first, &second, due),
+        _ => false,
+    }
+}
+
+fn repo_is_beside(alloc: Global, first: &RepoName, second: &str, due: Ordering) -> bool {
+    match RepoName::parse(alloc, second.as_bytes()) {
+        Ok(Some(second)) => are_ordered(first, &second, due),
+        _ => false,
+    }
+}
+
+fn users_are_ordered(alloc: Global, row: &(&str, &str, Ordering)) -> bool {
+    match UserName::parse(alloc, row.0.as_bytes()) {
+        Ok(Some(first)) => user_is_beside(alloc, &first, row.1, row.2),
+        _ => false,
+    }
+}
+
+fn repos_are_ordered(alloc: Global, row: &(&str, &str, Ordering)) -> bool {
+    match RepoName::parse(alloc, row.0.as_bytes()) {
+        Ok(Some(first)) => repo_is_beside(alloc, &first, row.1, row.2),
+        _ => false,
+    }
+}
+
+// By their bytes, so they may be keys of maps.
+#[test]
+fn names_are_ordered(rt: HostRuntime) {
+    for row in &ORDERED {
+        let alloc = rt.alloc();
+        assert!(rt;
+            users_are_ordered(alloc, row) && repos_are_ordered(alloc, row),
+            "{}",
+            row.0
+        );
+    }
+}
+
+fn has_equal_copy_of_user(user: &UserName) -> bool {
+    match user.clone() {
+        Ok(copy) => copy == *user,
+        Err(_) => false,
+    }
+}
+
+fn has_equal_copy_of_repo(repo: &RepoName) -> bool {
+    match repo.clone() {
+        Ok(copy) => copy == *repo,
+        Err(_) => false,
+    }
+}
+
+fn user_is_copied(alloc: Global, name: &[u8]) -> bool {
+    match UserName::parse(alloc, name) {
+        Ok(Some(user)) => has_equal_copy_of_user(&user),
+        _ => false,
+    }
+}
+
+fn repo_is_copied(alloc: Global, name: &[u8]) -> bool {
+    match RepoName::parse(alloc, name) {
+        Ok(Some(repo)) => has_equal_copy_of_repo(&repo),
+        _ => false,
+    }
+}
+
+#[test]
+fn copies_of_names_are_equal(rt: HostRuntime) {
+    assert!(rt; user_is_copied(rt.alloc(), b"bob") && repo_is_copied(rt.alloc(), b"bob"));
+}
+
+fn is_permission(word: &[u8], text: &[u8]) -> bool {
+    match Perm::parse(word) {
+        Some(perm) => perm.text() == text,
+        None => text.is_empty(),
+    }
+}
+
+#[test]
+fn permissions_are_read_from_their_words(rt: HostRuntime) {
+    for (word, text) in &PERMISSIONS {
+        assert!(rt; is_permission(word.as_bytes(), text.as_bytes()), "{word}");
+    }
+}
+
+// What `RW+D` lets.
+const READ_WRITE_REWIND_DELETE: Perm = Perm {
+    deny: false,
+    lone_create: false,
+    read: true,
+    write: true,
+    rewind: true,
+    create: false,
+    delete: true,
+    merge: false,
+};
+
+#[test]
+fn a_permission_has_its_letters(rt: HostRuntime) {
+    assert!(rt; Perm::parse(b"RW+D") == Some(READ_WRITE_REWIND_DELETE));
+    hold_laws();
+}
+
+fn is_repo_word(word: &[u8], name: &[u8], kind: RepoWordKind) -> bool {
+    repo_word(word) == name && kind_of(name) == kind
+}
+
+#[test]
+fn words_name_repositories(rt: HostRuntime) {
+    for (word, name, kind) in &REPO_WORDS {
+        assert!(rt;
+            is_repo_word(word.as_bytes(), name.as_bytes(), *kind),
+            "{word}"
+        );
+    }
+}
+
+#[test]
+fn faults_have_their_texts(rt: HostRuntime) {
+    assert!(rt; is_text_of(rt.alloc(), b"out of memory", LexFault::NoMemory));
 }

@@ -3,8 +3,8 @@
 ghost use Rattle.std.specs.Prelude.{◌≤◌, length};
 
 use refex::{Hole, MAX_NAME, Refex, RefexFault};
-use std::alloc::Global;
-use std::test::Fail;
+use std::alloc::{AllocError, Global};
+use std::process::Abort;
 
 /// What a pattern says of a text.
 #[derive(Clone, Copy, Debug, PartialEq, Eq)]
@@ -557,154 +557,130 @@ fn wrong_text(refex: &Refex, row: &Row) -> Option<usize> {
     None
 }
 
-/// The first row that has a wrong answer, and the text.
-fn wrong_row(alloc: Global, rows: &[Row]) -> Result<Option<(usize, usize)>, RefexFault> {
-    for (i, row) in rows.iter().enumerate() {
-        let refex = Refex::parse(alloc, row.pattern.as_bytes(), row.hole)?;
-        if let Some(text) = wrong_text(&refex, row) {
-            return Ok(Some((i, text)));
-        }
+fn wrong_text_of(alloc: Global, row: &Row) -> Option<usize> {
+    match Refex::parse(alloc, row.pattern.as_bytes(), row.hole) {
+        Ok(refex) => wrong_text(&refex, row),
+        Err(_) => Some(row.texts.len()),
     }
-    Ok(None)
 }
 
-/// The first text that isn't refused as expected.
-fn wrong_refusal(alloc: Global, rows: &[(&str, Hole, RefexFault)]) -> Option<usize> {
-    for (i, (text, hole, expected)) in rows.iter().enumerate() {
-        match Refex::parse(alloc, text.as_bytes(), *hole) {
-            Ok(_) => return Some(i),
-            Err(fault) => {
-                if fault != *expected {
-                    return Some(i);
-                }
-            }
-        }
+fn check_rows(rt: &impl Abort, alloc: Global, rows: &[Row]) {
+    for row in rows {
+        assert_eq!(rt; wrong_text_of(alloc, row), None, "of {}", row.pattern);
     }
-    None
 }
 
-fn wrong_sequences(alloc: Global) -> Result<Option<(usize, usize)>, RefexFault> {
-    wrong_row(alloc, &SEQUENCES)
+fn is_refused(alloc: Global, text: &str, hole: Hole, fault: RefexFault) -> bool {
+    match Refex::parse(alloc, text.as_bytes(), hole) {
+        Ok(_) => false,
+        Err(found) => found == fault,
+    }
 }
 
-fn wrong_repetitions(alloc: Global) -> Result<Option<(usize, usize)>, RefexFault> {
-    wrong_row(alloc, &REPETITIONS)
-}
-
-fn wrong_counts(alloc: Global) -> Result<Option<(usize, usize)>, RefexFault> {
-    wrong_row(alloc, &COUNTS)
-}
-
-fn wrong_marks(alloc: Global) -> Result<Option<(usize, usize)>, RefexFault> {
-    wrong_row(alloc, &MARKS)
-}
-
-fn wrong_classes(alloc: Global) -> Result<Option<(usize, usize)>, RefexFault> {
-    wrong_row(alloc, &CLASSES)
-}
-
-fn wrong_escapes(alloc: Global) -> Result<Option<(usize, usize)>, RefexFault> {
-    wrong_row(alloc, &ESCAPES)
-}
-
-fn wrong_holes(alloc: Global) -> Result<Option<(usize, usize)>, RefexFault> {
-    wrong_row(alloc, &HOLES)
-}
-
-fn wrong_more_holes(alloc: Global) -> Result<Option<(usize, usize)>, RefexFault> {
-    wrong_row(alloc, &MORE_HOLES)
-}
-
-fn wrong_long_names(alloc: Global) -> Result<Option<(usize, usize)>, RefexFault> {
-    wrong_row(alloc, &LONG_NAMES)
-}
-
-fn wrong_refused_groups(alloc: Global) -> Option<usize> {
-    wrong_refusal(alloc, &REFUSED_GROUPS)
-}
-
-fn wrong_refused_repetitions(alloc: Global) -> Option<usize> {
-    wrong_refusal(alloc, &REFUSED_REPETITIONS)
-}
-
-fn wrong_refused_counts(alloc: Global) -> Option<usize> {
-    wrong_refusal(alloc, &REFUSED_COUNTS)
-}
-
-fn wrong_refused_classes(alloc: Global) -> Option<usize> {
-    wrong_refusal(alloc, &REFUSED_CLASSES)
-}
-
-fn wrong_too_large(alloc: Global) -> Option<usize> {
-    wrong_refusal(alloc, &TOO_LARGE)
+fn check_refusals(rt: &impl Abort, alloc: Global, rows: &[(&str, Hole, RefexFault)]) {
+    for (text, hole, fault) in rows {
+        assert!(rt; is_refused(alloc, text, *hole, *fault), "of {text}");
+    }
 }
 
 #[test]
-fn matches_texts(rt: HostRuntime) -> Result<(), Fail> {
-    assert_eq!(rt; wrong_sequences(rt.alloc())?, None);
-    assert_eq!(rt; wrong_repetitions(rt.alloc())?, None);
-    assert_eq!(rt; wrong_counts(rt.alloc())?, None);
-    assert_eq!(rt; wrong_marks(rt.alloc())?, None);
-    assert_eq!(rt; wrong_classes(rt.alloc())?, None);
-    assert_eq!(rt; wrong_escapes(rt.alloc())?, None);
-    assert_eq!(rt; wrong_holes(rt.alloc())?, None);
-    assert_eq!(rt; wrong_more_holes(rt.alloc())?, None);
-    assert_eq!(rt; wrong_long_names(rt.alloc())?, None);
-    Ok(())
+fn matches_texts(rt: HostRuntime) {
+    check_rows(&rt, rt.alloc(), &SEQUENCES);
+    check_rows(&rt, rt.alloc(), &REPETITIONS);
+    check_rows(&rt, rt.alloc(), &COUNTS);
+    check_rows(&rt, rt.alloc(), &MARKS);
+    check_rows(&rt, rt.alloc(), &CLASSES);
+    check_rows(&rt, rt.alloc(), &ESCAPES);
+    check_rows(&rt, rt.alloc(), &HOLES);
+    check_rows(&rt, rt.alloc(), &MORE_HOLES);
+    check_rows(&rt, rt.alloc(), &LONG_NAMES);
 }
 
 #[test]
 fn refuses_texts(rt: HostRuntime) {
-    assert_eq!(rt; wrong_refused_groups(rt.alloc()), None);
-    assert_eq!(rt; wrong_refused_repetitions(rt.alloc()), None);
-    assert_eq!(rt; wrong_refused_counts(rt.alloc()), None);
-    assert_eq!(rt; wrong_refused_classes(rt.alloc()), None);
-    assert_eq!(rt; wrong_too_large(rt.alloc()), None);
+    check_refusals(&rt, rt.alloc(), &REFUSED_GROUPS);
+    check_refusals(&rt, rt.alloc(), &REFUSED_REPETITIONS);
+    check_refusals(&rt, rt.alloc(), &REFUSED_COUNTS);
+    check_refusals(&rt, rt.alloc(), &REFUSED_CLASSES);
+    check_refusals(&rt, rt.alloc(), &TOO_LARGE);
 }
 
-#[test]
-fn reads_the_largest_and_knows_its_hole(rt: HostRuntime) -> Result<(), Fail> {
-    for (text, hole, expected) in [
-        ("refs/heads/a{116}", Hole::User, false),
-        ("refs/heads/personal/USER/a{42}", Hole::User, true),
-        ("(((){127}){127}){127}", Hole::Nothing, false),
-        ("CREATOR{1}a{63}", Hole::Creator, true),
-        ("CREATOR{0}", Hole::Creator, true),
-        ("[CREATOR]x", Hole::Creator, false),
-        ("x/USER/", Hole::User, true),
-        ("xUSER/", Hole::User, false),
-    ] {
-        let refex = Refex::parse(rt.alloc(), text.as_bytes(), hole)?;
-        assert_eq!(rt; refex.has_hole(), expected, "of {text}");
+// The largest patterns, and whether a pattern has its hole.
+static HOLED: [(&str, Hole, bool); 8] = [
+    ("refs/heads/a{116}", Hole::User, false),
+    ("refs/heads/personal/USER/a{42}", Hole::User, true),
+    ("(((){127}){127}){127}", Hole::Nothing, false),
+    ("CREATOR{1}a{63}", Hole::Creator, true),
+    ("CREATOR{0}", Hole::Creator, true),
+    ("[CREATOR]x", Hole::Creator, false),
+    ("x/USER/", Hole::User, true),
+    ("xUSER/", Hole::User, false),
+];
+
+fn is_holed(alloc: Global, text: &str, hole: Hole, due: bool) -> bool {
+    match Refex::parse(alloc, text.as_bytes(), hole) {
+        Ok(refex) => refex.has_hole() == due,
+        Err(_) => false,
     }
-    Ok(())
 }
 
 #[test]
-fn groups_nest_up_to_half_the_longest_text(rt: HostRuntime) -> Result<(), Fail> {
-    let mut text = Vec::new(rt.alloc());
+fn reads_the_largest_and_knows_its_hole(rt: HostRuntime) {
+    for (text, hole, due) in &HOLED {
+        assert!(rt; is_holed(rt.alloc(), text, *hole, *due), "of {text}");
+    }
+}
+
+// 500 groups, each inside the one before.
+fn nested(alloc: Global) -> Result<Vec<u8>, AllocError> {
+    let mut text = Vec::new(alloc);
     for place in 0..1000 {
         text.push(if place < 500 { b'(' } else { b')' })?;
     }
-    let refex = Refex::parse(rt.alloc(), &text, Hole::Nothing)?;
-    assert!(rt; refex.whole(b"", b"") && !refex.whole(b"a", b""));
-    Ok(())
+    Ok(text)
+}
+
+fn is_for_nothing_alone(alloc: Global, text: &[u8]) -> bool {
+    match Refex::parse(alloc, text, Hole::Nothing) {
+        Ok(refex) => refex.whole(b"", b"") && !refex.whole(b"a", b""),
+        Err(_) => false,
+    }
+}
+
+fn nested_is_for_nothing_alone(alloc: Global) -> bool {
+    match nested(alloc) {
+        Ok(text) => is_for_nothing_alone(alloc, &text),
+        Err(_) => false,
+    }
 }
 
 #[test]
-fn faults_have_their_texts(rt: HostRuntime) -> Result<(), Fail> {
-    for (fault, text) in [
-        (RefexFault::Syntax(0), "bad pattern at 0"),
-        (
-            RefexFault::TooManyPositions(65535),
-            "pattern has 65535 positions",
-        ),
-        (RefexFault::Unsupported(12), "pattern not supported at 12"),
-        (RefexFault::NoMemory, "out of memory"),
-    ] {
-        assert!(rt; fault.to_string(rt.alloc())?.as_str() == text, "of {text}");
+fn groups_nest_up_to_half_the_longest_text(rt: HostRuntime) {
+    assert!(rt; nested_is_for_nothing_alone(rt.alloc()));
+}
+
+static FAULTS: [(RefexFault, &str); 4] = [
+    (RefexFault::Syntax(0), "bad pattern at 0"),
+    (
+        RefexFault::TooManyPositions(65535),
+        "pattern has 65535 positions",
+    ),
+    (RefexFault::Unsupported(12), "pattern not supported at 12"),
+    (RefexFault::NoMemory, "out of memory"),
+];
+
+fn is_text_of(alloc: Global, text: &str, fault: RefexFault) -> bool {
+    match fault.to_string(alloc) {
+        Ok(found) => found.as_str() == text,
+        Err(_) => false,
     }
-    Ok(())
+}
+
+#[test]
+fn faults_have_their_texts(rt: HostRuntime) {
+    for (fault, text) in &FAULTS {
+        assert!(rt; is_text_of(rt.alloc(), text, *fault), "of {text}");
+    }
 }
 
 /// The caller of the README.
@@ -716,18 +692,27 @@ fn may_push(alloc: Global, ref_name: &[u8], user: &[u8]) -> Result<bool, RefexFa
 }
 
 #[test]
-fn users_push_to_branches_of_their_own(rt: HostRuntime) -> Result<(), Fail> {
-    assert!(rt; may_push(rt.alloc(), b"refs/heads/personal/cal/x", b"cal")?);
-    assert!(rt; !may_push(rt.alloc(), b"refs/heads/personal/calvin/x", b"cal")?);
-    Ok(())
+fn users_push_to_branches_of_their_own(rt: HostRuntime) {
+    let own = may_push(rt.alloc(), b"refs/heads/personal/cal/x", b"cal");
+    let other = may_push(rt.alloc(), b"refs/heads/personal/calvin/x", b"cal");
+    assert!(rt; own == Ok(true) && other == Ok(false));
 }
 
 fn crosses_threads<T: Send + Sync + Drop>(_value: T) {}
 
+fn is_sent(alloc: Global) -> bool {
+    match Refex::parse(alloc, b"a", Hole::Nothing) {
+        Ok(refex) => {
+            crosses_threads(refex);
+            true
+        }
+        Err(_) => false,
+    }
+}
+
 #[test]
-fn a_pattern_may_be_shared(rt: HostRuntime) -> Result<(), Fail> {
-    crosses_threads(Refex::parse(rt.alloc(), b"a", Hole::Nothing)?);
-    Ok(())
+fn a_pattern_may_be_shared(rt: HostRuntime) {
+    assert!(rt; is_sent(rt.alloc()));
 }
 
 #[test]

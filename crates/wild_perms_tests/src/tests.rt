@@ -1,119 +1,175 @@
+//! Roles that are given, taken and listed, whose answers were worked out by hand from the rules.
+
 use std::alloc::Global;
+use std::process::Abort;
 use std::test::Fail;
-use wild_perms::{PermsAnswer, RoleList, UserName, Wild};
+use wild_perms::{PermsAnswer, RoleEntry, UserName, Wild};
 
-// What is asked: a role for a user, or from one, or all roles.
-#[derive(Clone, Copy)]
-enum Asked<'a> {
-    Grant(&'a str, &'a str),
-    Revoke(&'a str, &'a str),
-    List,
-}
+// Who asks; what is asked, as in a session, and of which role and user (of a listing neither counts); the answer's number; and what is listed, each entry a
+// role and a user with a space between and a comma behind.
+type Row = (
+    &'static str,
+    &'static str,
+    &'static str,
+    &'static str,
+    u8,
+    &'static str,
+);
 
-fn user(alloc: Global, name: &str) -> Result<UserName, Fail> {
+// In a repository that alice created, one behind the other.
+static OF_ALICE: [Row; 16] = [
+    ("alice", "-l", "", "bob", 6, ""),
+    ("alice", "+", "READERS", "bob", 1, ""),
+    ("alice", "+", "READERS", "bob", 2, ""),
+    ("alice", "+", "WRITERS", "bob", 1, ""),
+    ("alice", "+", "READERS", "al", 1, ""),
+    ("alice", "+", "READERS", "carol", 1, ""),
+    ("alice", "+", "OWNERS", "bob", 5, ""),
+    ("bob", "+", "OWNERS", "bob", 5, ""),
+    ("bob", "+", "READERS", "carol", 4, ""),
+    ("bob", "-", "READERS", "bob", 4, ""),
+    ("bob", "-l", "", "bob", 4, ""),
+    (
+        "alice",
+        "-l",
+        "",
+        "bob",
+        6,
+        "READERS al,READERS bob,READERS carol,WRITERS bob,",
+    ),
+    ("alice", "-", "READERS", "bob", 1, ""),
+    ("alice", "-", "READERS", "bob", 2, ""),
+    ("alice", "-", "READER", "al", 5, ""),
+    (
+        "alice",
+        "-l",
+        "",
+        "bob",
+        6,
+        "READERS al,READERS carol,WRITERS bob,",
+    ),
+];
+
+// In one that nobody created.
+static OF_NOBODY: [Row; 4] = [
+    ("alice", "+", "READERS", "bob", 3, ""),
+    ("alice", "-", "WRITERS", "bob", 3, ""),
+    ("alice", "+", "CREATOR", "bob", 5, ""),
+    ("alice", "-l", "", "bob", 3, ""),
+];
+
+fn user(alloc: Global, name: &str) -> Option<UserName> {
     match UserName::parse(alloc, name.as_bytes()) {
-        Ok(Some(name)) => Ok(name),
-        _ => Err(Fail::from("a user's name")),
+        Ok(name) => name,
+        Err(_) => None,
     }
 }
 
-fn ask(alloc: Global, wild: &mut Wild, asker: &str, asked: Asked<'_>) -> Result<PermsAnswer, Fail> {
-    let asker = user(alloc, asker)?;
-    match asked {
-        Asked::Grant(role, name) => Ok(wild.grant(&asker, role.as_bytes(), &user(alloc, name)?)),
-        Asked::Revoke(role, name) => Ok(wild.revoke(&asker, role.as_bytes(), &user(alloc, name)?)),
-        Asked::List => Ok(wild.list(&asker)),
+fn ask(wild: &mut Wild, row: &Row, asker: &UserName, user: &UserName) -> PermsAnswer {
+    match row.1 {
+        "+" => wild.grant(asker, row.2.as_bytes(), user),
+        "-" => wild.revoke(asker, row.2.as_bytes(), user),
+        _ => wild.list(asker),
     }
 }
 
-// The entries of a list, each a role and a user with a space between and a comma behind.
-fn text_of(alloc: Global, roles: &RoleList) -> Result<Vec<u8>, Fail> {
-    let mut text = Vec::new(alloc);
-    for entry in roles.as_slice() {
-        text.extend_from_slice(entry.role.bytes())?;
-        text.push(b' ')?;
-        text.extend_from_slice(entry.user.bytes())?;
-        text.push(b',')?;
-    }
-    Ok(text)
+// What follows an entry in the text of a list; none where it isn't the next there.
+fn behind<'a>(text: &'a [u8], entry: &RoleEntry) -> Option<&'a [u8]> {
+    text.strip_prefix(entry.role.bytes())?
+        .strip_prefix(b" ".as_slice())?
+        .strip_prefix(entry.user.bytes())?
+        .strip_prefix(b",".as_slice())
 }
 
-// What is listed by an answer; nothing by others.
-fn listed(alloc: Global, answer: &PermsAnswer) -> Result<Vec<u8>, Fail> {
+fn are_listed(roles: &[RoleEntry], text: &[u8]) -> bool {
+    let mut rest = text;
+    for entry in roles {
+        match behind(rest, entry) {
+            Some(next) => rest = next,
+            None => return false,
+        }
+    }
+    rest.is_empty()
+}
+
+// Whether just this is listed by an answer; others list nothing.
+fn is_listed(answer: &PermsAnswer, text: &[u8]) -> bool {
     match answer {
-        PermsAnswer::Listed(roles) => text_of(alloc, roles),
-        _ => Ok(Vec::new(alloc)),
+        PermsAnswer::Listed(roles) => are_listed(roles.as_slice(), text),
+        _ => text.is_empty(),
     }
 }
 
-// The first row of the table that is answered otherwise: who asks what, the answer's number, and what is listed.
-fn answered_otherwise(
-    alloc: Global,
-    wild: &mut Wild,
-    rows: &[(&str, Asked<'_>, u8, &str)],
-) -> Result<Option<usize>, Fail> {
-    for i in 0..rows.len() {
-        let (asker, asked, number, roles) = rows[i];
-        let answer = ask(alloc, wild, asker, asked)?;
-        if answer.number() != number {
-            return Ok(Some(i));
-        }
-        if listed(alloc, &answer)?.as_slice() != roles.as_bytes() {
-            return Ok(Some(i));
-        }
+fn is_due(answer: &PermsAnswer, row: &Row) -> bool {
+    answer.number() == row.4 && is_listed(answer, row.5.as_bytes())
+}
+
+fn is_answered_to(alloc: Global, wild: &mut Wild, row: &Row, asker: &UserName) -> bool {
+    match user(alloc, row.3) {
+        Some(user) => is_due(&ask(wild, row, asker, &user), row),
+        None => false,
     }
-    Ok(None)
+}
+
+fn is_answered(alloc: Global, wild: &mut Wild, row: &Row) -> bool {
+    match user(alloc, row.0) {
+        Some(asker) => is_answered_to(alloc, wild, row, &asker),
+        None => false,
+    }
+}
+
+// What the rows of alice leave.
+fn has_what_is_left(wild: &Wild, alice: &UserName, bob: &UserName) -> bool {
+    wild.holds(b"WRITERS", bob) && !wild.holds(b"READERS", bob) && wild.creator() == Some(alice)
+}
+
+fn has_copy_of_it(wild: &Wild, alice: &UserName, bob: &UserName) -> bool {
+    match wild.copy() {
+        Ok(copy) => has_what_is_left(&copy, alice, bob),
+        Err(_) => false,
+    }
+}
+
+fn is_copied_of(alloc: Global, wild: &Wild, alice: &UserName) -> bool {
+    match user(alloc, "bob") {
+        Some(bob) => has_copy_of_it(wild, alice, &bob),
+        None => false,
+    }
+}
+
+fn is_copied(alloc: Global, wild: &Wild) -> bool {
+    match user(alloc, "alice") {
+        Some(alice) => is_copied_of(alloc, wild, &alice),
+        None => false,
+    }
+}
+
+fn check_rows(rt: &impl Abort, alloc: Global, wild: &mut Wild, rows: &[Row]) {
+    for i in 0..rows.len() {
+        assert!(rt; is_answered(alloc, wild, &rows[i]), "row {i}");
+    }
 }
 
 #[test]
 fn roles_of_a_repository(rt: HostRuntime) -> Result<(), Fail> {
-    use Asked::{Grant, List, Revoke};
-    let alloc = rt.alloc();
-    let mut wild = Wild::born(alloc, user(alloc, "alice")?);
-    let rows = [
-        ("alice", List, 6, ""),
-        ("alice", Grant("READERS", "bob"), 1, ""),
-        ("alice", Grant("READERS", "bob"), 2, ""),
-        ("alice", Grant("WRITERS", "bob"), 1, ""),
-        ("alice", Grant("READERS", "al"), 1, ""),
-        ("alice", Grant("READERS", "carol"), 1, ""),
-        ("alice", Grant("OWNERS", "bob"), 5, ""),
-        ("bob", Grant("OWNERS", "bob"), 5, ""),
-        ("bob", Grant("READERS", "carol"), 4, ""),
-        ("bob", Revoke("READERS", "bob"), 4, ""),
-        ("bob", List, 4, ""),
-        (
-            "alice",
-            List,
-            6,
-            "READERS al,READERS bob,READERS carol,WRITERS bob,",
-        ),
-        ("alice", Revoke("READERS", "bob"), 1, ""),
-        ("alice", Revoke("READERS", "bob"), 2, ""),
-        ("alice", Revoke("READER", "al"), 5, ""),
-        ("alice", List, 6, "READERS al,READERS carol,WRITERS bob,"),
-    ];
-    assert_eq!(rt; answered_otherwise(alloc, &mut wild, &rows)?, None);
-    let copy = wild.copy().map_err(|_| "memory")?;
-    let bob = user(alloc, "bob")?;
-    assert!(rt; copy.holds(b"WRITERS", &bob) && !copy.holds(b"READERS", &bob));
-    assert!(rt; copy.creator() == Some(&user(alloc, "alice")?));
+    let alice = user(rt.alloc(), "alice").ok_or("a user's name")?;
+    let mut wild = Wild::born(rt.alloc(), alice);
+    check_rows(&rt, rt.alloc(), &mut wild, &OF_ALICE);
+    assert!(rt; is_copied(rt.alloc(), &wild));
     Ok(())
 }
 
+fn is_reader(alloc: Global, wild: &Wild, name: &str) -> bool {
+    match user(alloc, name) {
+        Some(user) => wild.holds(b"READERS", &user),
+        None => true,
+    }
+}
+
 #[test]
-fn nobody_created_it(rt: HostRuntime) -> Result<(), Fail> {
-    use Asked::{Grant, List, Revoke};
-    let alloc = rt.alloc();
-    let mut wild = Wild::plain(alloc);
-    let rows = [
-        ("alice", Grant("READERS", "bob"), 3, ""),
-        ("alice", Revoke("WRITERS", "bob"), 3, ""),
-        ("alice", Grant("CREATOR", "bob"), 5, ""),
-        ("alice", List, 3, ""),
-    ];
-    assert_eq!(rt; answered_otherwise(alloc, &mut wild, &rows)?, None);
+fn nobody_created_it(rt: HostRuntime) {
+    let mut wild = Wild::plain(rt.alloc());
+    check_rows(&rt, rt.alloc(), &mut wild, &OF_NOBODY);
     assert!(rt; wild.creator().is_none());
-    assert!(rt; !wild.holds(b"READERS", &user(alloc, "bob")?));
-    Ok(())
+    assert!(rt; !is_reader(rt.alloc(), &wild, "bob"));
 }
