@@ -55,7 +55,8 @@ impl Clone for Layer {
 // A look-up goes through all tables, so no more than these are put beside one another unjoined.
 const MANY: usize = 40;
 
-/// Tables, the oldest first. Each has at least twice as many verdicts as the next, so there are few. A clone shares them.
+/// Tables, the oldest first. Those that were joined have at least twice as many verdicts as the next; with those that were put beside them unjoined
+/// there are few. A clone shares them.
 #[derive(Drop)]
 pub struct Layers {
     layers: Vec<Layer>,

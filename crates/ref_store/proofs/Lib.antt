@@ -5,3 +5,4 @@ pub mod SegmentLemmas
 pub mod RefLemmas
 pub mod ApartLemmas
 pub mod OddsLemmas
+pub mod BlockLemmas

@@ -1,11 +1,53 @@
 -- Lists of bytes.
-use Rattle.std.proofs.Common.{◌≡◌, ℕ, List, ◌<◌, ◌+◌, length, drop, ◌||◌, nat_eq, sym, ◌∙◌, ap}
-use Rattle.std.proofs.lemmas.List.{drop_more}
-use Rattle.std.specs.List.{starts_with}
+use Rattle.std.proofs.Common.{◌≡◌, ℕ, zero, suc, List, [], ◌∷◌, ◌<◌, ◌≤◌, ◌-◌, Bool, true, false, ◌&&◌, ◌||◌, length, drop, get_or, nat_eq, refl, sym, ◌∙◌, ap, subst, arith}
+use Rattle.std.proofs.lemmas.Bool.Decides.{nat_tests}
 use Rattle.ref_store.specs.RefName.{occurs}
 
--- the part stands somewhere in what is left of the text, or begins it
-pub occurs_here : (part text : List ℕ) (i : ℕ) → i < length text → occurs part (drop i text) ≡ (starts_with nat_eq (drop i text) part || occurs part (drop (i + 1) text))
-occurs_here part text i below =
-    let here = drop_more text i 0 below in
-    ap (occurs part) here ∙ ap (λ l. starts_with nat_eq l part || occurs part (drop (i + 1) text)) (sym here)
+both_of_two : (p q : Bool) → (p && (q && true)) ≡ (p && q)
+both_of_two true true = refl
+both_of_two true false = refl
+both_of_two false q = refl
+
+never_both : (p : Bool) → ((p && false) || false) ≡ false
+never_both true = refl
+never_both false = refl
+
+pair_at : (a b : ℕ) (text : List ℕ) (i : ℕ) → suc i < length text → occurs (a ∷ b ∷ []) (drop i text) ≡ ((nat_eq a (get_or text i 0) && nat_eq b (get_or text (suc i) 0)) || occurs (a ∷ b ∷ []) (drop (suc i) text))
+pair_at a b [] i below = absurd (omega (arith, below))
+pair_at a b (x ∷ []) i below = absurd (omega (arith, below))
+pair_at a b (x ∷ y ∷ rest) zero below = ap (λ p. p || occurs (a ∷ b ∷ []) (y ∷ rest)) (both_of_two (nat_eq a x) (nat_eq b y))
+pair_at a b (x ∷ y ∷ rest) (suc i) below = pair_at a b (y ∷ rest) i (omega (arith, below))
+
+-- two bytes stand beside one another in what is left of the text, or begin it
+pair_before : (a b : ℕ) (text : List ℕ) (i : ℕ) → 1 ≤ i → i < length text → occurs (a ∷ b ∷ []) (drop (i - 1) text) ≡ ((nat_eq a (get_or text (i - 1) 0) && nat_eq b (get_or text i 0)) || occurs (a ∷ b ∷ []) (drop i text))
+pair_before a b text i one below =
+    subst (λ n. occurs (a ∷ b ∷ []) (drop (i - 1) text) ≡ ((nat_eq a (get_or text (i - 1) 0) && nat_eq b (get_or text n 0)) || occurs (a ∷ b ∷ []) (drop n text)))
+    (omega (arith, one)) (pair_at a b text (i - 1) (omega (arith, one, below)))
+
+pub pair_here : (a b : ℕ) (text : List ℕ) (i : ℕ) → 1 ≤ i → i < length text → get_or text (i - 1) 0 ≡ a → get_or text i 0 ≡ b → occurs (a ∷ b ∷ []) (drop (i - 1) text) ≡ true
+pair_here a b text i one below first second =
+    let is_first : nat_eq a (get_or text (i - 1) 0) ≡ true = grind (arith, nat_tests, first) in
+    let is_second : nat_eq b (get_or text i 0) ≡ true = grind (arith, nat_tests, second) in
+    pair_before a b text i one below ∙ ap (λ p. (p && nat_eq b (get_or text i 0)) || occurs (a ∷ b ∷ []) (drop i text)) is_first ∙ ap (λ p. p || occurs (a ∷ b ∷ []) (drop i text)) is_second
+
+pub pair_later : (a b : ℕ) (text : List ℕ) (i : ℕ) → 1 ≤ i → i < length text → (get_or text (i - 1) 0 ≡ a → get_or text i 0 ≡ b → ⊥) → occurs (a ∷ b ∷ []) (drop i text) ≡ occurs (a ∷ b ∷ []) (drop (i - 1) text)
+pair_later a b text i one below other = sym (pair_before a b text i one below ∙ ap (λ p. p || occurs (a ∷ b ∷ []) (drop i text)) (by_tests (nat_eq a (get_or text (i - 1) 0)) refl (nat_eq b (get_or text i 0)) refl))
+  where
+    by_tests : (p : Bool) → nat_eq a (get_or text (i - 1) 0) ≡ p → (q : Bool) → nat_eq b (get_or text i 0) ≡ q → (p && q) ≡ false
+    by_tests false _ q _ = refl
+    by_tests true is false _ = refl
+    by_tests true is true also =
+        let first : get_or text (i - 1) 0 ≡ a = grind (arith, nat_tests, is) in
+        let second : get_or text i 0 ≡ b = grind (arith, nat_tests, also) in
+        absurd (other first second)
+
+no_pair_at : (a b : ℕ) (text : List ℕ) (i : ℕ) → length text ≤ suc i → occurs (a ∷ b ∷ []) (drop i text) ≡ false
+no_pair_at a b [] zero past = refl
+no_pair_at a b [] (suc i) past = refl
+no_pair_at a b (x ∷ []) zero past = never_both (nat_eq a x)
+no_pair_at a b (x ∷ y ∷ rest) zero past = absurd (omega (arith, past))
+no_pair_at a b (x ∷ rest) (suc i) past = no_pair_at a b rest i (omega (arith, past))
+
+-- and not in its last byte
+pub no_pair_past : (a b : ℕ) (text : List ℕ) (i : ℕ) → length text ≤ i → occurs (a ∷ b ∷ []) (drop (i - 1) text) ≡ false
+no_pair_past a b text i past = no_pair_at a b text (i - 1) (omega (arith, past))

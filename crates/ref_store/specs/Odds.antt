@@ -1,5 +1,6 @@
 -- Steps on the way to a ref that can't stand beside a name.
-use Rattle.std.specs.Prelude.{◌≡◌, ℕ, suc, ◌==◌, [], ◌∷◌, take, get_or, Option, None, Some, IsSome, if◌then◌else◌}
+use Rattle.std.specs.Prelude.{◌≡◌, ℕ, suc, ◌+◌, ◌==◌, nat_eq, nat_le, Bool, ◌&&◌, [], ◌∷◌, length, take, slice_range, get_or, Option, None, Some, IsSome, if◌then◌else◌}
+use lib.Pointwise.{pointwise}
 use Rattle.std.specs.FinMap.{get}
 use Rattle.ref_store.specs.Refs.{Name, Refs, IsBelow, IsLeastAtOdds}
 
@@ -21,3 +22,7 @@ abbrev pub common : Name → Name → ℕ
 common [] b = 0
 common (x ∷ a) [] = 0
 common (x ∷ a) (y ∷ b) = if x == y then suc (common a b) else 0
+
+-- two names have the same block of 64 bytes at a place
+abbrev pub has_same_block : Name → Name → ℕ → Bool
+has_same_block a b at = nat_le (at + 64) (length a) && nat_le (at + 64) (length b) && pointwise nat_eq (slice_range a at (at + 64)) (slice_range b at (at + 64))

@@ -18,6 +18,7 @@ use std::marker::Model;
 pub struct Lens {
     kept: Segments,
     pack: ObjectTable,
+    salt: Salt,
 }
 
 impl Model for Lens {
@@ -31,18 +32,19 @@ impl Model for Lens {
 }
 
 impl Lens {
-    /// Holds handles of the pack's objects; their bodies are shared. It costs the pack.
+    /// Holds handles of the pack's objects; their bodies are shared. It costs the pack, and the number of the segments.
     pub fn new(alloc: Global, repo: &Repo, pack: &ObjectList) -> Result<Lens, NoMemory>
         ensures { IfOk result (λ l. l ≡ repo.now.objects ++ pack.now) }
     {
         let kept = repo.kept().copy()?;
         let pack = ObjectTable::of(alloc, pack.as_slice())?;
-        Ok(Lens { kept, pack })
+        let salt = kept.salt().joined(pack.salt());
+        Ok(Lens { kept, pack, salt })
     }
 
-    /// A salt for tables of these objects' names. All of them go into it, so none is known before all are chosen. It costs the number of the segments.
+    /// A salt for tables of these objects' names. All of them go into it, so none is known before all are chosen.
     pub fn salt(&self) -> Salt {
-        self.kept.salt().joined(self.pack.salt())
+        self.salt
     }
 
     /// How many objects there are.

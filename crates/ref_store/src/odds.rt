@@ -1,11 +1,13 @@
 // Which ref can't stand beside a name.
-ghost use Rattle.std.specs.Prelude.{◌≡◌, ◌++◌, ◌∷◌, ◌<◌, [], IfOk, length};
-ghost use Rattle.ref_store.specs.Odds.{common, HasNoDirectory, TellsOfDirectory, TellsOfPlace};
+ghost use Rattle.std.specs.Prelude.{◌≡◌, ◌+◌, ◌++◌, ◌∷◌, ◌<◌, ◌≤◌, [], drop, IfOk, length};
+ghost use Rattle.ref_store.specs.Odds.{common, has_same_block, HasNoDirectory, TellsOfDirectory, TellsOfPlace};
 ghost use Rattle.ref_store.specs.Refs.{HasRefsApart, TellsOfOdds};
 
 use crate::ref_map::RefMap;
 use base_types::{NoMemory, Text};
 use std::alloc::Global;
+
+const BLOCK: usize = 64;
 
 /// The least ref that is a directory of the name or stands below it. Either is next to the name in the order of names, so it costs a few look-ups.
 pub fn at_odds(alloc: Global, refs: &RefMap, name: &[u8]) -> Result<Option<Text>, NoMemory>
@@ -34,11 +36,11 @@ fn directory(alloc: Global, refs: &RefMap, name: &[u8]) -> Result<Option<Text>, 
     dir_at(alloc, refs, name, end)
 }
 
-// How many bytes two names have in common at the front.
+// How many bytes two names have in common at the front. Blocks that are the same are passed over as a whole.
 fn common_len(first: &[u8], second: &[u8]) -> usize
     ensures { result ≡ common first.now second.now }
 {
-    for i in 0..first.len() {
+    for i in common_blocks(first, second)..first.len() {
         if i >= second.len() {
             return i;
         }
@@ -47,6 +49,30 @@ fn common_len(first: &[u8], second: &[u8]) -> usize
         }
     }
     first.len()
+}
+
+// How many bytes lie in the blocks at the front that two names have in common.
+fn common_blocks(first: &[u8], second: &[u8]) -> usize
+    ensures within { result ≤ length first.now }
+    ensures common { common first.now second.now ≡ result + common (drop result first.now) (drop result second.now) }
+{
+    let mut at = 0;
+    while has_same_block(first, second, at) {
+        at += BLOCK;
+    }
+    at
+}
+
+// Whether two names have the same block at this place.
+fn has_same_block(first: &[u8], second: &[u8], at: usize) -> bool
+    requires { at ≤ length first.now }
+    ensures { result ≡ has_same_block first.now second.now at }
+{
+    let end = at.saturating_add(BLOCK);
+    match (first.get(at..end), second.get(at..end)) {
+        (Some(one), Some(two)) => one == two,
+        _ => false,
+    }
 }
 
 // The directory that ends at this place, if it is a ref.

@@ -1,5 +1,5 @@
 // Names of refs.
-ghost use Rattle.std.specs.Prelude.{◌≡◌, ◌==◌, IfOk, if◌then◌else◌, length, nat_eq, nat_le, None, Some, true};
+ghost use Rattle.std.specs.Prelude.{◌≡◌, ◌==◌, ◌∷◌, [], IfOk, if◌then◌else◌, length, nat_eq, nat_le, None, Some, true};
 ghost use Rattle.std.specs.List.{count_by, list_all};
 ghost use Rattle.std.proofs.Common.{rules};
 ghost use Rattle.std.specs.Cmp.Rules.{comparing};
@@ -104,7 +104,7 @@ fn is_ref_name(text: &[u8]) -> bool
     if !has_three_pieces(text) || !all_pieces(text) || !all_ref_bytes(text) {
         return false;
     }
-    !occurs(b"..", text) && !occurs(b"@{", text) && !text.ends_with(b".")
+    !occurs(b'.', b'.', text) && !occurs(b'@', b'{', text) && !text.ends_with(b".")
 }
 
 fn all_ref_bytes(text: &[u8]) -> bool
@@ -147,12 +147,12 @@ fn all_pieces(text: &[u8]) -> bool
     text.split(|c| *c == b'/').all(|piece| is_piece(piece))
 }
 
-// Whether the part stands somewhere in the text.
-fn occurs(part: &[u8], text: &[u8]) -> bool
-    ensures { result ≡ occurs part.now text.now }
+// Whether one byte stands before the other somewhere in the text.
+fn occurs(first: u8, second: u8, text: &[u8]) -> bool
+    ensures { result ≡ occurs (first ∷ second ∷ []) text.now }
 {
-    for i in 0..text.len() {
-        if text.split_at(i).1.starts_with(part) {
+    for i in 1..text.len() {
+        if text[i - 1] == first && text[i] == second {
             return true;
         }
     }
