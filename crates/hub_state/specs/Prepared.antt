@@ -1,14 +1,14 @@
 -- What a pack adds to objects, where that is found out before it is known whether they stay.
-use Rattle.std.specs.Prelude.{◌≡◌, List, ◌++◌, Option, None, Some}
+use Rattle.std.specs.Prelude.{◌≡◌, List, ◌++◌, Option, None, Some, IfSome}
 use Rattle.git_object.specs.Content.{Content}
 use Rattle.ref_store.specs.Fresh.{Fresh}
 use Rattle.ref_store.specs.Store.{TellsOfComparing}
 use Rattle.ref_store.specs.declared.repo.Compared.TheVariants as beside
 
--- what a pack adds to these objects, where that is prepared: those behind them are the pack's
+-- what a pack adds to these objects, where that was found out, with segments that are prepared for them if any are: those behind them are the pack's
 abbrev pub IsPrepared : List Content → List Content → Option Fresh → Type 0
 IsPrepared before objects None = Unit {0}
-IsPrepared before objects (Some fresh) = (fresh.before ≡ Some before) × ((pack : List Content) → objects ≡ before ++ pack → TellsOfComparing before pack (beside.Fresh fresh))
+IsPrepared before objects (Some fresh) = IfSome fresh.before (λ prepared. prepared ≡ before) × ((pack : List Content) → objects ≡ before ++ pack → TellsOfComparing before pack (beside.Fresh fresh))
 
 -- the objects of a repository, and the same with a pack's behind them
 pub record PackView : Type 0 where

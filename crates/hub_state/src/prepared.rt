@@ -7,15 +7,15 @@ use ancestry::{Findings, Known};
 use ref_store::{FreshObjects, Lens, Repo};
 use std::marker::Model;
 
-/// A pack beside the repository as it was at an opening: what it adds, with the segments that there are then; what walks found out; and what is known with
-/// that.
+/// A pack beside the repository as it was at an opening: what it adds, with the segments that there are then where a command may be done; what walks
+/// found out; and what is known, with that where it is kept.
 #[derive(Drop)]
 pub struct PreparedPack {
     repo: Repo,
     lens: Lens,
     findings: Findings,
     known: Known,
-    // Nothing where no command may be done.
+    // Nothing once it is taken.
     fresh: Option<FreshObjects>,
 }
 
@@ -52,7 +52,7 @@ impl PreparedPack {
         }
     }
 
-    /// What the pack adds to the repository as it was, where that is prepared. It is taken once.
+    /// What the pack adds to the repository as it was, where that was found out. It is taken once.
     pub fn take_fresh(&mut self) -> Option<FreshObjects>
         ensures fresh { IsPrepared self.old.before self.old.objects result }
         ensures same { self.new ≡ self.old }

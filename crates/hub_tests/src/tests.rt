@@ -56,7 +56,7 @@ fn push<D: Desk>(
     requires within { AreWithinLimits commands }
     ensures keeps { KeepsPins (D.view desk.old) (D.view desk.new) }
 {
-    let judged = judge(alloc, &pin, &pack, &commands)?;
+    let judged = judge(alloc, &pin, &pack, &commands, atomic)?;
     if !fit_one_pack(&pack) {
         return Err(Fail::from("a pack within the limits"));
     }

@@ -64,11 +64,14 @@ impl Judged {
 /// Judges each command of a push. The hub isn't looked at, so nothing needs to be held meanwhile.
 ///
 /// It costs the pack, and the objects that new values lead to before they come to what an earlier push found to be whole. Each of those objects is visited once, whatever the number of commands and whatever they are told; only where links lead in a circle does each command walk by itself, along all that it meets. The facts of all changes cost what `vref::facts_of_all` does, and what the rules say of one costs what `UpdateCheck::refusal` does. A command for the conf's branch costs the conf at its new value.
+///
+/// Where a command may still be done, it also makes what will be put in place then: the segments with the pack's objects, and a join of what was found out with what is known. A push that is refused makes neither, unless it brings no objects, whose findings are kept. `atomic` tells that the commands are done together or not at all; nothing that is told depends on it.
 pub fn judge(
     alloc: Global,
     pin: &Pin,
     pack: &ObjectList,
     commands: &CommandList,
+    atomic: bool,
 ) -> Result<Judged, NoMemory>
     ensures { IfOk result (IsJudgement pin.now.pinned pack.now commands.now) }
 {
@@ -78,7 +81,8 @@ pub fn judge(
         confs,
         findings,
     } = tell_all(alloc, pin, &lens, pack, commands.as_slice())?;
-    let pack = prepared_pack(alloc, pin, lens, pack, findings, &outcomes)?;
+    let pending = is_pending(&outcomes, atomic);
+    let pack = prepared_pack(alloc, pin, lens, pack, findings, pending)?;
     Ok(Judged {
         outcomes,
         confs,
@@ -193,6 +197,14 @@ fn tell(
     by_conf(alloc, pin, lens, pack, command)
 }
 
+// Whether a command of a push may still be done.
+fn is_pending(outcomes: &[Option<Outcome>], atomic: bool) -> bool {
+    if atomic {
+        return outcomes.iter().all(|outcome| outcome.is_none());
+    }
+    outcomes.iter().any(|outcome| outcome.is_none())
+}
+
 // What was found out of a pack beside the repository of the opening.
 fn prepared_pack(
     alloc: Global,
@@ -200,33 +212,35 @@ fn prepared_pack(
     lens: Lens,
     pack: &ObjectList,
     findings: Findings,
-    outcomes: &[Option<Outcome>],
+    pending: bool,
 ) -> Result<PreparedPack, NoMemory>
     requires lens { lens ≡ pin.now.pinned.repository.objects ++ pack.now }
     requires found { AreFound lens findings }
     ensures { IfOk result (λ p. p ≡ record { before = pin.now.pinned.repository.objects; objects = lens }) }
 {
     let repo = pin.repo().copy()?;
-    let known = known_behind(alloc, pin, pack, &findings)?;
-    let fresh = fresh_in(&repo, &lens, pack, outcomes)?;
+    let known = known_behind(alloc, pin, pack, &findings, pending)?;
+    let fresh = fresh_in(&repo, &lens, pack, pending)?;
     Ok(PreparedPack::new(repo, lens, findings, known, fresh))
 }
 
-// What a pack adds to a repository, with the segments that it has then, where some command isn't refused.
+// What a pack adds to a repository, with the segments that it has then where a command may be done.
 fn fresh_in(
     repo: &Repo,
     lens: &Lens,
     pack: &ObjectList,
-    outcomes: &[Option<Outcome>],
+    pending: bool,
 ) -> Result<Option<FreshObjects>, NoMemory>
     requires { lens.now ≡ repo.now.objects ++ pack.now }
     ensures { IfOk result (IsPrepared repo.now.objects lens.now) }
 {
-    if outcomes.iter().all(|outcome| outcome.is_some()) {
-        return Ok(None);
-    }
     match repo.compare_in(lens, pack) {
-        Compared::Fresh(fresh) => Ok(Some(repo.prepare(fresh)?)),
+        Compared::Fresh(fresh) => {
+            if !pending {
+                return Ok(Some(fresh));
+            }
+            Ok(Some(repo.prepare(fresh)?))
+        }
         Compared::Collision { .. } | Compared::Full(_) => Ok(None),
         Compared::NoMemory => Err(NoMemory),
     }
@@ -242,17 +256,21 @@ fn known_with(alloc: Global, pin: &Pin, pack: &ObjectList) -> Result<Known, NoMe
     pin.known().grown(alloc)
 }
 
-// The same, with what walks found out.
+// The same, with what walks found out, where it will be kept: a command may be done, or the push brings no objects.
 fn known_behind(
     alloc: Global,
     pin: &Pin,
     pack: &ObjectList,
     findings: &Findings,
+    pending: bool,
 ) -> Result<Known, NoMemory>
     requires { AreFound (pin.now.pinned.repository.objects ++ pack.now) findings.now }
     ensures { IfOk result (AreKnown (pin.now.pinned.repository.objects ++ pack.now)) }
 {
     let known = known_with(alloc, pin, pack)?;
+    if !pending && !pack.is_empty() {
+        return Ok(known);
+    }
     known.with(alloc, findings)
 }
 

@@ -93,7 +93,7 @@ fn rules_in(judged: Judged) -> usize {
 fn told(alloc: Global, pin: &Pin, text: &str) -> Result<(u8, usize), Fail> {
     let mut pack = ObjectList::new(alloc);
     let new = put_conf(alloc, &mut pack, text)?;
-    let judged = judge(alloc, pin, &pack, &create(alloc, new)?)?;
+    let judged = judge(alloc, pin, &pack, &create(alloc, new)?, false)?;
     Ok((number_in(&judged), rules_in(judged)))
 }
 

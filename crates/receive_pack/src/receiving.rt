@@ -97,7 +97,7 @@ fn push<L: Link, K: Desk>(
     let Ok(told) = reported_push(alloc, &pin, &commands) else {
         return Err(SessionEnd::NoMemory);
     };
-    let Ok(judged) = judge(alloc, &pin, &pack, &commands) else {
+    let Ok(judged) = judge(alloc, &pin, &pack, &commands, capabilities.atomic) else {
         return Err(SessionEnd::NoMemory);
     };
     match desk.push(alloc, pin, pack, commands, capabilities.atomic, judged) {

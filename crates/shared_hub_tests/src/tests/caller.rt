@@ -96,7 +96,7 @@ fn push<D: Desk>(alloc: Global, desk: &mut D, pin: Pin, job: &Job) -> Result<Out
 {
     let commands = commands_of(alloc, &pin, job)?;
     let pack = job.pack.clone()?;
-    let judged = judge(alloc, &pin, &pack, &commands)?;
+    let judged = judge(alloc, &pin, &pack, &commands, false)?;
     if !fit_one_pack(&pack) {
         return Err(NoMemory);
     }
