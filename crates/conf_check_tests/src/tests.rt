@@ -4,7 +4,7 @@ use base_types::Text;
 use conf_check::{check_conf, flat_text};
 use conf_groups::{ConfFile, FileList};
 use rule_compile::Policy;
-use std::test::Fail;
+use std::alloc::Global;
 
 // A conf, whether it has rules, and what is printed of it.
 static ROWS: [(&str, bool, &str); 9] = [
@@ -53,14 +53,25 @@ static ROWS: [(&str, bool, &str); 9] = [
     ),
 ];
 
-#[test]
-fn confs_are_checked(rt: HostRuntime) -> Result<(), Fail> {
-    for (conf, has_rules, due) in &ROWS {
-        let report = check_conf(rt.alloc(), conf.as_bytes().to_vec(rt.alloc())?)?;
-        assert_eq!(rt; report.text.as_slice(), due.as_bytes());
-        assert_eq!(rt; report.has_rules, *has_rules);
+// Whether a conf comes to rules or to a fault, as is due, and this is printed of it.
+fn is_checked(alloc: Global, conf: &[u8], has_rules: bool, due: &[u8]) -> bool {
+    let Ok(conf) = conf.to_vec(alloc) else {
+        return false;
+    };
+    match check_conf(alloc, conf) {
+        Ok(report) => report.has_rules == has_rules && report.text.as_slice() == due,
+        Err(_) => false,
     }
-    Ok(())
+}
+
+#[test]
+fn confs_are_checked(rt: HostRuntime) {
+    for (conf, has_rules, due) in &ROWS {
+        assert!(rt;
+            is_checked(rt.alloc(), conf.as_bytes(), *has_rules, due.as_bytes()),
+            "{conf}"
+        );
+    }
 }
 
 // The conf that is shipped as `gitolite_shell/data/gitolite.conf`, and what is printed of it.
@@ -70,33 +81,51 @@ static SHIPPED: (&str, &str) = (
 );
 
 #[test]
-fn the_shipped_conf_is_checked(rt: HostRuntime) -> Result<(), Fail> {
-    let report = check_conf(rt.alloc(), SHIPPED.0.as_bytes().to_vec(rt.alloc())?)?;
-    assert_eq!(rt; report.text.as_slice(), SHIPPED.1.as_bytes());
-    assert!(rt; report.has_rules);
-    Ok(())
+fn the_shipped_conf_is_checked(rt: HostRuntime) {
+    assert!(rt; is_checked(rt.alloc(), SHIPPED.0.as_bytes(), true, SHIPPED.1.as_bytes()));
 }
 
 // One file has no subconf, so a warning is printed of two.
-#[test]
-fn a_warning_is_printed_behind_the_rules(rt: HostRuntime) -> Result<(), Fail> {
-    let alloc = rt.alloc();
-    let mut files = FileList::new(alloc);
-    for (name, text) in [
-        ("gitolite.conf", "repo a\nR = u\nsubconf web.conf\n"),
-        ("web.conf", "repo core web\nR = u\n"),
-    ] {
-        files.push(ConfFile {
-            name: Text::of(alloc, name.as_bytes())?,
-            text: Text::of(alloc, text.as_bytes())?,
-        })?;
+static FILES: [(&str, &str); 2] = [
+    ("gitolite.conf", "repo a\nR = u\nsubconf web.conf\n"),
+    ("web.conf", "repo core web\nR = u\n"),
+];
+
+static PRINTED: &str =
+    "1 a R refs/.* u gitolite.conf 2\n2 web R refs/.* u web.conf 2\nweb.conf line 1: subconf web may not set access for core\nok 2 rules, 2 repositories\n";
+
+fn conf_file(alloc: Global, name: &str, text: &str) -> Option<ConfFile> {
+    let name = Text::of(alloc, name.as_bytes()).ok()?;
+    let text = Text::of(alloc, text.as_bytes()).ok()?;
+    Some(ConfFile { name, text })
+}
+
+fn push_file(files: &mut FileList, alloc: Global, name: &str, text: &str) -> bool {
+    match conf_file(alloc, name, text) {
+        Some(file) => files.push(file).is_ok(),
+        None => false,
     }
-    let Ok(policy) = Policy::compile(alloc, &files) else {
-        return Err(Fail::from("refused"));
-    };
-    assert_eq!(rt;
-        flat_text(alloc, &policy)?.as_slice(),
-        b"1 a R refs/.* u gitolite.conf 2\n2 web R refs/.* u web.conf 2\nweb.conf line 1: subconf web may not set access for core\nok 2 rules, 2 repositories\n".as_slice()
-    );
-    Ok(())
+}
+
+fn is_policy_printed(alloc: Global, policy: &Policy, due: &[u8]) -> bool {
+    match flat_text(alloc, policy) {
+        Ok(text) => text.as_slice() == due,
+        Err(_) => false,
+    }
+}
+
+fn is_printed(alloc: Global, files: &FileList, due: &[u8]) -> bool {
+    match Policy::compile(alloc, files) {
+        Ok(policy) => is_policy_printed(alloc, &policy, due),
+        Err(_) => false,
+    }
+}
+
+#[test]
+fn a_warning_is_printed_behind_the_rules(rt: HostRuntime) {
+    let mut files = FileList::new(rt.alloc());
+    for (name, text) in &FILES {
+        assert!(rt; push_file(&mut files, rt.alloc(), name, text));
+    }
+    assert!(rt; is_printed(rt.alloc(), &files, PRINTED.as_bytes()));
 }

@@ -6,11 +6,10 @@ ghost use Rattle.pktline_core.specs.LinkState.{LinkState};
 
 use git_object::{Kind, Object, ObjectList};
 use pktline_core::{Endpoint, MemoryLink, Source, Taken, WriteFault};
-use raw_pack::{NoMemory, PackEntry, PackFault, PackReader, read_pack, write_pack};
+use raw_pack::{PackEntry, PackFault, PackReader, read_pack, write_pack};
 use ref_store::{Added, Repo};
-use std::alloc::{AllocError, Global};
+use std::alloc::Global;
 use std::process::Abort;
-use std::test::Fail;
 
 // A pack of 191 bytes: a commit of 156 bytes and the empty tree.
 static SIGNED: &[u8] =
@@ -27,51 +26,54 @@ static COMMIT_NAME: &str = "1c73cda3964d5dd51bdaad94efd235c910cf59de";
 static EMPTY_PACK: &[u8] =
     b"PACK\0\0\0\x02\0\0\0\0\x02\x9d\x08\x82;\xd8\xa8\xea\xb5\x10\xadj\xc7\\\x82<\xfd>\xd3\x1e";
 
-// The pack.
-fn signed_pack(alloc: Global) -> Result<Vec<u8>, AllocError> {
-    let mut whole = SIGNED.to_vec(alloc)?;
-    whole.extend_from_slice(&TRAILER_BYTES)?;
-    Ok(whole)
+fn add(rt: &impl Abort, bytes: &mut Vec<u8>, more: &[u8]) {
+    bytes.extend_from_slice(more).expect(rt, "memory for bytes");
 }
 
-// The pack, with one byte behind it.
-fn whole_pack(alloc: Global) -> Result<Vec<u8>, AllocError> {
-    let mut whole = signed_pack(alloc)?;
-    whole.push(b'!')?;
-    Ok(whole)
+// The pack.
+fn signed_pack(rt: &impl Abort, alloc: Global) -> Vec<u8> {
+    let mut whole = Vec::new(alloc);
+    add(rt, &mut whole, SIGNED);
+    add(rt, &mut whole, &TRAILER_BYTES);
+    whole
 }
 
 // An input, with these bytes in place of as many at a place.
-fn patched(alloc: Global, whole: &[u8], place: usize, patch: &[u8]) -> Result<Vec<u8>, AllocError> {
+fn patched(rt: &impl Abort, alloc: Global, whole: &[u8], place: usize, patch: &[u8]) -> Vec<u8> {
     let behind = (place.min(192) + patch.len().min(192)).min(whole.len());
-    let mut input = whole.split_at(place.min(whole.len())).0.to_vec(alloc)?;
-    input.extend_from_slice(patch)?;
-    input.extend_from_slice(whole.split_at(behind).1)?;
-    Ok(input)
+    let mut input = Vec::new(alloc);
+    add(rt, &mut input, whole.split_at(place.min(whole.len())).0);
+    add(rt, &mut input, patch);
+    add(rt, &mut input, whole.split_at(behind).1);
+    input
 }
 
 // The pack, with these bytes in place of as many at a place, and one byte behind it.
-fn pack_with(alloc: Global, place: usize, patch: &[u8]) -> Result<Vec<u8>, AllocError> {
-    let whole = whole_pack(alloc)?;
-    patched(alloc, &whole, place, patch)
+fn pack_with(rt: &impl Abort, alloc: Global, place: usize, patch: &[u8]) -> Vec<u8> {
+    let mut whole = signed_pack(rt, alloc);
+    add(rt, &mut whole, b"!");
+    patched(rt, alloc, &whole, place, patch)
 }
 
+fn copied<T: Copy>(rt: &impl Abort, alloc: Global, items: &[T]) -> Vec<T> {
+    items.to_vec(alloc).expect(rt, "memory for a link")
+}
+
+// A link that has this input, moves so many bytes in a call, and fails at these takes.
 fn link_over(
+    rt: &impl Abort,
     alloc: Global,
     input: &[u8],
     most: usize,
     failing_takes: &[u64],
-) -> Result<MemoryLink, AllocError> {
-    let input = input.to_vec(alloc)?;
-    let failing_takes = failing_takes.to_vec(alloc)?;
-    Ok(MemoryLink::new(input, most.max(1), failing_takes, Vec::new(alloc)))
+) -> MemoryLink {
+    let input = copied(rt, alloc, input);
+    let failing_takes = copied(rt, alloc, failing_takes);
+    MemoryLink::new(input, most.max(1), failing_takes, Vec::new(alloc))
 }
 
-fn objects_of(alloc: Global, link: &mut MemoryLink) -> Result<ObjectList, Fail> {
-    match read_pack(alloc, link) {
-        Ok(objects) => Ok(objects),
-        Err(_) => Err(Fail::from("refused")),
-    }
+fn objects_of(rt: &impl Abort, alloc: Global, link: &mut MemoryLink) -> ObjectList {
+    read_pack(alloc, link).expect(rt, "a pack that is read")
 }
 
 fn fault_of(alloc: Global, link: &mut MemoryLink) -> Option<PackFault> {
@@ -84,40 +86,29 @@ fn check_commit(rt: &impl Abort, commit: &Object) {
     assert!(rt; text.as_slice() == COMMIT_NAME.as_bytes());
 }
 
-fn check_objects(rt: &impl Abort, objects: &ObjectList) -> Result<(), Fail> {
+fn check_objects(rt: &impl Abort, objects: &ObjectList) {
     assert_eq!(rt; objects.len(), 2);
-    let commit = objects.get(0).ok_or("none")?;
-    check_commit(rt, commit);
-    let tree = objects.get(1).ok_or("none")?;
+    check_commit(rt, objects.get(0).expect(rt, "a commit"));
+    let tree = objects.get(1).expect(rt, "a tree");
     assert!(rt; tree.kind() == Kind::Tree && tree.body().is_empty());
-    Ok(())
 }
 
-fn check_pack(rt: &impl Abort, alloc: Global, link: &mut MemoryLink) -> Result<(), Fail> {
-    let objects = objects_of(alloc, link)?;
+fn check_pack_by(rt: &impl Abort, alloc: Global, most: usize) {
+    let input = pack_with(rt, alloc, 0, b"");
+    let mut link = link_over(rt, alloc, &input, most, &[]);
+    let objects = objects_of(rt, alloc, &mut link);
     assert_eq!(rt; link.left(), b"!".as_slice());
-    check_objects(rt, &objects)
-}
-
-fn check_pack_by(rt: &impl Abort, alloc: Global, most: usize) -> Result<(), Fail> {
-    let input = pack_with(alloc, 0, b"")?;
-    let mut link = link_over(alloc, &input, most, &[])?;
-    check_pack(rt, alloc, &mut link)
-}
-
-fn check_empty_pack(rt: &impl Abort, alloc: Global, link: &mut MemoryLink) -> Result<(), Fail> {
-    let objects = objects_of(alloc, link)?;
-    assert!(rt; objects.is_empty() && link.left().is_empty());
-    Ok(())
+    check_objects(rt, &objects);
 }
 
 #[test]
-fn a_pack_is_read(rt: HostRuntime) -> Result<(), Fail> {
+fn a_pack_is_read(rt: HostRuntime) {
     for most in [1, 5, 1000] {
-        check_pack_by(&rt, rt.alloc(), most)?;
+        check_pack_by(&rt, rt.alloc(), most);
     }
-    let mut link = link_over(rt.alloc(), EMPTY_PACK, 1000, &[])?;
-    check_empty_pack(&rt, rt.alloc(), &mut link)
+    let mut link = link_over(&rt, rt.alloc(), EMPTY_PACK, 1000, &[]);
+    let objects = objects_of(&rt, rt.alloc(), &mut link);
+    assert!(rt; objects.is_empty() && link.left().is_empty());
 }
 
 // Where the pack is changed, to what, the fault, and how many bytes show it.
@@ -158,40 +149,23 @@ static FAULTS: [(usize, &[u8], PackFault, usize); 18] = [
     ),
 ];
 
-fn check_fault_of(
-    rt: &impl Abort,
-    alloc: Global,
-    link: &mut MemoryLink,
-    fault: PackFault,
-    left: usize,
-) {
-    assert_eq!(rt; fault_of(alloc, link), Some(fault));
-    assert_eq!(rt; link.left().len(), left, "{fault:?}");
-}
-
-fn check_fault(
-    rt: &impl Abort,
-    alloc: Global,
-    row: &(usize, &[u8], PackFault, usize),
-) -> Result<(), Fail> {
-    let input = pack_with(alloc, row.0, row.1)?;
-    let mut link = link_over(alloc, &input, 1000, &[])?;
-    check_fault_of(
-        rt,
-        alloc,
-        &mut link,
-        row.2,
-        input.len().saturating_sub(row.3),
+fn check_fault(rt: &impl Abort, alloc: Global, row: &(usize, &[u8], PackFault, usize)) {
+    let (place, patch, fault, shown) = *row;
+    let input = pack_with(rt, alloc, place, patch);
+    let mut link = link_over(rt, alloc, &input, 1000, &[]);
+    assert_eq!(rt; fault_of(alloc, &mut link), Some(fault));
+    assert_eq!(rt;
+        link.left().len(),
+        input.len().saturating_sub(shown),
+        "{fault:?}"
     );
-    Ok(())
 }
 
 #[test]
-fn the_first_fault_is_told(rt: HostRuntime) -> Result<(), Fail> {
+fn the_first_fault_is_told(rt: HostRuntime) {
     for row in &FAULTS {
-        check_fault(&rt, rt.alloc(), row)?;
+        check_fault(&rt, rt.alloc(), row);
     }
-    Ok(())
 }
 
 // The entry in which an input of so many bytes ends.
@@ -203,36 +177,29 @@ fn cut_in(size: usize) -> u32 {
     }
 }
 
-fn check_cut(rt: &impl Abort, alloc: Global, whole: &[u8], size: usize) -> Result<(), Fail> {
+fn check_cut(rt: &impl Abort, alloc: Global, whole: &[u8], size: usize) {
     let input = whole.split_at(size.min(whole.len())).0;
-    let mut link = link_over(alloc, input, 1000, &[])?;
+    let mut link = link_over(rt, alloc, input, 1000, &[]);
     let fault = Some(PackFault::Truncated(cut_in(size)));
     assert_eq!(rt; fault_of(alloc, &mut link), fault, "{size}");
-    Ok(())
 }
 
-fn check_failing_take(rt: &impl Abort, alloc: Global, whole: &[u8], size: usize) -> Result<(), Fail>
+fn check_failing_take(rt: &impl Abort, alloc: Global, whole: &[u8], size: usize)
     requires { size < 192 }
 {
-    let mut link = link_over(alloc, whole, 1, &[size as u64])?;
+    let mut link = link_over(rt, alloc, whole, 1, &[size as u64]);
     let fault = Some(PackFault::ReadFault);
     assert_eq!(rt; fault_of(alloc, &mut link), fault, "{size}");
     assert_eq!(rt; link.left().len(), 192 - size);
-    Ok(())
-}
-
-fn check_ends(rt: &impl Abort, alloc: Global, whole: &[u8]) -> Result<(), Fail> {
-    for size in 0..191 {
-        check_cut(rt, alloc, whole, size)?;
-        check_failing_take(rt, alloc, whole, size)?;
-    }
-    Ok(())
 }
 
 #[test]
-fn a_pack_ends_early(rt: HostRuntime) -> Result<(), Fail> {
-    let whole = pack_with(rt.alloc(), 0, b"")?;
-    check_ends(&rt, rt.alloc(), &whole)
+fn a_pack_ends_early(rt: HostRuntime) {
+    let whole = pack_with(&rt, rt.alloc(), 0, b"");
+    for size in 0..191 {
+        check_cut(&rt, rt.alloc(), &whole, size);
+        check_failing_take(&rt, rt.alloc(), &whole, size);
+    }
 }
 
 // The commit's body, which stands between its head and the head of the tree.
@@ -241,11 +208,8 @@ fn body_of(signed: &[u8]) -> &[u8] {
     entry.split_at(entry.len().min(14)).1
 }
 
-fn begun(alloc: Global, link: &mut MemoryLink) -> Result<PackReader, Fail> {
-    match PackReader::begin(alloc, link) {
-        Ok(reader) => Ok(reader),
-        Err(_) => Err(Fail::from("refused")),
-    }
+fn begun<S: Source>(rt: &impl Abort, alloc: Global, source: &mut S) -> PackReader {
+    PackReader::begin(alloc, source).expect(rt, "a pack's header")
 }
 
 // Whether this is the next entry, the end, or the fault.
@@ -277,176 +241,130 @@ fn check_no_next(rt: &impl Abort, reader: &mut PackReader, link: &mut MemoryLink
     }
 }
 
-fn check_entries(rt: &impl Abort, alloc: Global, link: &mut MemoryLink) -> Result<(), Fail> {
-    let mut reader = begun(alloc, link)?;
-    check_next(rt, &mut reader, link);
-    check_no_next(rt, &mut reader, link);
-    Ok(())
-}
-
-fn check_read_faults(rt: &impl Abort, alloc: Global, link: &mut MemoryLink) -> Result<(), Fail> {
-    let mut reader = begun(alloc, link)?;
+fn check_read_faults(rt: &impl Abort, reader: &mut PackReader, link: &mut MemoryLink) {
     for _ in 0..2 {
-        assert!(rt; is_next(&mut reader, link, Err(PackFault::ReadFault)));
+        assert!(rt; is_next(reader, link, Err(PackFault::ReadFault)));
         assert_eq!(rt; link.left().len(), 172);
     }
-    Ok(())
 }
 
 #[test]
-fn entries_are_lent_one_by_one(rt: HostRuntime) -> Result<(), Fail> {
-    let input = pack_with(rt.alloc(), 0, b"")?;
-    let mut link = link_over(rt.alloc(), &input, 7, &[])?;
-    check_entries(&rt, rt.alloc(), &mut link)?;
-    let mut link = link_over(rt.alloc(), &input, 1, &[20])?;
-    check_read_faults(&rt, rt.alloc(), &mut link)
+fn entries_are_lent_one_by_one(rt: HostRuntime) {
+    let input = pack_with(&rt, rt.alloc(), 0, b"");
+    let mut link = link_over(&rt, rt.alloc(), &input, 7, &[]);
+    let mut reader = begun(&rt, rt.alloc(), &mut link);
+    check_next(&rt, &mut reader, &mut link);
+    check_no_next(&rt, &mut reader, &mut link);
+    let mut link = link_over(&rt, rt.alloc(), &input, 1, &[20]);
+    let mut reader = begun(&rt, rt.alloc(), &mut link);
+    check_read_faults(&rt, &mut reader, &mut link);
 }
 
-fn repo_of(alloc: Global, objects: &ObjectList) -> Result<Repo, Fail> {
-    let mut repo = Repo::empty(alloc)?;
-    match repo.add_objects(objects) {
-        Added::Added => Ok(repo),
-        Added::Collision { .. } | Added::Full(_) | Added::NoMemory => Err(Fail::from(
-            "a repository",
-        )),
-    }
-}
-
-fn repo_from(alloc: Global, link: &mut MemoryLink) -> Result<Repo, Fail> {
-    let objects = objects_of(alloc, link)?;
-    repo_of(alloc, &objects)
+fn repo_of(rt: &impl Abort, alloc: Global, objects: &ObjectList) -> Repo {
+    let mut repo = Repo::empty(alloc).expect(rt, "memory for a repository");
+    let added = repo.add_objects(objects);
+    assert!(rt; added == Added::Added);
+    repo
 }
 
 // A repository with the commit and the empty tree of the pack above.
-fn commit_and_tree(alloc: Global) -> Result<Repo, Fail> {
-    let input = pack_with(alloc, 0, b"")?;
-    let mut link = link_over(alloc, &input, 1000, &[])?;
-    repo_from(alloc, &mut link)
+fn commit_and_tree(rt: &impl Abort, alloc: Global) -> Repo {
+    let input = pack_with(rt, alloc, 0, b"");
+    let mut link = link_over(rt, alloc, &input, 1000, &[]);
+    let objects = objects_of(rt, alloc, &mut link);
+    repo_of(rt, alloc, &objects)
 }
 
 // A link that moves so many bytes in a call and fails at these puts.
-fn sink_of(alloc: Global, most: usize, failing_puts: &[u64]) -> Result<MemoryLink, AllocError> {
-    let failing_puts = failing_puts.to_vec(alloc)?;
-    Ok(MemoryLink::new(Vec::new(alloc), most.max(1), Vec::new(alloc), failing_puts))
+fn sink_of(rt: &impl Abort, alloc: Global, most: usize, failing_puts: &[u64]) -> MemoryLink {
+    let failing_puts = copied(rt, alloc, failing_puts);
+    MemoryLink::new(Vec::new(alloc), most.max(1), Vec::new(alloc), failing_puts)
 }
 
 // Writes the pack of the objects at these places.
 fn write_places(
+    rt: &impl Abort,
     link: &mut MemoryLink,
     repo: &Repo,
     places: &[u32],
-) -> Result<Result<(), WriteFault>, Fail> {
+) -> Result<(), WriteFault> {
     let count = repo.count();
-    if places.len() > 1000 || !places.iter().all(|place| (*place as usize) < count) {
-        return Err(Fail::from("a place of the repository"));
-    }
-    Ok(write_pack(link, repo, places))
+    assert!(rt; places.len() <= 1000);
+    assert!(rt; places.iter().all(|place| (*place as usize) < count));
+    write_pack(link, repo, places)
 }
 
-fn check_empty_written(
+fn check_written(
     rt: &impl Abort,
     alloc: Global,
     repo: &Repo,
+    places: &[u32],
+    due: &[u8],
     most: usize,
-) -> Result<(), Fail> {
-    let mut link = sink_of(alloc, most, &[])?;
-    write_places(&mut link, repo, &[])??;
-    assert_eq!(rt; link.written(), EMPTY_PACK);
-    Ok(())
-}
-
-fn check_both_written(
-    rt: &impl Abort,
-    alloc: Global,
-    repo: &Repo,
-    both: &[u8],
-    most: usize,
-) -> Result<(), Fail> {
-    let mut link = sink_of(alloc, most, &[])?;
-    write_places(&mut link, repo, &[0, 1])??;
-    assert!(rt; link.written() == both);
-    Ok(())
-}
-
-fn check_written(rt: &impl Abort, alloc: Global, repo: &Repo, both: &[u8]) -> Result<(), Fail> {
-    for most in [1, 5, 1000] {
-        check_empty_written(rt, alloc, repo, most)?;
-        check_both_written(rt, alloc, repo, both, most)?;
-    }
-    Ok(())
+) {
+    let mut link = sink_of(rt, alloc, most, &[]);
+    let answer = write_places(rt, &mut link, repo, places);
+    assert!(rt; answer == Ok(()));
+    assert!(rt; link.written() == due);
 }
 
 #[test]
-fn a_pack_is_written(rt: HostRuntime) -> Result<(), Fail> {
-    let repo = commit_and_tree(rt.alloc())?;
-    let both = signed_pack(rt.alloc())?;
-    check_written(&rt, rt.alloc(), &repo, &both)
+fn a_pack_is_written(rt: HostRuntime) {
+    let repo = commit_and_tree(&rt, rt.alloc());
+    let both = signed_pack(&rt, rt.alloc());
+    for most in [1, 5, 1000] {
+        check_written(&rt, rt.alloc(), &repo, &[], EMPTY_PACK, most);
+        check_written(&rt, rt.alloc(), &repo, &[0, 1], &both, most);
+    }
 }
 
-fn check_failing_put(
-    rt: &impl Abort,
-    alloc: Global,
-    repo: &Repo,
-    whole: &[u8],
-    size: u64,
-) -> Result<(), Fail> {
-    let mut link = sink_of(alloc, 1, &[size])?;
-    let answer = write_places(&mut link, repo, &[0, 1])?;
+fn check_failing_put(rt: &impl Abort, alloc: Global, repo: &Repo, whole: &[u8], size: u64) {
+    let mut link = sink_of(rt, alloc, 1, &[size]);
+    let answer = write_places(rt, &mut link, repo, &[0, 1]);
     assert!(rt; answer == Err(WriteFault::Failed), "{size}");
     assert_eq!(rt; link.written().len() as u64, size);
     assert!(rt; whole.starts_with(link.written()), "{size}");
-    Ok(())
-}
-
-fn check_failing_puts(
-    rt: &impl Abort,
-    alloc: Global,
-    repo: &Repo,
-    whole: &[u8],
-) -> Result<(), Fail> {
-    for size in 0..191u64 {
-        check_failing_put(rt, alloc, repo, whole, size)?;
-    }
-    Ok(())
 }
 
 #[test]
-fn each_failing_put_ends_a_pack_there(rt: HostRuntime) -> Result<(), Fail> {
-    let repo = commit_and_tree(rt.alloc())?;
-    let whole = pack_with(rt.alloc(), 0, b"")?;
-    check_failing_puts(&rt, rt.alloc(), &repo, &whole)
+fn each_failing_put_ends_a_pack_there(rt: HostRuntime) {
+    let repo = commit_and_tree(&rt, rt.alloc());
+    let whole = pack_with(&rt, rt.alloc(), 0, b"");
+    for size in 0..191 {
+        check_failing_put(&rt, rt.alloc(), &repo, &whole, size);
+    }
 }
 
-fn check_kind(rt: &impl Abort, objects: &ObjectList, at: usize, kind: Kind) -> Result<(), Fail> {
-    let object = objects.get(at).ok_or("none")?;
-    assert!(rt; object.kind() == kind, "{at}");
-    Ok(())
+fn is_kind(objects: &ObjectList, at: usize, kind: Kind) -> bool {
+    match objects.get(at) {
+        Some(object) => object.kind() == kind,
+        None => false,
+    }
 }
 
-fn check_kinds(rt: &impl Abort, objects: &ObjectList) -> Result<(), Fail> {
+fn check_kinds(rt: &impl Abort, objects: &ObjectList) {
     assert_eq!(rt; objects.len(), 3);
     for (at, kind) in [(0, Kind::Tree), (1, Kind::Commit), (2, Kind::Tree)] {
-        check_kind(rt, objects, at, kind)?;
+        assert!(rt; is_kind(objects, at, kind), "{at}");
     }
-    Ok(())
 }
 
-fn check_kinds_read(rt: &impl Abort, alloc: Global, written: &[u8]) -> Result<(), Fail> {
-    let mut link = link_over(alloc, written, 1000, &[])?;
-    let objects = objects_of(alloc, &mut link)?;
-    check_kinds(rt, &objects)
-}
-
-fn check_order(rt: &impl Abort, alloc: Global, repo: &Repo) -> Result<(), Fail> {
-    let mut link = sink_of(alloc, 1000, &[])?;
-    write_places(&mut link, repo, &[1, 0, 1])??;
-    check_kinds_read(rt, alloc, link.written())
+// The objects of a pack that was written.
+fn objects_read(rt: &impl Abort, alloc: Global, written: &[u8]) -> ObjectList {
+    let mut link = link_over(rt, alloc, written, 1_000_000, &[]);
+    let objects = objects_of(rt, alloc, &mut link);
+    assert!(rt; link.left().is_empty());
+    objects
 }
 
 #[test]
-fn objects_are_written_in_the_order_of_their_places(rt: HostRuntime) -> Result<(), Fail> {
-    let repo = commit_and_tree(rt.alloc())?;
-    check_order(&rt, rt.alloc(), &repo)
+fn objects_are_written_in_the_order_of_their_places(rt: HostRuntime) {
+    let repo = commit_and_tree(&rt, rt.alloc());
+    let mut link = sink_of(&rt, rt.alloc(), 1000, &[]);
+    let answer = write_places(&rt, &mut link, &repo, &[1, 0, 1]);
+    assert!(rt; answer == Ok(()));
+    let objects = objects_read(&rt, rt.alloc(), link.written());
+    check_kinds(&rt, &objects);
 }
 
 // The size of a blob, and the head of its entry.
@@ -460,25 +378,13 @@ static HEADS: [(usize, &[u8]); 7] = [
     (262_144, b"\xb0\x80\x80\x01"),
 ];
 
-// A blob of so many zero bytes.
-fn blob_of(alloc: Global, size: usize) -> Result<Object, Fail> {
-    let body = vec![in alloc; 0; size.min(262_144)]?;
-    match Object::from_body(alloc, Kind::Blob, body) {
-        Ok(blob) => Ok(blob),
-        Err(_) => Err(Fail::from("refused")),
-    }
-}
-
-fn blobs_of(alloc: Global, size: usize) -> Result<ObjectList, Fail> {
-    let blob = blob_of(alloc, size)?;
+// A repository with a blob of so many zero bytes.
+fn repo_of_blob(rt: &impl Abort, alloc: Global, size: usize) -> Repo {
+    let body = vec![in alloc; 0; size.min(262_144)].expect(rt, "memory for a body");
+    let blob = Object::from_body(alloc, Kind::Blob, body).expect(rt, "a blob");
     let mut blobs = ObjectList::new(alloc);
-    blobs.push(blob)?;
-    Ok(blobs)
-}
-
-fn repo_of_blob(alloc: Global, size: usize) -> Result<Repo, Fail> {
-    let blobs = blobs_of(alloc, size)?;
-    repo_of(alloc, &blobs)
+    blobs.push(blob).expect(rt, "memory for an object");
+    repo_of(rt, alloc, &blobs)
 }
 
 fn check_head(rt: &impl Abort, written: &[u8], size: usize, head: &[u8]) {
@@ -490,64 +396,40 @@ fn check_head(rt: &impl Abort, written: &[u8], size: usize, head: &[u8]) {
     );
 }
 
-fn check_blob(rt: &impl Abort, objects: &ObjectList, size: usize) -> Result<(), Fail> {
-    assert_eq!(rt; objects.get(0).ok_or("none")?.body().len(), size);
-    Ok(())
+fn check_blob(rt: &impl Abort, objects: &ObjectList, size: usize) {
+    assert_eq!(rt; objects.len(), 1);
+    let blob = objects.get(0).expect(rt, "a blob");
+    assert_eq!(rt; blob.body().len(), size);
 }
 
-fn check_blob_read(
-    rt: &impl Abort,
-    alloc: Global,
-    written: &[u8],
-    size: usize,
-) -> Result<(), Fail> {
-    let mut link = link_over(alloc, written, 1_000_000, &[])?;
-    let objects = objects_of(alloc, &mut link)?;
-    check_blob(rt, &objects, size)?;
-    assert!(rt; objects.len() == 1 && link.left().is_empty());
-    Ok(())
-}
-
-fn check_size(rt: &impl Abort, alloc: Global, size: usize, head: &[u8]) -> Result<(), Fail> {
-    let repo = repo_of_blob(alloc, size)?;
-    let mut link = sink_of(alloc, 1_000_000, &[])?;
-    check_size_in(rt, alloc, &mut link, &repo, size, head)
-}
-
-fn check_size_in(
-    rt: &impl Abort,
-    alloc: Global,
-    link: &mut MemoryLink,
-    repo: &Repo,
-    size: usize,
-    head: &[u8],
-) -> Result<(), Fail> {
-    write_places(link, repo, &[0])??;
+fn check_size(rt: &impl Abort, alloc: Global, size: usize, head: &[u8]) {
+    let repo = repo_of_blob(rt, alloc, size);
+    let mut link = sink_of(rt, alloc, 1_000_000, &[]);
+    let answer = write_places(rt, &mut link, &repo, &[0]);
+    assert!(rt; answer == Ok(()));
     check_head(rt, link.written(), size, head);
-    check_blob_read(rt, alloc, link.written(), size)
+    let objects = objects_read(rt, alloc, link.written());
+    check_blob(rt, &objects, size);
 }
 
 #[test]
-fn heads_are_as_short_as_can_be(rt: HostRuntime) -> Result<(), Fail> {
+fn heads_are_as_short_as_can_be(rt: HostRuntime) {
     for (size, head) in &HEADS {
-        check_size(&rt, rt.alloc(), *size, head)?;
+        check_size(&rt, rt.alloc(), *size, head);
     }
-    Ok(())
 }
 
 fn crosses_threads<T: Send + Sync + Drop>(_value: T) {}
 
 #[test]
-fn readers_cross_threads(rt: HostRuntime) -> Result<(), Fail> {
-    let mut link = link_over(rt.alloc(), EMPTY_PACK, 1000, &[])?;
-    let reader = begun(rt.alloc(), &mut link)?;
-    crosses_threads(reader);
+fn readers_cross_threads(rt: HostRuntime) {
+    let mut link = link_over(&rt, rt.alloc(), EMPTY_PACK, 1000, &[]);
+    crosses_threads(begun(&rt, rt.alloc(), &mut link));
     crosses_threads(PackFault::NotAPack);
     crosses_threads(PackEntry {
         kind: Kind::Blob,
         body: EMPTY_PACK,
     });
-    Ok(())
 }
 
 // A pack of 17 blobs of 16,777,216 zero bytes, made as it is read: so far into it. The first 16 are as large as the
@@ -590,12 +472,11 @@ impl Source for MadePack {
     ghost given_below = { λ made. made.below };
 }
 
-// How long the body of the next entry is.
-fn next_size(reader: &mut PackReader, made: &mut MadePack) -> Result<usize, Fail> {
+// How long the body of the next entry is, where there is one.
+fn next_size(reader: &mut PackReader, made: &mut MadePack) -> Option<usize> {
     match reader.next_entry(made) {
-        Ok(Some(entry)) => Ok(entry.body.len()),
-        Ok(None) => Err(Fail::from("ended")),
-        Err(_) => Err(Fail::from("refused")),
+        Ok(Some(entry)) => Some(entry.body.len()),
+        _ => None,
     }
 }
 
@@ -603,32 +484,15 @@ fn is_next_too_large(reader: &mut PackReader, made: &mut MadePack) -> bool {
     reader.next_entry(made) == Err(PackFault::TooLarge(16))
 }
 
-fn check_sizes(rt: &impl Abort, reader: &mut PackReader, made: &mut MadePack) -> Result<(), Fail> {
+#[test]
+fn all_bodies_together_are_too_large(rt: HostRuntime) {
+    let mut made = MadePack { at: 0 };
+    let mut reader = begun(&rt, rt.alloc(), &mut made);
     for _ in 0..16 {
-        assert_eq!(rt; next_size(reader, made)?, 16_777_216);
+        assert!(rt; next_size(&mut reader, &mut made) == Some(16_777_216));
     }
-    Ok(())
-}
-
-fn check_too_large(rt: &impl Abort, reader: &mut PackReader, made: &mut MadePack) {
     for _ in 0..2 {
-        assert!(rt; is_next_too_large(reader, made));
+        assert!(rt; is_next_too_large(&mut reader, &mut made));
         assert_eq!(rt; made.at, 12 + 16 * MADE_ENTRY + 4);
     }
-}
-
-fn begun_made(alloc: Global, made: &mut MadePack) -> Result<PackReader, Fail> {
-    match PackReader::begin(alloc, made) {
-        Ok(reader) => Ok(reader),
-        Err(_) => Err(Fail::from("refused")),
-    }
-}
-
-#[test]
-fn all_bodies_together_are_too_large(rt: HostRuntime) -> Result<(), Fail> {
-    let mut made = MadePack { at: 0 };
-    let mut reader = begun_made(rt.alloc(), &mut made)?;
-    check_sizes(&rt, &mut reader, &mut made)?;
-    check_too_large(&rt, &mut reader, &mut made);
-    Ok(())
 }

@@ -1,11 +1,12 @@
 //! Trees and the paths that are changed between them, which are those of `git diff-tree -r --name-only` in the order of their bytes.
 
-use crate::tests::{put, put_commit};
+ghost use Rattle.std.specs.Prelude.{◌<◌, length};
+
+use crate::tests::{add, lens_of, put, put_commit};
 use git_object::{Kind, ObjectId, ObjectList};
-use ref_store::{Lens, Repo};
 use std::alloc::Global;
-use std::test::Fail;
-use vref::{Paths, changed_paths};
+use std::process::Abort;
+use vref::{PathList, Paths, changed_paths};
 
 // The entries of trees: the tree, a mode, a name, and what it names. Objects are numbered: 0 is zero, 1 and 2 are blobs, then come the trees, of which 3 is
 // empty, and then those of `put_others`.
@@ -107,128 +108,132 @@ static CHANGES: [(usize, usize, &str); 44] = [
 
 const TREES_END: usize = 23;
 
-fn add_entry(body: &mut Vec<u8>, mode: &str, name: &[u8], id: ObjectId) -> Result<(), Fail> {
-    body.extend_from_slice(mode.as_bytes())?;
-    body.push(b' ')?;
-    body.extend_from_slice(name)?;
-    body.push(0)?;
-    body.extend_from_slice(&id.bytes)?;
-    Ok(())
+fn add_entry(rt: &impl Abort, body: &mut Vec<u8>, mode: &str, name: &[u8], id: ObjectId) {
+    add(rt, body, mode.as_bytes());
+    add(rt, body, b" ");
+    add(rt, body, name);
+    add(rt, body, b"\0");
+    add(rt, body, &id.bytes);
 }
 
-// The body of a tree of the table, by the objects before it.
-fn body_of(alloc: Global, tree: usize, ids: &[ObjectId]) -> Result<Vec<u8>, Fail> {
+fn id_at(rt: &impl Abort, ids: &[ObjectId], number: usize) -> ObjectId {
+    *ids.get(number).expect(rt, "an object's number")
+}
+
+// A tree of the table, by the objects before it.
+fn put_tree(
+    rt: &impl Abort,
+    alloc: Global,
+    objects: &mut ObjectList,
+    tree: usize,
+    ids: &[ObjectId],
+) -> ObjectId {
     let mut body = Vec::new(alloc);
     for (of, mode, name, named) in &ENTRIES {
         if *of == tree {
-            let Some(id) = ids.get(*named) else {
-                return Err(Fail::from("an object before the tree"));
-            };
-            add_entry(&mut body, mode, name.as_bytes(), *id)?;
+            let id = id_at(rt, ids, *named);
+            add_entry(rt, &mut body, mode, name.as_bytes(), id);
         }
     }
-    Ok(body)
+    put(rt, alloc, objects, Kind::Tree, &body)
 }
 
 fn put_tag(
+    rt: &impl Abort,
     alloc: Global,
     objects: &mut ObjectList,
     target: ObjectId,
     kind: &str,
-) -> Result<ObjectId, Fail> {
-    let mut body = b"object ".to_vec(alloc)?;
-    body.extend_from_slice(&target.hex())?;
-    body.extend_from_slice(b"\ntype ")?;
-    body.extend_from_slice(kind.as_bytes())?;
-    body.extend_from_slice(b"\ntag t\n")?;
-    put(alloc, objects, Kind::Tag, &body)
+) -> ObjectId {
+    let mut body = Vec::new(alloc);
+    add(rt, &mut body, b"object ");
+    add(rt, &mut body, &target.hex());
+    add(rt, &mut body, b"\ntype ");
+    add(rt, &mut body, kind.as_bytes());
+    add(rt, &mut body, b"\ntag t\n");
+    put(rt, alloc, objects, Kind::Tag, &body)
 }
 
-fn put_trees(alloc: Global, objects: &mut ObjectList, ids: &mut Vec<ObjectId>) -> Result<(), Fail> {
+fn add_id(rt: &impl Abort, ids: &mut Vec<ObjectId>, id: ObjectId) {
+    ids.push(id).expect(rt, "memory for an id");
+}
+
+fn put_trees(rt: &impl Abort, alloc: Global, objects: &mut ObjectList, ids: &mut Vec<ObjectId>) {
     for tree in ids.len()..TREES_END {
-        let body = body_of(alloc, tree, ids.as_slice())?;
-        let id = put(alloc, objects, Kind::Tree, &body)?;
-        ids.push(id)?;
+        let id = put_tree(rt, alloc, objects, tree, ids);
+        add_id(rt, ids, id);
     }
-    Ok(())
 }
 
 // 23 is a commit of the tree 4, 24 a tag of it, 25 a tag of that tag, 26 a tag of a blob, and 27 an id without an object.
 fn put_others(
+    rt: &impl Abort,
     alloc: Global,
     objects: &mut ObjectList,
     tree: ObjectId,
     blob: ObjectId,
-) -> Result<[ObjectId; 5], Fail> {
-    let commit = put_commit(alloc, objects, tree, &[])?;
-    let tag = put_tag(alloc, objects, commit, "commit")?;
-    let tag_of_tag = put_tag(alloc, objects, tag, "tag")?;
-    let tag_of_blob = put_tag(alloc, objects, blob, "blob")?;
+) -> [ObjectId; 5] {
+    let commit = put_commit(rt, alloc, objects, tree, &[]);
+    let tag = put_tag(rt, alloc, objects, commit, "commit");
+    let tag_of_tag = put_tag(rt, alloc, objects, tag, "tag");
+    let tag_of_blob = put_tag(rt, alloc, objects, blob, "blob");
     let absent = ObjectId { bytes: [7; 20] };
-    Ok([commit, tag, tag_of_tag, tag_of_blob, absent])
+    [commit, tag, tag_of_tag, tag_of_blob, absent]
 }
 
 // The objects of the tables, by their numbers.
-fn put_objects(alloc: Global, objects: &mut ObjectList) -> Result<Vec<ObjectId>, Fail> {
-    let one = put(alloc, objects, Kind::Blob, b"1")?;
-    let two = put(alloc, objects, Kind::Blob, b"2")?;
-    let mut ids = vec![in alloc; ObjectId::zero(), one, two]?;
-    put_trees(alloc, objects, &mut ids)?;
-    let (Some(tree), Some(blob)) = (ids.get(4).copied(), ids.get(1).copied()) else {
-        return Err(Fail::from("the trees"));
-    };
-    let others = put_others(alloc, objects, tree, blob)?;
-    ids.extend_from_slice(&others)?;
-    Ok(ids)
+fn put_objects(rt: &impl Abort, alloc: Global, objects: &mut ObjectList) -> Vec<ObjectId> {
+    let one = put(rt, alloc, objects, Kind::Blob, b"1");
+    let two = put(rt, alloc, objects, Kind::Blob, b"2");
+    let mut ids = Vec::new(alloc);
+    for id in [ObjectId::zero(), one, two] {
+        add_id(rt, &mut ids, id);
+    }
+    put_trees(rt, alloc, objects, &mut ids);
+    let tree = id_at(rt, &ids, 4);
+    for id in put_others(rt, alloc, objects, tree, one) {
+        add_id(rt, &mut ids, id);
+    }
+    ids
 }
 
-fn print_paths(alloc: Global, paths: &Paths) -> Result<Vec<u8>, Fail> {
+fn print_path(rt: &impl Abort, alloc: Global, list: &PathList<'_>, place: usize, out: &mut Vec<u8>)
+    requires { place < length list.now }
+{
+    let path = list.path(alloc, place).expect(rt, "memory for a path");
+    add(rt, out, path.bytes());
+    add(rt, out, b"\n");
+}
+
+fn print_list(rt: &impl Abort, alloc: Global, list: &PathList<'_>) -> Vec<u8> {
     let mut out = Vec::new(alloc);
-    match paths {
-        Paths::Listed(list) => {
-            for place in 0..list.len() {
-                let path = list.path(alloc, place)?;
-                out.extend_from_slice(path.bytes())?;
-                out.push(b'\n')?;
-            }
-        }
-        Paths::TooMany => out.extend_from_slice(b"too many")?,
-        Paths::NoMemory => out.extend_from_slice(b"out of memory")?,
+    for place in 0..list.len() {
+        print_path(rt, alloc, list, place, &mut out);
     }
-    Ok(out)
+    out
 }
 
-// How many changed paths there are.
-fn print_count(alloc: Global, paths: &Paths) -> Result<Vec<u8>, Fail> {
+// Whether the changed paths are just these, each with a line feed behind it.
+fn are_paths(rt: &impl Abort, alloc: Global, paths: &Paths<'_>, due: &[u8]) -> bool {
     match paths {
-        Paths::Listed(list) => {
-            let count = list.len();
-            Ok(format!(in alloc; "{count}")?.as_bytes().to_vec(alloc)?)
-        }
-        Paths::TooMany | Paths::NoMemory => print_paths(alloc, paths),
+        Paths::Listed(list) => print_list(rt, alloc, list).as_slice() == due,
+        Paths::TooMany | Paths::NoMemory => false,
     }
-}
-
-fn lens_of(alloc: Global, objects: &ObjectList) -> Result<Lens, Fail> {
-    let repo = Repo::empty(alloc)?;
-    Ok(Lens::new(alloc, &repo, objects)?)
 }
 
 #[test]
-fn changed_paths_come_in_byte_order(rt: HostRuntime) -> Result<(), Fail> {
+fn changed_paths_come_in_byte_order(rt: HostRuntime) {
     let alloc = rt.alloc();
     let mut objects = ObjectList::new(alloc);
-    let ids = put_objects(alloc, &mut objects)?;
-    let lens = lens_of(alloc, &objects)?;
+    let ids = put_objects(&rt, alloc, &mut objects);
+    let lens = lens_of(&rt, alloc, &objects);
     for (old, new, due) in &CHANGES {
-        let (Some(old), Some(new)) = (ids.get(*old), ids.get(*new)) else {
-            return Err(Fail::from("objects of the table"));
-        };
-        let paths = changed_paths(alloc, &lens, *old, *new);
-        let out = print_paths(alloc, &paths)?;
-        assert_eq!(rt; out.as_slice(), due.as_bytes());
+        let paths = changed_paths(alloc, &lens, id_at(&rt, &ids, *old), id_at(&rt, &ids, *new));
+        assert!(rt;
+            are_paths(&rt, alloc, &paths, due.as_bytes()),
+            "from {old} to {new}"
+        );
     }
-    Ok(())
 }
 
 // A tree that is compared with nothing. Files have names of four bytes, but where it is said.
@@ -242,114 +247,131 @@ enum Shape {
     BelowLong(usize),
 }
 
-// A tree, and how many changed paths there are.
-static COUNTS: [(Shape, &str); 13] = [
+// A tree, and how many changed paths there are; none where there are too many.
+static COUNTS: [(Shape, Option<usize>); 13] = [
     // paths of 4,096 and of 4,097 bytes
-    (Shape::Long(4091, 1), "2"),
-    (Shape::Long(4092, 1), "too many"),
-    (Shape::Long(1, 4096), "2"),
-    (Shape::Long(1, 4097), "too many"),
-    (Shape::Long(4091, 4096), "2"),
-    (Shape::Long(5000, 1), "too many"),
+    (Shape::Long(4091, 1), Some(2)),
+    (Shape::Long(4092, 1), None),
+    (Shape::Long(1, 4096), Some(2)),
+    (Shape::Long(1, 4097), None),
+    (Shape::Long(4091, 4096), Some(2)),
+    (Shape::Long(5000, 1), None),
     // 131,070 and 262,142 rows
-    (Shape::Nest(15, 2, 2), "65536"),
-    (Shape::Nest(16, 2, 2), "too many"),
+    (Shape::Nest(15, 2, 2), Some(65_536)),
+    (Shape::Nest(16, 2, 2), None),
     // 200,000 and 200,001 rows
-    (Shape::Nest(1, 100, 1999), "199900"),
-    (Shape::Nest(1, 409, 488), "too many"),
+    (Shape::Nest(1, 100, 1999), Some(199_900)),
+    (Shape::Nest(1, 409, 488), None),
     // paths of more than 4,096 bytes, before there are so many rows
-    (Shape::Nest(2000, 2, 1), "too many"),
+    (Shape::Nest(2000, 2, 1), None),
     // 199,901 rows, and 200,001
-    (Shape::BelowLong(1998), "199800"),
-    (Shape::BelowLong(1999), "too many"),
+    (Shape::BelowLong(1998), Some(199_800)),
+    (Shape::BelowLong(1999), None),
 ];
 
+// An entry whose name is a letter, so many times.
 fn add_long_entry(
+    rt: &impl Abort,
     alloc: Global,
     body: &mut Vec<u8>,
     mode: &str,
     name: (u8, usize),
     id: ObjectId,
-) -> Result<(), Fail> {
-    let name = vec![in alloc; name.0; name.1]?;
-    add_entry(body, mode, name.as_slice(), id)
+) {
+    let name = vec![in alloc; name.0; name.1].expect(rt, "memory for a name");
+    add_entry(rt, body, mode, &name, id);
 }
 
 fn put_long(
+    rt: &impl Abort,
     alloc: Global,
     objects: &mut ObjectList,
     folder: usize,
     file: usize,
-) -> Result<ObjectId, Fail> {
-    let blob = put(alloc, objects, Kind::Blob, b"1")?;
-    let below = put_wide(alloc, objects, "100644", 1, blob)?;
+) -> ObjectId {
+    let blob = put(rt, alloc, objects, Kind::Blob, b"1");
+    let below = put_wide(rt, alloc, objects, "100644", 1, blob);
     let mut body = Vec::new(alloc);
-    add_long_entry(alloc, &mut body, "40000", (b'a', folder), below)?;
-    add_long_entry(alloc, &mut body, "100644", (b'b', file), blob)?;
-    put(alloc, objects, Kind::Tree, &body)
+    add_long_entry(rt, alloc, &mut body, "40000", (b'a', folder), below);
+    add_long_entry(rt, alloc, &mut body, "100644", (b'b', file), blob);
+    put(rt, alloc, objects, Kind::Tree, &body)
 }
 
 // A tree of so many entries of one mode that name one object; their names are numbers.
 fn put_wide(
+    rt: &impl Abort,
     alloc: Global,
     objects: &mut ObjectList,
     mode: &str,
     count: usize,
     id: ObjectId,
-) -> Result<ObjectId, Fail> {
+) -> ObjectId {
     let mut body = Vec::new(alloc);
     for number in 1000..count.saturating_add(1000) {
-        let name = format!(in alloc; "{number}")?;
-        add_entry(&mut body, mode, name.as_bytes(), id)?;
+        let name = format!(in alloc; "{number}").expect(rt, "memory for a name");
+        add_entry(rt, &mut body, mode, name.as_bytes(), id);
     }
-    put(alloc, objects, Kind::Tree, &body)
+    put(rt, alloc, objects, Kind::Tree, &body)
 }
 
 fn put_nest(
+    rt: &impl Abort,
     alloc: Global,
     objects: &mut ObjectList,
     deep: usize,
     wide: usize,
     files: usize,
-) -> Result<ObjectId, Fail> {
-    let blob = put(alloc, objects, Kind::Blob, b"1")?;
-    let mut tree = put_wide(alloc, objects, "100644", files, blob)?;
+) -> ObjectId {
+    let blob = put(rt, alloc, objects, Kind::Blob, b"1");
+    let mut tree = put_wide(rt, alloc, objects, "100644", files, blob);
     for _ in 0..deep {
-        tree = put_wide(alloc, objects, "40000", wide, tree)?;
+        tree = put_wide(rt, alloc, objects, "40000", wide, tree);
     }
-    Ok(tree)
+    tree
 }
 
-fn put_below_long(alloc: Global, objects: &mut ObjectList, files: usize) -> Result<ObjectId, Fail> {
-    let below = put_nest(alloc, objects, 1, 100, files)?;
+fn put_below_long(
+    rt: &impl Abort,
+    alloc: Global,
+    objects: &mut ObjectList,
+    files: usize,
+) -> ObjectId {
+    let below = put_nest(rt, alloc, objects, 1, 100, files);
     let mut body = Vec::new(alloc);
-    add_long_entry(alloc, &mut body, "40000", (b'a', 4000), below)?;
-    put(alloc, objects, Kind::Tree, &body)
+    add_long_entry(rt, alloc, &mut body, "40000", (b'a', 4000), below);
+    put(rt, alloc, objects, Kind::Tree, &body)
 }
 
-fn put_shape(alloc: Global, objects: &mut ObjectList, shape: Shape) -> Result<ObjectId, Fail> {
+fn put_shape(rt: &impl Abort, alloc: Global, objects: &mut ObjectList, shape: Shape) -> ObjectId {
     match shape {
-        Shape::Long(folder, file) => put_long(alloc, objects, folder, file),
-        Shape::Nest(deep, wide, files) => put_nest(alloc, objects, deep, wide, files),
-        Shape::BelowLong(files) => put_below_long(alloc, objects, files),
+        Shape::Long(folder, file) => put_long(rt, alloc, objects, folder, file),
+        Shape::Nest(deep, wide, files) => put_nest(rt, alloc, objects, deep, wide, files),
+        Shape::BelowLong(files) => put_below_long(rt, alloc, objects, files),
     }
 }
 
-// How many changed paths a tree has.
-fn count_of(alloc: Global, shape: Shape) -> Result<Vec<u8>, Fail> {
+// Whether so many paths are changed; or too many, where none is due.
+fn is_count(paths: &Paths<'_>, due: Option<usize>) -> bool {
+    match paths {
+        Paths::Listed(list) => due == Some(list.len()),
+        Paths::TooMany => due.is_none(),
+        Paths::NoMemory => false,
+    }
+}
+
+fn check_count(rt: &impl Abort, alloc: Global, shape: Shape, due: Option<usize>) {
     let mut objects = ObjectList::new(alloc);
-    let tree = put_shape(alloc, &mut objects, shape)?;
-    let lens = lens_of(alloc, &objects)?;
-    print_count(alloc, &changed_paths(alloc, &lens, ObjectId::zero(), tree))
+    let tree = put_shape(rt, alloc, &mut objects, shape);
+    let lens = lens_of(rt, alloc, &objects);
+    let paths = changed_paths(alloc, &lens, ObjectId::zero(), tree);
+    assert!(rt; is_count(&paths, due), "{due:?}");
 }
 
 #[test]
-fn changed_paths_are_counted(rt: HostRuntime) -> Result<(), Fail> {
+fn changed_paths_are_counted(rt: HostRuntime) {
     for (shape, due) in &COUNTS {
-        let out = count_of(rt.alloc(), *shape)?;
-        assert_eq!(rt; out.as_slice(), due.as_bytes());
+        check_count(&rt, rt.alloc(), *shape, *due);
     }
-    Ok(())
 }
 
 const FILES: usize = 40;
@@ -371,42 +393,44 @@ static OTHERS: [u64; 12] = [
 ];
 
 fn put_files(
+    rt: &impl Abort,
     alloc: Global,
     objects: &mut ObjectList,
     blobs: (ObjectId, ObjectId),
     others: u64,
-) -> Result<ObjectId, Fail> {
+) -> ObjectId {
     let mut body = Vec::new(alloc);
     for number in 0..FILES {
-        let name = format!(in alloc; "{:02}", number)?;
+        let name = format!(in alloc; "{:02}", number).expect(rt, "memory for a name");
         let id = if (others >> number) & 1 == 1 {
             blobs.1
         } else {
             blobs.0
         };
-        add_entry(&mut body, "100644", name.as_bytes(), id)?;
+        add_entry(rt, &mut body, "100644", name.as_bytes(), id);
     }
-    put(alloc, objects, Kind::Tree, &body)
+    put(rt, alloc, objects, Kind::Tree, &body)
 }
 
-fn put_all_files(alloc: Global, objects: &mut ObjectList) -> Result<Vec<ObjectId>, Fail> {
-    let one = put(alloc, objects, Kind::Blob, b"1")?;
-    let two = put(alloc, objects, Kind::Blob, b"2")?;
+fn put_all_files(rt: &impl Abort, alloc: Global, objects: &mut ObjectList) -> Vec<ObjectId> {
+    let one = put(rt, alloc, objects, Kind::Blob, b"1");
+    let two = put(rt, alloc, objects, Kind::Blob, b"2");
     let mut trees = Vec::new(alloc);
     for others in &OTHERS {
-        let tree = put_files(alloc, objects, (one, two), *others)?;
-        trees.push(tree)?;
+        let tree = put_files(rt, alloc, objects, (one, two), *others);
+        add_id(rt, &mut trees, tree);
     }
-    Ok(trees)
+    trees
 }
 
 // A tree with a folder for each pair of trees, in which the first of the pair is, or the second.
 fn put_pairs(
+    rt: &impl Abort,
     alloc: Global,
     objects: &mut ObjectList,
     trees: &[ObjectId],
     is_first: bool,
-) -> Result<ObjectId, Fail> {
+) -> ObjectId {
     let mut body = Vec::new(alloc);
     for pair in 0..OTHERS.len() * OTHERS.len() {
         let tree = if is_first {
@@ -414,43 +438,43 @@ fn put_pairs(
         } else {
             pair % OTHERS.len()
         };
-        let name = format!(in alloc; "{:03}", pair)?;
-        let Some(id) = trees.get(tree) else {
-            return Err(Fail::from("a tree of each"));
-        };
-        add_entry(&mut body, "40000", name.as_bytes(), *id)?;
+        let name = format!(in alloc; "{:03}", pair).expect(rt, "memory for a name");
+        let id = id_at(rt, trees, tree);
+        add_entry(rt, &mut body, "40000", name.as_bytes(), id);
     }
-    put(alloc, objects, Kind::Tree, &body)
+    put(rt, alloc, objects, Kind::Tree, &body)
 }
 
 // The paths at which the trees of a pair differ.
-fn add_due_of_pair(alloc: Global, due: &mut Vec<u8>, pair: usize) -> Result<(), Fail> {
+fn add_due_of_pair(rt: &impl Abort, alloc: Global, due: &mut Vec<u8>, pair: usize) {
     let one = OTHERS.get(pair / OTHERS.len()).copied().unwrap_or(0);
     let other = OTHERS.get(pair % OTHERS.len()).copied().unwrap_or(0);
     for number in 0..FILES {
         if (one >> number) & 1 != (other >> number) & 1 {
-            let path = format!(in alloc; "{:03}/{:02}\n", pair, number)?;
-            due.extend_from_slice(path.as_bytes())?;
+            let path = format!(in alloc; "{:03}/{:02}\n", pair, number);
+            add(rt, due, path.expect(rt, "memory for a path").as_bytes());
         }
     }
-    Ok(())
+}
+
+fn due_of_pairs(rt: &impl Abort, alloc: Global) -> Vec<u8> {
+    let mut due = Vec::new(alloc);
+    for pair in 0..OTHERS.len() * OTHERS.len() {
+        add_due_of_pair(rt, alloc, &mut due, pair);
+    }
+    due
 }
 
 // Twelve trees are each compared with each, many of them by others.
 #[test]
-fn trees_are_compared_by_others(rt: HostRuntime) -> Result<(), Fail> {
+fn trees_are_compared_by_others(rt: HostRuntime) {
     let alloc = rt.alloc();
     let mut objects = ObjectList::new(alloc);
-    let trees = put_all_files(alloc, &mut objects)?;
-    let old = put_pairs(alloc, &mut objects, &trees, true)?;
-    let new = put_pairs(alloc, &mut objects, &trees, false)?;
-    let mut due = Vec::new(alloc);
-    for pair in 0..OTHERS.len() * OTHERS.len() {
-        add_due_of_pair(alloc, &mut due, pair)?;
-    }
-    let lens = lens_of(alloc, &objects)?;
+    let trees = put_all_files(&rt, alloc, &mut objects);
+    let old = put_pairs(&rt, alloc, &mut objects, &trees, true);
+    let new = put_pairs(&rt, alloc, &mut objects, &trees, false);
+    let lens = lens_of(&rt, alloc, &objects);
     let paths = changed_paths(alloc, &lens, old, new);
-    let out = print_paths(alloc, &paths)?;
-    assert_eq!(rt; out.as_slice(), due.as_slice());
-    Ok(())
+    let due = due_of_pairs(&rt, alloc);
+    assert!(rt; are_paths(&rt, alloc, &paths, &due));
 }

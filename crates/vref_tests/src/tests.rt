@@ -1,40 +1,54 @@
 use base_types::Text;
-use git_object::{Kind, Object, ObjectId, ObjectList};
+use git_object::{Kind, MAX_BODY, Object, ObjectId, ObjectList};
 use ref_store::{Command, Lens, Repo};
 use std::alloc::Global;
-use std::test::Fail;
+use std::process::Abort;
 use vref::{Change, Facts, facts_of, facts_of_all};
 
 pub(crate) fn put(
+    rt: &impl Abort,
     alloc: Global,
     objects: &mut ObjectList,
     kind: Kind,
     body: &[u8],
-) -> Result<ObjectId, Fail> {
-    if body.len() > 100_000 {
-        return Err(Fail::from("a short body"));
-    }
-    let object = Object::parse(alloc, kind, body).map_err(|_| "a body of its form")?;
+) -> ObjectId {
+    assert!(rt; body.len() <= MAX_BODY);
+    let object = Object::parse(alloc, kind, body).expect(rt, "a body of its form");
     let name = object.name();
-    objects.push(object)?;
-    Ok(name)
+    objects.push(object).expect(rt, "memory for an object");
+    name
+}
+
+pub(crate) fn add(rt: &impl Abort, body: &mut Vec<u8>, bytes: &[u8]) {
+    body.extend_from_slice(bytes)
+        .expect(rt, "memory for a body");
+}
+
+fn add_line(rt: &impl Abort, body: &mut Vec<u8>, word: &[u8], id: ObjectId) {
+    add(rt, body, word);
+    add(rt, body, &id.hex());
+    add(rt, body, b"\n");
 }
 
 pub(crate) fn put_commit(
+    rt: &impl Abort,
     alloc: Global,
     objects: &mut ObjectList,
     tree: ObjectId,
     parents: &[ObjectId],
-) -> Result<ObjectId, Fail> {
-    let mut body = b"tree ".to_vec(alloc)?;
-    body.extend_from_slice(&tree.hex())?;
-    body.push(b'\n')?;
+) -> ObjectId {
+    let mut body = Vec::new(alloc);
+    add_line(rt, &mut body, b"tree ", tree);
     for parent in parents {
-        body.extend_from_slice(b"parent ")?;
-        body.extend_from_slice(&parent.hex())?;
-        body.push(b'\n')?;
+        add_line(rt, &mut body, b"parent ", *parent);
     }
-    put(alloc, objects, Kind::Commit, &body)
+    put(rt, alloc, objects, Kind::Commit, &body)
+}
+
+// The objects of a pack alone.
+pub(crate) fn lens_of(rt: &impl Abort, alloc: Global, pack: &ObjectList) -> Lens {
+    let repo = Repo::empty(alloc).expect(rt, "memory for a repository");
+    Lens::new(alloc, &repo, pack).expect(rt, "memory for a lens")
 }
 
 fn facts(change: Change, tag: bool, commits: bool, forward: bool, merge: bool) -> Facts {
@@ -47,83 +61,69 @@ fn facts(change: Change, tag: bool, commits: bool, forward: bool, merge: bool) -
     }
 }
 
-// The first row of the table, a ref with its old and new value, of which the facts are others.
-fn facts_otherwise(
-    alloc: Global,
-    lens: &Lens,
-    rows: &[(&str, ObjectId, ObjectId, Facts)],
-) -> Result<Option<usize>, Fail> {
+// A ref with its old and new value, and the facts.
+type Row = (&'static str, ObjectId, ObjectId, Facts);
+
+fn is_told(alloc: Global, lens: &Lens, row: Row) -> bool {
+    let (name, old, new, facts) = row;
+    facts_of(alloc, lens, name.as_bytes(), old, new) == Ok(facts)
+}
+
+fn check_each(rt: &impl Abort, alloc: Global, lens: &Lens, rows: &[Row]) {
     for i in 0..rows.len() {
-        let (name, old, new, facts) = rows[i];
-        let told = facts_of(alloc, lens, name.as_bytes(), old, new).map_err(|_| "memory")?;
-        if told != facts {
-            return Ok(Some(i));
-        }
+        assert!(rt; is_told(alloc, lens, rows[i]), "row {i}");
     }
-    Ok(None)
+}
+
+fn command_of(rt: &impl Abort, alloc: Global, row: Row) -> Command {
+    let (name, old, new, _) = row;
+    let name = Text::of(alloc, name.as_bytes()).expect(rt, "memory for a name");
+    Command { old, new, name }
 }
 
 // The rows, so many times over, as changes of one push.
-fn changes_of(
-    alloc: Global,
-    rows: &[(&str, ObjectId, ObjectId, Facts)],
-    times: usize,
-) -> Result<Vec<Command>, Fail> {
+fn changes_of(rt: &impl Abort, alloc: Global, rows: &[Row], times: usize) -> Vec<Command> {
     let mut changes = Vec::new(alloc);
     for _ in 0..times {
-        for (name, old, new, _) in rows {
-            let name = Text::of(alloc, name.as_bytes()).map_err(|_| "memory")?;
-            changes.push(Command {
-                old: *old,
-                new: *new,
-                name,
-            })?;
+        for row in rows {
+            let pushed = changes.push(command_of(rt, alloc, *row));
+            assert!(rt; pushed.is_ok());
         }
     }
-    Ok(changes)
+    changes
 }
 
-// The first change of all, so many times the rows, of which the facts are others.
-fn all_facts_otherwise(
-    alloc: Global,
-    lens: &Lens,
-    rows: &[(&str, ObjectId, ObjectId, Facts)],
-    times: usize,
-) -> Result<Option<usize>, Fail> {
-    let changes = changes_of(alloc, rows, times)?;
-    let told = facts_of_all(alloc, lens, &changes).map_err(|_| "memory")?;
-    if told.len() != changes.len() {
-        return Ok(Some(told.len()));
+// Whether the facts at a place are those of its row, where the rows come many times over.
+fn is_fact_of_row(told: &[Facts], rows: &[Row], place: usize) -> bool {
+    if rows.is_empty() {
+        return false;
     }
-    let long = rows.len();
-    if long == 0 {
-        return Ok(None);
+    match (told.get(place), rows.get(place % rows.len())) {
+        (Some(facts), Some(row)) => *facts == row.3,
+        _ => false,
     }
-    for i in 0..told.len() {
-        let Some(row) = rows.get(i % long) else {
-            return Ok(Some(i));
-        };
-        if told[i] != row.3 {
-            return Ok(Some(i));
-        }
-    }
-    Ok(None)
 }
 
-// The same of a few changes, which each walk by themselves, of one portion that goes by one order, and of several.
-fn all_facts_otherwise_often(
-    alloc: Global,
-    lens: &Lens,
-    rows: &[(&str, ObjectId, ObjectId, Facts)],
-) -> Result<Option<usize>, Fail> {
+// The facts of all changes at once, so many times the rows.
+fn check_all(rt: &impl Abort, alloc: Global, lens: &Lens, rows: &[Row], times: usize) {
+    let changes = changes_of(rt, alloc, rows, times);
+    let told = facts_of_all(alloc, lens, &changes).expect(rt, "memory for facts");
+    assert_eq!(rt; told.len(), changes.len());
+    for place in 0..told.len() {
+        assert!(rt;
+            is_fact_of_row(&told, rows, place),
+            "place {place} of {times} times"
+        );
+    }
+}
+
+// The facts one by one; and of a few changes, which each walk by themselves, of one portion that goes by one order, and of several.
+fn check_facts(rt: &impl Abort, alloc: Global, lens: &Lens, rows: &[Row]) {
+    check_each(rt, alloc, lens, rows);
     let few = rows.split_at(rows.len().min(5)).0;
-    for (some, times) in [(few, 1), (rows, 1), (rows, 20)] {
-        let other = all_facts_otherwise(alloc, lens, some, times)?;
-        if other.is_some() {
-            return Ok(other);
-        }
-    }
-    Ok(None)
+    check_all(rt, alloc, lens, few, 1);
+    check_all(rt, alloc, lens, rows, 1);
+    check_all(rt, alloc, lens, rows, 20);
 }
 
 // A ref, numbers of its old and its new object, and the facts.
@@ -161,98 +161,105 @@ static FACTS: [NumberedRow; 15] = [
 ];
 
 // The ids of the objects, by their numbers.
-fn put_numbered(alloc: Global, pack: &mut ObjectList) -> Result<Vec<ObjectId>, Fail> {
-    let blob = put(alloc, pack, Kind::Blob, b"x")?;
-    let tree = put(alloc, pack, Kind::Tree, b"")?;
-    let root = put_commit(alloc, pack, tree, &[])?;
-    let side = put_commit(alloc, pack, blob, &[])?;
-    let next = put_commit(alloc, pack, tree, &[root])?;
-    let merge = put_commit(alloc, pack, tree, &[next, side])?;
-    let zero = ObjectId::zero();
+fn put_numbered(rt: &impl Abort, alloc: Global, pack: &mut ObjectList) -> [ObjectId; 8] {
+    let blob = put(rt, alloc, pack, Kind::Blob, b"x");
+    let tree = put(rt, alloc, pack, Kind::Tree, b"");
+    let root = put_commit(rt, alloc, pack, tree, &[]);
+    let side = put_commit(rt, alloc, pack, blob, &[]);
+    let next = put_commit(rt, alloc, pack, tree, &[root]);
+    let merge = put_commit(rt, alloc, pack, tree, &[next, side]);
     let absent = ObjectId { bytes: [7; 20] };
-    Ok(vec![in alloc; zero, absent, blob, tree, root, side, next, merge]?)
+    [
+        ObjectId::zero(),
+        absent,
+        blob,
+        tree,
+        root,
+        side,
+        next,
+        merge,
+    ]
 }
 
-fn rows_of(
-    alloc: Global,
-    ids: &[ObjectId],
-) -> Result<Vec<(&'static str, ObjectId, ObjectId, Facts)>, Fail> {
+fn row_of(rt: &impl Abort, ids: &[ObjectId], row: &NumberedRow) -> Row {
+    let (name, old, new, change, tag, commits, forward, merge) = *row;
+    let old = *ids.get(old).expect(rt, "an object's number");
+    let new = *ids.get(new).expect(rt, "an object's number");
+    (name, old, new, facts(change, tag, commits, forward, merge))
+}
+
+fn rows_of(rt: &impl Abort, alloc: Global, ids: &[ObjectId]) -> Vec<Row> {
     let mut rows = Vec::new(alloc);
-    for (name, old, new, change, tag, commits, forward, merge) in &FACTS {
-        let (Some(old), Some(new)) = (ids.get(*old), ids.get(*new)) else {
-            return Err(Fail::from("an object's number"));
-        };
-        let due = facts(*change, *tag, *commits, *forward, *merge);
-        rows.push((*name, *old, *new, due))?;
+    for row in &FACTS {
+        let pushed = rows.push(row_of(rt, ids, row));
+        assert!(rt; pushed.is_ok());
     }
-    Ok(rows)
-}
-
-// The first row of which the facts are others, one by one or all at once.
-fn facts_of_pack_otherwise(
-    alloc: Global,
-    pack: &ObjectList,
-    rows: &[(&str, ObjectId, ObjectId, Facts)],
-) -> Result<Option<usize>, Fail> {
-    let repo = Repo::empty(alloc)?;
-    let lens = Lens::new(alloc, &repo, pack)?;
-    if let Some(row) = facts_otherwise(alloc, &lens, rows)? {
-        return Ok(Some(row));
-    }
-    all_facts_otherwise_often(alloc, &lens, rows)
+    rows
 }
 
 #[test]
-fn facts_of_changes(rt: HostRuntime) -> Result<(), Fail> {
+fn facts_of_changes(rt: HostRuntime) {
     let mut pack = ObjectList::new(rt.alloc());
-    let ids = put_numbered(rt.alloc(), &mut pack)?;
-    let rows = rows_of(rt.alloc(), &ids)?;
-    let otherwise = facts_of_pack_otherwise(rt.alloc(), &pack, &rows)?;
-    assert_eq!(rt; otherwise, None);
-    Ok(())
+    let ids = put_numbered(&rt, rt.alloc(), &mut pack);
+    let rows = rows_of(&rt, rt.alloc(), &ids);
+    let lens = lens_of(&rt, rt.alloc(), &pack);
+    check_facts(&rt, rt.alloc(), &lens, &rows);
+}
+
+// The commit at a place of a chain: each eighth merges the one before with one at its side.
+fn put_next(
+    rt: &impl Abort,
+    alloc: Global,
+    objects: &mut ObjectList,
+    tree: ObjectId,
+    last: ObjectId,
+    place: usize,
+) -> ObjectId {
+    let side = put_commit(rt, alloc, objects, last, &[]);
+    match place % 8 {
+        7 => put_commit(rt, alloc, objects, tree, &[last, side]),
+        _ => put_commit(rt, alloc, objects, tree, &[last]),
+    }
 }
 
 // A chain of commits, of which each eighth is a merge with a commit at its side.
-fn put_chain(alloc: Global, objects: &mut ObjectList, long: usize) -> Result<Vec<ObjectId>, Fail> {
-    let tree = put(alloc, objects, Kind::Tree, b"")?;
-    let mut last = put_commit(alloc, objects, tree, &[])?;
-    let mut chain = vec![in alloc; last]?;
-    for k in 1..long {
-        let side = put_commit(alloc, objects, last, &[])?;
-        last = match k % 8 {
-            7 => put_commit(alloc, objects, tree, &[last, side])?,
-            _ => put_commit(alloc, objects, tree, &[last])?,
-        };
-        chain.push(last)?;
+fn put_chain(
+    rt: &impl Abort,
+    alloc: Global,
+    objects: &mut ObjectList,
+    long: usize,
+) -> Vec<ObjectId> {
+    let tree = put(rt, alloc, objects, Kind::Tree, b"");
+    let mut last = put_commit(rt, alloc, objects, tree, &[]);
+    let mut chain = Vec::new(alloc);
+    chain.push(last).expect(rt, "memory for a chain");
+    for place in 1..long {
+        last = put_next(rt, alloc, objects, tree, last, place);
+        chain.push(last).expect(rt, "memory for a chain");
     }
-    Ok(chain)
+    chain
 }
 
 // Changes between commits of a chain here and there, with their facts: a merge is brought where one of the places 7, 15, .. lies behind the old place
 // and not behind the new one.
-fn changes_along(
-    alloc: Global,
-    chain: &[ObjectId],
-) -> Result<Vec<(&str, ObjectId, ObjectId, Facts)>, Fail> {
+fn changes_along(rt: &impl Abort, alloc: Global, chain: &[ObjectId]) -> Vec<Row> {
     let mut rows = Vec::new(alloc);
-    if chain.len() > 1000 {
-        return Err(Fail::from("a short chain"));
-    }
+    assert!(rt; chain.len() <= 1000);
     for k in 0..chain.len() {
         let to = k * 37 % chain.len();
         let merge = (k + 1) / 8 < (to + 1) / 8;
         let row = facts(Change::Update, false, true, k <= to, merge);
-        rows.push(("refs/heads/a", chain[k], chain[to], row))?;
+        let pushed = rows.push(("refs/heads/a", chain[k], chain[to], row));
+        assert!(rt; pushed.is_ok());
     }
-    Ok(rows)
+    rows
 }
 
 #[test]
-fn facts_along_a_chain(rt: HostRuntime) -> Result<(), Fail> {
+fn facts_along_a_chain(rt: HostRuntime) {
     let mut pack = ObjectList::new(rt.alloc());
-    let chain = put_chain(rt.alloc(), &mut pack, 100)?;
-    let rows = changes_along(rt.alloc(), &chain)?;
-    let otherwise = facts_of_pack_otherwise(rt.alloc(), &pack, &rows)?;
-    assert_eq!(rt; otherwise, None);
-    Ok(())
+    let chain = put_chain(&rt, rt.alloc(), &mut pack, 100);
+    let rows = changes_along(&rt, rt.alloc(), &chain);
+    let lens = lens_of(&rt, rt.alloc(), &pack);
+    check_facts(&rt, rt.alloc(), &lens, &rows);
 }

@@ -2,4 +2,4 @@ use Rattle.ancestry.specs.Known.{AreKnown}
 use Rattle.ancestry_tests.proofs.tests.all_beside.Given as goal
 
 abbrev pub invariant-loop-id : goal.invariant-loop-id
-invariant-loop-id l = AreKnown l.lens l.known
+invariant-loop-id g l = AreKnown l.lens l.known
