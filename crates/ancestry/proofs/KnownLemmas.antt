@@ -1,6 +1,5 @@
 -- What is known of some objects.
 use Rattle.std.proofs.Common.{◌≡◌, ℕ, ◌+◌, ◌-◌, ◌*◌, ◌<◌, arith, List, [], Bool, true, false, not, cond, is_none, Option, None, Some, Contains, refl, sym, ◌∙◌, ap, subst, inl, inr}
-use Rattle.std.specs.Prelude.{IsSome}
 use Rattle.std.specs.Option.{option_map_or}
 use Rattle.git_object.specs.Content.{Content}
 use Rattle.git_object.specs.Object.{links_of}
@@ -9,21 +8,15 @@ use Rattle.git_object.specs.declared.object_id.ObjectId.{ObjectId}
 use Rattle.ref_store.specs.Objects.{first_named}
 use Rattle.ancestry.specs.declared.verdict.Verdict.{Verdict}
 use Rattle.ancestry.specs.declared.verdict.Verdict.TheVariants.{Whole, WrongKind}
-use Rattle.ancestry.specs.Known.{IsRight, Extends}
-use Rattle.ancestry.specs.Tables.{Verdicts, Has, HasOne, Puts, AreOf}
+use Rattle.ancestry.specs.Known.{IsRight, IsWhole, Extends}
+use Rattle.ancestry.specs.Tables.{Entries, Has, HasOne, Puts, AreOf}
 use Rattle.ancestry.specs.Verdict.{alone, worse, IsToldOf, IsToldOfAll}
 use Rattle.ancestry.specs.Walk.{Want, IsMet, Root, Link, wanted_by, links_at, suits}
 use Rattle.ancestry.specs.Wholeness.{is_missing, is_wrong}
+use Rattle.ancestry.proofs.GenerationLemmas.{generation_grows}
+use Rattle.ancestry.proofs.OptionLemmas.{some_of, is_some_of}
 use Rattle.ancestry.proofs.TableLemmas.{has_put}
 use Rattle.ancestry.proofs.VerdictLemmas.{MetFrom, told_by_links, told_of_none}
-
-some_of : (o : Option Content) → IsSome o → (c : Content) × (o ≡ Some c)
-some_of None is = let bad : false ≡ true = is in cc
-some_of (Some c) is = (c, refl)
-
-pub is_some_of : (o : Option Content) (c : Content) → o ≡ Some c → IsSome o
-is_some_of None c is = cc
-is_some_of (Some d) c is = refl
 
 -- what is met among more objects, where all that is met among the fewer is there
 module _ (fewer more : List Content) (extends : Extends fewer more) (root : ObjectId) (kind : Option Kind) where
@@ -47,14 +40,14 @@ module _ (fewer more : List Content) (extends : Extends fewer more) (root : Obje
   same_met there want is = there_of want (there want (met_back there want is))
 
 -- what is whole stays whole as objects come
-pub right_grows : (fewer more : List Content) (id : ObjectId) (verdict : Verdict) → Extends fewer more → IsRight fewer id verdict × (verdict ≡ Whole) → IsRight more id verdict × (verdict ≡ Whole)
-right_grows fewer more id verdict extends right = ((is_some_of (first_named more id) here.0 (extends id here.0 here.1), subst (λ (v : Verdict). IsToldOfAll more (links_at more id) v) (sym right.1) whole), right.1)
+right_grows : (fewer more : List Content) (id : ObjectId) → Extends fewer more → IsRight fewer id Whole → IsRight more id Whole
+right_grows fewer more id extends right = (is_some_of (first_named more id) here.0 (extends id here.0 here.1), whole)
   where
     here : (c : Content) × (first_named fewer id ≡ Some c)
-    here = some_of (first_named fewer id) right.0.0
+    here = some_of (first_named fewer id) right.0
 
     told : IsToldOfAll fewer (links_at fewer id) Whole
-    told = subst (λ (v : Verdict). IsToldOfAll fewer (links_at fewer id) v) right.1 right.0.1
+    told = right.1
 
     links : links_at more id ≡ links_at fewer id
     links = ap (λ (f : Option Content). option_map_or (λ o. wanted_by (links_of o.kind o.body)) f []) (extends id here.0 here.1 ∙ sym here.1)
@@ -77,37 +70,24 @@ right_grows fewer more id verdict extends right = ((is_some_of (first_named more
       nothing (is_wrong fewer) (is_wrong more) (λ want same. ap (λ (f : Option Content). option_map_or (λ o. not (suits want.1 o.kind)) f false) same) told.1,
     )
 
--- nothing is known, or found out, of a name where no table has it
-pub found_more : (objects : List Content) (old new : Verdicts) (id : ObjectId) (verdict : Verdict) → Puts old new id verdict → IsRight objects id verdict
-    → ((q : ObjectId) (told : Verdict) → Has old q told → IsRight objects q told) → (q : ObjectId) (told : Verdict) → Has new q told → IsRight objects q told
-found_more objects old new id verdict puts right before q told has = elim (has_put old new id verdict puts q told has) [
-  | inl same ↦ subst (λ (i : ObjectId). IsRight objects i told) (sym same.0) (subst (λ (v : Verdict). IsRight objects id v) (sym same.1) right)
-  | inr old ↦ before q told old
-]
+pub whole_grows : (fewer more : List Content) (id : ObjectId) (generation : ℕ) → Extends fewer more → IsWhole fewer id generation → IsWhole more id generation
+whole_grows fewer more id generation extends whole = (right_grows fewer more id extends whole.0, generation_grows fewer more extends id generation whole.1)
 
-pub found_whole_more : (objects : List Content) (old new : Verdicts) (id : ObjectId) → Puts old new id Whole → IsRight objects id Whole
-    → ((q : ObjectId) (told : Verdict) → Has old q told → IsRight objects q told × (told ≡ Whole)) → (q : ObjectId) (told : Verdict) → Has new q told → IsRight objects q told × (told ≡ Whole)
-found_whole_more objects old new id puts right before q told has = elim (has_put old new id Whole puts q told has) [
-  | inl same ↦ (subst (λ (i : ObjectId). IsRight objects i told) (sym same.0) (subst (λ (v : Verdict). IsRight objects id v) (sym same.1) right), same.1)
-  | inr old ↦ before q told old
-]
+module _ {V : Type 0} (P : ObjectId → V → Type 0) where
+  -- what holds of a value that is put in, and of all that were there, holds of all
+  pub found_more : (old new : Entries V) (id : ObjectId) (value : V) → Puts old new id value → P id value → ((q : ObjectId) (told : V) → Has old q told → P q told) → (q : ObjectId) (told : V) → Has new q told → P q told
+  found_more old new id value puts right before q told has = elim (has_put old new id value puts q told has) [
+    | inl same ↦ subst (λ (i : ObjectId). P i told) (sym same.0) (subst (λ (v : V). P id v) (sym same.1) right)
+    | inr old ↦ before q told old
+  ]
 
--- tables of those before and another
-pub known_of : (objects : List Content) (before : List Verdicts) (table : Verdicts) (after : List Verdicts) → AreOf before table after
-    → ((q : ObjectId) (told : Verdict) → HasOne before q told → IsRight objects q told) → ((q : ObjectId) (told : Verdict) → Has table q told → IsRight objects q told)
-    → (q : ObjectId) (told : Verdict) → HasOne after q told → IsRight objects q told
-known_of objects before table after of known found q told has = elim (of q told has) [
-  | inl old ↦ known q told old
-  | inr new ↦ found q told new
-]
-
-pub known_whole_of : (objects : List Content) (before : List Verdicts) (table : Verdicts) (after : List Verdicts) → AreOf before table after
-    → ((q : ObjectId) (told : Verdict) → HasOne before q told → IsRight objects q told × (told ≡ Whole)) → ((q : ObjectId) (told : Verdict) → Has table q told → IsRight objects q told × (told ≡ Whole))
-    → (q : ObjectId) (told : Verdict) → HasOne after q told → IsRight objects q told × (told ≡ Whole)
-known_whole_of objects before table after of known found q told has = elim (of q told has) [
-  | inl old ↦ known q told old
-  | inr new ↦ found q told new
-]
+  -- what holds of all values of some tables and of another holds of theirs
+  pub known_of : (before : List (Entries V)) (table : Entries V) (after : List (Entries V)) → AreOf before table after
+      → ((q : ObjectId) (told : V) → HasOne before q told → P q told) → ((q : ObjectId) (told : V) → Has table q told → P q told) → (q : ObjectId) (told : V) → HasOne after q told → P q told
+  known_of before table after of known found q told has = elim (of q told has) [
+    | inl old ↦ known q told old
+    | inr new ↦ found q told new
+  ]
 
 worse_whole : (f : Option Content) (want : Want) → worse (alone f want) Whole ≡ alone f want
 worse_whole None want = refl

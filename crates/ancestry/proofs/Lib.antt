@@ -3,10 +3,13 @@ pub mod OrderLemmas
 pub mod WalkLemmas
 pub mod VerdictLemmas
 pub mod TableLemmas
+pub mod OptionLemmas
 pub mod KnownLemmas
 pub mod SeenLemmas
 pub mod WalkedLemmas
 pub mod ReachedLemmas
 pub mod LineLemmas
+pub mod GenerationLemmas
+pub mod AboveLemmas
 pub mod PlaceLemmas
 pub mod TagLemmas

@@ -1,5 +1,5 @@
 -- Ancestors and lines, and walks that stop short.
-use Rattle.std.proofs.Common.{◌≡◌, ◌⊎◌, inl, inr, Bool, true, false, cond, List, [], ◌∷◌, ◌++◌, map, Option, None, Some, Contains, refl, sym, ap, subst}
+use Rattle.std.proofs.Common.{◌≡◌, Bool, true, false, cond, List, [], ◌∷◌, ◌++◌, map, Option, None, Some, Contains, refl, sym, ap, subst}
 use Rattle.std.specs.Option.{option_map_or}
 use Rattle.std.specs.List.{list_any}
 use Rattle.ancestry.proofs.ListLemmas.{contains_here, contains_one, contains_none, contains_map, map_contains, any_contains, contains_any}
@@ -13,8 +13,7 @@ use Rattle.ancestry.specs.Reached.{IsReached, Root, Next}
 use Rattle.ancestry.specs.Sent.{linked_at, linked_outside}
 use Rattle.ancestry.specs.Walk.{Want, IsMet, wanted_by, links_at}
 use Rattle.ancestry.specs.Walk as walk
-use Rattle.ancestry.specs.Ancestors.{parents_at, parents_short_of, IsAncestor, BringsMerge, HasNewMerge}
-use Rattle.ancestry.specs.Laws.{IsLine}
+use Rattle.ancestry.specs.Ancestors.{parents_at, IsAncestor, IsLine}
 
 module _ (objects : List Content) where
   pub further : (second third first : ObjectId) → IsAncestor objects first second → IsAncestor objects second third → IsAncestor objects first third
@@ -38,46 +37,6 @@ module _ (objects : List Content) where
 contains_if : (b : Bool) (ids : List ObjectId) (id : ObjectId) → Contains (cond b [] ids) id → Contains ids id
 contains_if true ids id c = absurd (contains_none id c)
 contains_if false ids id c = c
-
-module _ (objects : List Content) (stop new : ObjectId) where
-  abbrev Short : ObjectId → Type 0
-  Short = IsReached (parents_short_of objects (Some stop)) (new ∷ [])
-
-  pub short_reached : (id : ObjectId) → Short id → IsAncestor objects id new
-  short_reached id (Root root c) = Root id c
-  short_reached id (Next from to is link) = Next from id (short_reached from is) (contains_if (same_id stop from) (parents_at objects from) id link)
-
-  goes_on : (from to : ObjectId) → Short from → Contains (parents_at objects from) to → (stop ≡ from) ⊎ Short to
-  goes_on from to is link = by_test (same_id stop from) refl
-    where
-      by_test : (b : Bool) → same_id stop from ≡ b → (stop ≡ from) ⊎ Short to
-      by_test true same = inl (id_is stop from same)
-      by_test false other = inr (Next from to is (subst (λ (b : Bool). Contains (cond b [] (parents_at objects from)) to) (sym other) link))
-
-  -- an ancestor of the new commit is met, or it is one of the commit where the walk stops, which is met then
-  pub short_or_before : (id : ObjectId) → IsAncestor objects id new → Short id ⊎ (IsAncestor objects id stop × Short stop)
-  short_or_before id (Root root c) = inl (Root id c)
-  short_or_before id (Next from to is link) = elim (short_or_before from is) [
-    | inl short ↦ elim (goes_on from id short link) [
-      | inl here ↦ inr (Next from id (Root from (subst (λ (i : ObjectId). Contains (stop ∷ []) i) here (contains_here stop []))) link, subst Short (sym here) short)
-      | inr further ↦ inl further
-    ]
-    | inr before ↦ inr (Next from id before.0 link, before.1)
-  ]
-
-  -- the commit where it stops is met just where it is an ancestor
-  pub stop_met : IsAncestor objects stop new → Short stop
-  stop_met is = elim (short_or_before stop is) [ inl short ↦ short | inr before ↦ before.1 ]
-
-  -- a merge is brought just where one is met that is no ancestor of the commit where the walk stops
-  pub merge_met : (line : List ObjectId) → ((id : ObjectId) → (Contains line id → Short id) × (Short id → Contains line id)) → (HasNewMerge objects stop line → BringsMerge objects stop new) × (BringsMerge objects stop new → HasNewMerge objects stop line)
-  merge_met line met = (
-    λ has. (has.0, short_reached has.0 ((met has.0).0 has.1), has.2, has.3),
-    λ brings. (brings.0, (met brings.0).1 (fresh brings.0 brings.1 brings.3), brings.2, brings.3),
-  )
-    where
-      fresh : (id : ObjectId) → IsAncestor objects id new → ¬ IsAncestor objects id stop → Short id
-      fresh id is old = elim (short_or_before id is) [ inl short ↦ short | inr before ↦ absurd (old before.0) ]
 
 pub outside_none : (objects : List Content) (had : List ObjectId) (id : ObjectId) → Contains had id → linked_outside objects had id ≡ []
 outside_none objects had id c = ap (λ (b : Bool). cond b [] (linked_at objects id)) (contains_any (same_id id) had id c (id_itself id))

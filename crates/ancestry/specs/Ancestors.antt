@@ -1,11 +1,11 @@
 -- Ancestors of commits, and the merges among them.
-use Rattle.std.specs.Prelude.{◌≤◌, false, Bool, List, [], ◌∷◌, length, Option, None, Some, if◌then◌else◌}
+use Rattle.std.specs.Prelude.{◌≡◌, ◌≤◌, List, [], ◌∷◌, length}
 use Rattle.std.specs.Option.{option_map_or}
 use Rattle.std.specs.List.{Contains}
 use Rattle.git_object.specs.Content.{Content}
 use Rattle.git_object.specs.Object.{parents_of}
 use Rattle.git_object.specs.declared.object_id.ObjectId.{ObjectId}
-use Rattle.ref_store.specs.Objects.{first_named, same_id}
+use Rattle.ref_store.specs.Objects.{first_named}
 use Rattle.ancestry.specs.Reached.{IsReached}
 
 -- the parents of the commit of this name; nothing else has any
@@ -15,6 +15,11 @@ parents_at objects id = option_map_or (λ o. parents_of o.kind o.body) (first_na
 -- a commit is an ancestor of itself, and a parent of an ancestor is one
 abbrev pub IsAncestor : List Content → ObjectId → ObjectId → Type 0
 IsAncestor objects ancestor id = IsReached (parents_at objects) (id ∷ []) ancestor
+
+-- a line of commits that leads from one back to another: each is a parent of the one before
+abbrev pub IsLine : List Content → ObjectId → List ObjectId → ObjectId → Type 0
+IsLine objects from [] to = from ≡ to
+IsLine objects from (next ∷ line) to = Contains (parents_at objects from) next × IsLine objects next line to
 
 -- a commit with two parents or more
 abbrev pub IsMerge : List Content → ObjectId → Type 0
@@ -26,18 +31,6 @@ BringsMerge objects old new = (id : ObjectId) × IsAncestor objects id new × Is
 
 -- steps on the way, which private functions cite
 
--- the parents, but of one commit none
-abbrev pub is_stop : Option ObjectId → ObjectId → Bool
-is_stop None id = false
-is_stop (Some stop) id = same_id stop id
-
-abbrev pub parents_short_of : List Content → Option ObjectId → ObjectId → List ObjectId
-parents_short_of objects stop id = if is_stop stop id then [] else parents_at objects id
-
 -- a merge is among these, and not among those
 abbrev pub HasMerge : List Content → List ObjectId → List ObjectId → Type 0
 HasMerge objects among without = (id : ObjectId) × Contains among id × IsMerge objects id × ¬ Contains without id
-
--- a merge among these is no ancestor of the old commit
-abbrev pub HasNewMerge : List Content → ObjectId → List ObjectId → Type 0
-HasNewMerge objects old line = (id : ObjectId) × Contains line id × IsMerge objects id × ¬ IsAncestor objects id old

@@ -1,10 +1,12 @@
 -- Laws of the definitions.
-use Rattle.std.specs.Prelude.{◌≡◌, ◌↔◌, true, List, [], ◌∷◌, Option, None}
+use Rattle.std.specs.Prelude.{◌≡◌, ◌↔◌, ◌<◌, ◌⊎◌, ℕ, true, List, [], ◌∷◌, Option, None, IsSome}
 use Rattle.std.specs.List.{Contains}
 use Rattle.git_object.specs.Content.{Content}
 use Rattle.git_object.specs.declared.object_id.ObjectId.{ObjectId}
 use Rattle.git_object.specs.declared.kind.Kind.{Kind}
-use Rattle.ancestry.specs.Ancestors.{parents_at, BringsMerge, IsAncestor}
+use Rattle.ref_store.specs.Objects.{first_named}
+use Rattle.ancestry.specs.Ancestors.{parents_at, BringsMerge, IsAncestor, IsLine}
+use Rattle.ancestry.specs.Generations.{HasGeneration, IsAfter}
 use Rattle.ancestry.specs.Order.{IsLeast}
 use Rattle.ancestry.specs.Reached.{IsReached}
 use Rattle.ancestry.specs.Sent.{linked_at}
@@ -31,11 +33,6 @@ MissingIsLeast = (objects : List Content) (root : ObjectId) (kind : Option Kind)
 abbrev pub WrongIsLeast : Type 0
 WrongIsLeast = (objects : List Content) (root : ObjectId) (kind : Option Kind) → IsLeast (IsWrong objects root kind) (wrong objects root kind)
 
--- a line of commits that leads from one back to another: each is a parent of the one before
-abbrev pub IsLine : List Content → ObjectId → List ObjectId → ObjectId → Type 0
-IsLine objects from [] to = from ≡ to
-IsLine objects from (next ∷ line) to = Contains (parents_at objects from) next × IsLine objects next line to
-
 -- an ancestor is one to which some line leads
 abbrev pub LinesLeadToAncestors : Type 0
 LinesLeadToAncestors = (objects : List Content) (ancestor id : ObjectId) → IsAncestor objects ancestor id ↔ ((line : List ObjectId) × IsLine objects id line ancestor)
@@ -47,6 +44,18 @@ AncestorsOfAncestors = (objects : List Content) (first second third : ObjectId) 
 -- a commit brings no merge to itself
 abbrev pub NoMergeByItself : Type 0
 NoMergeByItself = (objects : List Content) (id : ObjectId) → ¬ BringsMerge objects id id
+
+-- a commit has one generation at most
+abbrev pub OneGeneration : Type 0
+OneGeneration = (objects : List Content) (id : ObjectId) (one other : ℕ) → HasGeneration objects id one → HasGeneration objects id other → one ≡ other
+
+-- it is one more than the greatest of its parents', and zero where it has none
+abbrev pub GenerationsFollowParents : Type 0
+GenerationsFollowParents = (objects : List Content) (id : ObjectId) (generation : ℕ) → IsSome (first_named objects id) → IsAfter objects (parents_at objects id) generation → HasGeneration objects id generation
+
+-- an ancestor, if it isn't the commit itself, is of a lower one
+abbrev pub AncestorsAreLower : Type 0
+AncestorsAreLower = (objects : List Content) (ancestor id : ObjectId) (lower higher : ℕ) → IsAncestor objects ancestor id → HasGeneration objects ancestor lower → HasGeneration objects id higher → (ancestor ≡ id) ⊎ (lower < higher)
 
 -- what a fetch of an id reaches is what the walks meet that tell whether the id is whole
 abbrev pub ReachedIsMet : Type 0

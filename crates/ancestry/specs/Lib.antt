@@ -3,6 +3,7 @@ pub mod Walk
 pub mod Wholeness
 pub mod Verdict
 pub mod Tables
+pub mod Generations
 pub mod Known
 pub mod Seen
 pub mod IdSet

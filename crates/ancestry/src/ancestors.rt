@@ -1,79 +1,52 @@
 // Along the parents of commits.
-ghost use Rattle.std.specs.Prelude.{◌≡◌, ◌↔◌, ◌≤◌, IfOk, IsTrue, OnOk, length};
-ghost use Rattle.git_object.specs.Object.{parents_of};
-ghost use Rattle.ancestry.specs.Ancestors.{BringsMerge, HasMerge, HasNewMerge, IsAncestor, is_stop, parents_at, parents_short_of};
-ghost use Rattle.ancestry.specs.IdSet.{Adds};
+ghost use Rattle.std.specs.Prelude.{◌↔◌, ◌≤◌, ◌⊎◌, IfOk, IfSome, IsTrue, length};
+ghost use Rattle.ancestry.specs.Ancestors.{BringsMerge, HasMerge, IsAncestor, parents_at};
+ghost use Rattle.ancestry.specs.Generations.{HasLow, IsAtLeast};
+ghost use Rattle.ancestry.specs.Known.{AreKnown};
 
+use crate::generations::{ToParents, floor_of, has_low, high_among, line_above, past_above};
 use crate::id_set::IdSet;
-use crate::reached::{Steps, reached, reaches};
+use crate::known::Known;
+use crate::reached::reaches;
 use base_types::NoMemory;
-use git_object::{Object, ObjectId};
+use git_object::ObjectId;
 use ref_store::Lens;
 use std::alloc::Global;
 
-// From a commit to its parents, but from one commit nowhere.
-#[derive(Clone, Copy)]
-struct ToParents<'a> {
-    lens: &'a Lens,
-    stop: Option<ObjectId>,
-}
-
-impl<'a> Steps for ToParents<'a> {
-    ghost next = { λ s id. parents_short_of s.lens.now s.stop id };
-
-    fn insert_next(&self, id: ObjectId, set: &mut IdSet) -> Result<(), NoMemory> {
-        if is_stop(self.stop, id) {
-            return Ok(());
-        }
-        let Some(object) = self.lens.get(id) else {
-            return Ok(());
-        };
-        insert_parents(object, set)
-    }
-}
-
-fn is_stop(stop: Option<ObjectId>, id: ObjectId) -> bool
-    ensures { result ≡ is_stop stop id }
-{
-    match stop {
-        Some(stop) => stop == id,
-        None => false,
-    }
-}
-
-fn insert_parents(commit: &Object, set: &mut IdSet) -> Result<(), NoMemory>
-    ensures { OnOk result (Adds set.old set.new (parents_of commit.now.kind commit.now.body)) }
-{
-    for parent in commit.parents() {
-        set.insert(parent)?;
-    }
-    Ok(())
-}
-
-/// Whether the old commit is an ancestor of the new one, or the same. It walks back from the new commit as far as the old one is away, or all its
-/// history where the old one isn't in it.
+/// Whether the old commit is an ancestor of the new one, or the same. It walks back from the new commit as far as the old one is away, and goes on from no commit
+/// that is known to be of a lower generation. Where the generation of the old one isn't known, and it is no ancestor, that is all of the new one's history.
 pub fn is_ancestor(
     alloc: Global,
     lens: &Lens,
+    known: &Known,
     old: ObjectId,
     new: ObjectId,
 ) -> Result<bool, NoMemory>
+    requires { AreKnown lens.now known.now }
     ensures { IfOk result (λ is. IsTrue is ↔ IsAncestor lens.now old new) }
 {
-    let steps = ToParents { lens, stop: None };
+    let nothing = IdSet::new(alloc, lens.salt());
+    let steps = ToParents {
+        lens,
+        known,
+        least: floor_of(known, old),
+        past: &nothing,
+    };
     reaches(alloc, lens.salt(), &steps, new, old)
 }
 
-/// Whether a commit with two parents or more is an ancestor of the new commit and not of the old one.
+/// Whether a commit with two parents or more is an ancestor of the new commit and not of the old one. It costs what `advance_between` does.
 pub fn brings_merge(
     alloc: Global,
     lens: &Lens,
+    known: &Known,
     old: ObjectId,
     new: ObjectId,
 ) -> Result<bool, NoMemory>
+    requires { AreKnown lens.now known.now }
     ensures { IfOk result (λ brings. IsTrue brings ↔ BringsMerge lens.now old new) }
 {
-    Ok(advance_between(alloc, lens, old, new)?.merge)
+    Ok(advance_between(alloc, lens, known, old, new)?.merge)
 }
 
 /// How a commit follows another.
@@ -85,40 +58,118 @@ pub struct Advance {
     pub merge: bool,
 }
 
-/// How the new commit follows the old one. It walks back from the new commit and not beyond the old one; where it meets a merge on the way there it walks
-/// back from the old one too.
+// By so many generations the second walks go further down than the first, or by as many as the new commit is known to be above the old one. Each next walks go
+// further down by twice as many as those before.
+const FIRST_STEP: u64 = 16;
+
+/// How the new commit follows the old one.
+///
+/// Where the generation of the old commit is known, a change that is forward costs what it adds: a walk goes back from the new commit, but not on from the old
+/// one nor from lower generations. Any other change, as a rewind, costs a few times what both histories have above the generation where the new one joins the
+/// old one, or has ended: both commits are walked from, down to the generation of the old one, and then 16, 48, 112 and more generations further, until that
+/// shows the answer.
+///
+/// Where the generation of the old commit isn't known, the walk from the new one is all of its history if it doesn't meet the old one, and a merge costs all of
+/// the old one's history too.
 pub fn advance_between(
     alloc: Global,
     lens: &Lens,
+    known: &Known,
     old: ObjectId,
     new: ObjectId,
 ) -> Result<Advance, NoMemory>
+    requires { AreKnown lens.now known.now }
     ensures forward { IfOk result (λ a. IsTrue a.forward ↔ IsAncestor lens.now old new) }
     ensures merge { IfOk result (λ a. IsTrue a.merge ↔ BringsMerge lens.now old new) }
 {
-    let steps = ToParents {
-        lens,
-        stop: Some(old),
+    let Some(generation) = known.generation(old) else {
+        return advance_by_all(alloc, lens, known, old, new);
     };
-    let line = reached(alloc, lens.salt(), &steps, &[new])?;
-    Ok(Advance {
-        forward: line.contains(old),
-        merge: has_new_merge(alloc, lens, old, &line)?,
-    })
+    let of_new = known.generation(new).unwrap_or(generation);
+    let mut step = FIRST_STEP.max(of_new.saturating_sub(generation));
+    let mut least = generation;
+    let mut least_of_new = of_new.min(generation);
+    while least > 0 {
+        let told = advance_above(alloc, lens, known, least, least_of_new, old, new)?;
+        if let Some(advance) = told {
+            return Ok(advance);
+        }
+        least = least.saturating_sub(step);
+        least_of_new = least_of_new.saturating_sub(step);
+        step = step.saturating_mul(2);
+    }
+    advance_by_all(alloc, lens, known, old, new)
 }
 
-// Whether a merge among these commits is no ancestor of the old one.
-fn has_new_merge(alloc: Global, lens: &Lens, old: ObjectId, line: &IdSet) -> Result<bool, NoMemory>
-    ensures { IfOk result (λ has. IsTrue has ↔ HasNewMerge lens.now old line.now) }
+// The same, where walks from both commits down to some generations show it: no merge that isn't past is met, and nothing low behind which one may be; or one
+// is met of a generation so high that it would be past if it were an ancestor of the old commit.
+fn advance_above(
+    alloc: Global,
+    lens: &Lens,
+    known: &Known,
+    least: u64,
+    least_of_new: u64,
+    old: ObjectId,
+    new: ObjectId,
+) -> Result<Option<Advance>, NoMemory>
+    requires known { AreKnown lens.now known.now }
+    requires above { IsAtLeast lens.now least_of_new old }
+    ensures forward { IfOk result (λ told. IfSome told (λ a. IsTrue a.forward ↔ IsAncestor lens.now old new)) }
+    ensures merge { IfOk result (λ told. IfSome told (λ a. IsTrue a.merge ↔ BringsMerge lens.now old new)) }
+{
+    let past = past_above(alloc, lens, known, least, old)?;
+    let line = line_above(alloc, lens, known, least_of_new, &past, new)?;
+    let forward = line.contains(old);
+    if !may_bring(lens, known, least_of_new, &past, &line) {
+        return Ok(Some(Advance {
+            forward,
+            merge: false,
+        }));
+    }
+    let high = high_among(alloc, lens, known, least, &line)?;
+    if has_merge(lens, &high, &past) {
+        return Ok(Some(Advance {
+            forward,
+            merge: true,
+        }));
+    }
+    Ok(None)
+}
+
+// The same, whatever is known: not on from the old commit, and by all of its history where a merge is met.
+fn advance_by_all(
+    alloc: Global,
+    lens: &Lens,
+    known: &Known,
+    old: ObjectId,
+    new: ObjectId,
+) -> Result<Advance, NoMemory>
+    requires { AreKnown lens.now known.now }
+    ensures forward { IfOk result (λ a. IsTrue a.forward ↔ IsAncestor lens.now old new) }
+    ensures merge { IfOk result (λ a. IsTrue a.merge ↔ BringsMerge lens.now old new) }
 {
     let mut itself = IdSet::new(alloc, lens.salt());
     itself.insert(old)?;
-    if !has_merge(lens, line, &itself) {
-        return Ok(false);
+    let line = line_above(alloc, lens, known, 0, &itself, new)?;
+    let forward = line.contains(old);
+    if !has_merge(lens, &line, &itself) {
+        return Ok(Advance {
+            forward,
+            merge: false,
+        });
     }
-    let steps = ToParents { lens, stop: None };
-    let before = reached(alloc, lens.salt(), &steps, &[old])?;
-    Ok(has_merge(lens, line, &before))
+    let past = past_above(alloc, lens, known, 0, old)?;
+    Ok(Advance {
+        forward,
+        merge: has_merge(lens, &line, &past),
+    })
+}
+
+// Whether a merge is met that isn't past, or something of a lower generation than the least, behind which one may be.
+fn may_bring(lens: &Lens, known: &Known, least: u64, past: &IdSet, line: &IdSet) -> bool
+    ensures { IsTrue result ↔ (HasMerge lens.now line.now past.now ⊎ HasLow known.now least line.now past.now) }
+{
+    has_merge(lens, line, past) || has_low(known, least, line, past)
 }
 
 // Whether a merge is among some commits and not among others.

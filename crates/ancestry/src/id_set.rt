@@ -35,6 +35,13 @@ impl IdSet {
         }
     }
 
+    pub fn len(&self) -> usize
+        ensures len { result ≡ length self.now }
+        ensures small { result < 2 ^ 63 }
+    {
+        self.ids.len()
+    }
+
     /// The name at a place.
     pub fn nth(&self, at: usize) -> Option<ObjectId>
         ensures id { result ≡ slice_get self.now at }

@@ -13,11 +13,12 @@ use std::alloc::{AllocError, Global};
 /// What a walker has found out so far.
 #[derive(Drop)]
 pub struct Notes {
-    whole: Table,
-    amiss: Table,
+    whole: Table<u64>,
+    amiss: Table<Verdict>,
 }
 
 impl Notes {
+    ghost use Rattle.ancestry.specs.Generations.{HasGeneration};
     ghost use Rattle.ancestry.specs.Known.{AreFound, AreNoted, IsRight};
 
     pub fn none(alloc: Global, salt: Salt) -> Notes
@@ -33,8 +34,8 @@ impl Notes {
     pub fn get(&self, id: ObjectId) -> Option<Verdict>
         ensures { (objects : List Content) → AreNoted objects self.now → IfSome result (IsRight objects id) }
     {
-        if let Some(verdict) = self.whole.get(id) {
-            return Some(verdict);
+        if let Some(_generation) = self.whole.get(id) {
+            return Some(Verdict::Whole);
         }
         match self.amiss.get(id) {
             Some(verdict) => Some(verdict),
@@ -42,15 +43,32 @@ impl Notes {
         }
     }
 
-    pub fn insert(&mut self, id: ObjectId, verdict: Verdict) -> Result<(), NoMemory>
-        ensures { (objects : List Content) → AreNoted objects self.old → IsRight objects id verdict → AreNoted objects self.new }
+    /// The generation of an object behind which all is whole, where it was found out.
+    pub fn generation(&self, id: ObjectId) -> Option<u64>
+        ensures { (objects : List Content) → AreNoted objects self.now → IfSome result (HasGeneration objects id) }
     {
-        match verdict {
-            Verdict::Whole => {
-                self.whole.insert(id, Verdict::Whole)?;
+        match self.whole.get(id) {
+            Some(generation) => Some(generation),
+            None => None,
+        }
+    }
+
+    /// Notes what is told of all that the links of an object lead to, and its generation. A verdict without a generation, which is found out of no object whose
+    /// parents are among its links, is kept with those that are forgotten as objects come.
+    pub fn insert(
+        &mut self,
+        id: ObjectId,
+        verdict: Verdict,
+        generation: Option<u64>,
+    ) -> Result<(), NoMemory>
+        ensures { (objects : List Content) → AreNoted objects self.old → IsRight objects id verdict → IfSome generation (HasGeneration objects id) → AreNoted objects self.new }
+    {
+        match (verdict, generation) {
+            (Verdict::Whole, Some(generation)) => {
+                self.whole.insert(id, generation)?;
                 Ok(())
             }
-            Verdict::Missing(_) | Verdict::WrongKind(_) => {
+            _ => {
                 self.amiss.insert(id, verdict)?;
                 Ok(())
             }
@@ -72,20 +90,22 @@ impl Notes {
 /// What one walker found out.
 #[derive(Drop)]
 pub struct Findings {
-    whole: Layer,
-    amiss: Layer,
+    whole: Layer<u64>,
+    amiss: Layer<Verdict>,
 }
 
 /// What earlier walks found out about the objects of a repository. Clones share it.
 ///
-/// That all is whole that an object leads to stays known as objects come. What is amiss is known until an object comes.
+/// That all is whole that an object leads to stays known as objects come, and so does its generation, which is kept with it. What is amiss is known until an
+/// object comes.
 #[derive(Drop)]
 pub struct Known {
-    whole: Layers,
-    amiss: Layers,
+    whole: Layers<u64>,
+    amiss: Layers<Verdict>,
 }
 
 impl Known {
+    ghost use Rattle.ancestry.specs.Generations.{HasGeneration, generation_in};
     ghost use Rattle.ancestry.specs.Known.{AreFound, AreKnown, Extends, IsRight};
 
     pub fn nothing(alloc: Global) -> Known
@@ -101,11 +121,22 @@ impl Known {
     pub(crate) fn get(&self, id: ObjectId) -> Option<Verdict>
         ensures { (objects : List Content) → AreKnown objects self.now → IfSome result (IsRight objects id) }
     {
-        if let Some(verdict) = self.whole.get(id) {
-            return Some(verdict);
+        if let Some(_generation) = self.whole.get(id) {
+            return Some(Verdict::Whole);
         }
         match self.amiss.get(id) {
             Some(verdict) => Some(verdict),
+            None => None,
+        }
+    }
+
+    // The generation of an object behind which all is whole, where it is known. It costs a look-up in each of a few tables.
+    pub(crate) fn generation(&self, id: ObjectId) -> Option<u64>
+        ensures is { result ≡ generation_in self.now id }
+        ensures right { (objects : List Content) → AreKnown objects self.now → IfSome result (HasGeneration objects id) }
+    {
+        match self.whole.get(id) {
+            Some(generation) => Some(generation),
             None => None,
         }
     }

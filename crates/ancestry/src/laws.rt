@@ -1,5 +1,5 @@
 // Laws of the definitions.
-ghost use Rattle.ancestry.specs.Laws.{AncestorsOfAncestors, LinesLeadToAncestors, MeetsWithinObjects, MissingIsLeast, NoMergeByItself, ReachedIsMet, WrongIsLeast};
+ghost use Rattle.ancestry.specs.Laws.{AncestorsAreLower, AncestorsOfAncestors, GenerationsFollowParents, LinesLeadToAncestors, MeetsWithinObjects, MissingIsLeast, NoMergeByItself, OneGeneration, ReachedIsMet, WrongIsLeast};
 
 /// The laws hold, of all objects and every root.
 pub fn hold_laws()
@@ -10,4 +10,7 @@ pub fn hold_laws()
     ensures lines { LinesLeadToAncestors }
     ensures ancestors { AncestorsOfAncestors }
     ensures itself { NoMergeByItself }
+    ensures generation { OneGeneration }
+    ensures parents { GenerationsFollowParents }
+    ensures lower { AncestorsAreLower }
 {}

@@ -1,9 +1,8 @@
-// Tables of verdicts that several walkers share.
+// Tables that several walkers share.
 ghost use Rattle.std.specs.Prelude.{◌≡◌, ◌≤◌, [], IfOk, IfSome, length};
-ghost use Rattle.ancestry.specs.Tables.{AreOf, HasOne, IsOfAll};
+ghost use Rattle.ancestry.specs.Tables.{AreOf, HasOne, IsOfAll, first_in};
 
 use crate::table::Table;
-use crate::verdict::Verdict;
 use base_types::NoMemory;
 use git_object::ObjectId;
 use ref_store::Salt;
@@ -13,21 +12,21 @@ use std::sync::Arc;
 
 /// A table that never changes. A clone shares it.
 #[derive(Drop)]
-pub struct Layer {
-    table: Arc<Table>,
+pub struct Layer<V> {
+    table: Arc<Table<V>>,
 }
 
-impl Model for Layer {
+impl<V> Model for Layer<V> {
     ghost use Rattle.std.specs.Arc.{arc_value};
-    ghost use Rattle.ancestry.specs.Tables.{Verdicts};
+    ghost use Rattle.ancestry.specs.Tables.{Entries};
 
-    ghost Value = { Verdicts };
+    ghost Value = { Entries V };
 
     ghost view = { λ l. arc_value l.table };
 }
 
-impl Layer {
-    pub fn of(alloc: Global, table: Table) -> Result<Layer, NoMemory>
+impl<V: Copy> Layer<V> {
+    pub fn of(alloc: Global, table: Table<V>) -> Result<Layer<V>, NoMemory>
         ensures { IfOk result (λ layer. layer ≡ table) }
     {
         Ok(Layer {
@@ -35,17 +34,17 @@ impl Layer {
         })
     }
 
-    fn table(&self) -> &Table
+    fn table(&self) -> &Table<V>
         ensures { result.now ≡ self.now }
     {
         &self.table
     }
 }
 
-impl Clone for Layer {
+impl<V: Copy> Clone for Layer<V> {
     ghost is_clone = { λ layer copy. copy ≡ layer };
 
-    fn clone(&self) -> Result<Layer, AllocError> {
+    fn clone(&self) -> Result<Layer<V>, AllocError> {
         Ok(Layer {
             table: Arc::try_clone(&self.table)?,
         })
@@ -55,24 +54,24 @@ impl Clone for Layer {
 // A look-up goes through all tables, so no more than these are put beside one another unjoined.
 const MANY: usize = 40;
 
-/// Tables, the oldest first. Those that were joined have at least twice as many verdicts as the next; with those that were put beside them unjoined
-/// there are few. A clone shares them.
+/// Tables, the oldest first. Where each was joined as it came (`with`), each has at least twice as many values as the next, so there are few; those that were put
+/// beside the others (`beside`) may have any number. A clone shares them.
 #[derive(Drop)]
-pub struct Layers {
-    layers: Vec<Layer>,
+pub struct Layers<V> {
+    layers: Vec<Layer<V>>,
 }
 
-impl Model for Layers {
+impl<V> Model for Layers<V> {
     ghost use Rattle.std.specs.Prelude.{List};
-    ghost use Rattle.ancestry.specs.Tables.{Verdicts};
+    ghost use Rattle.ancestry.specs.Tables.{Entries};
 
-    ghost Value = { List Verdicts };
+    ghost Value = { List (Entries V) };
 
     ghost view = { λ l. l.layers.items };
 }
 
-impl Layers {
-    pub fn none(alloc: Global) -> Layers
+impl<V: Copy> Layers<V> {
+    pub fn none(alloc: Global) -> Layers<V>
         ensures { result ≡ [] }
     {
         Layers {
@@ -80,21 +79,22 @@ impl Layers {
         }
     }
 
-    /// A verdict for this name. It costs a look-up in each table.
-    pub fn get(&self, id: ObjectId) -> Option<Verdict>
-        ensures { IfSome result (HasOne self.now id) }
+    /// The value for this name in the oldest table that has one. It costs a look-up in each table.
+    pub fn get(&self, id: ObjectId) -> Option<V>
+        ensures first { result ≡ first_in self.now id }
+        ensures one { IfSome result (HasOne self.now id) }
     {
         for layer in &self.layers {
-            if let Some(verdict) = layer.table().get(id) {
-                return Some(verdict);
+            if let Some(value) = layer.table().get(id) {
+                return Some(value);
             }
         }
         None
     }
 
-    /// These tables and one more, which is joined with those before it while they have fewer than twice as many verdicts. So over time a verdict
+    /// These tables and one more, which is joined with those before it while they have fewer than twice as many values. So over time a value
     /// is joined as often as the logarithm of their number.
-    pub fn with(&self, alloc: Global, layer: &Layer) -> Result<Layers, NoMemory>
+    pub fn with(&self, alloc: Global, layer: &Layer<V>) -> Result<Layers<V>, NoMemory>
         ensures { IfOk result (AreOf self.now layer.now) }
     {
         let len = layer.table().len();
@@ -109,7 +109,7 @@ impl Layers {
     }
 
     /// These tables and one more, of which none is joined unless there are many.
-    pub fn beside(&self, alloc: Global, layer: &Layer) -> Result<Layers, NoMemory>
+    pub fn beside(&self, alloc: Global, layer: &Layer<V>) -> Result<Layers<V>, NoMemory>
         ensures { IfOk result (AreOf self.now layer.now) }
     {
         if self.layers.len() >= MANY {
@@ -123,7 +123,7 @@ impl Layers {
         Ok(Layers { layers })
     }
 
-    // How many tables stay where one with so many verdicts comes behind them.
+    // How many tables stay where one with so many values comes behind them.
     fn staying(&self, len: usize) -> usize
         ensures { result ≤ length self.now }
     {
@@ -141,18 +141,22 @@ impl Layers {
     }
 }
 
-impl Clone for Layers {
+impl<V: Copy> Clone for Layers<V> {
     ghost is_clone = { λ layers copy. copy ≡ layers };
 
-    fn clone(&self) -> Result<Layers, AllocError> {
+    fn clone(&self) -> Result<Layers<V>, AllocError> {
         Ok(Layers {
             layers: self.layers.clone()?,
         })
     }
 }
 
-// A table with the verdicts of several put in. Its salt is made of all their salts, so whoever chooses names knows it for none of them.
-fn joined(alloc: Global, layers: &[Layer], last: &Layer) -> Result<Layer, NoMemory>
+// A table with the values of several put in. Its salt is made of all their salts, so whoever chooses names knows it for none of them.
+fn joined<V: Copy>(
+    alloc: Global,
+    layers: &[Layer<V>],
+    last: &Layer<V>,
+) -> Result<Layer<V>, NoMemory>
     ensures { IfOk result (IsOfAll layers.now last.now) }
 {
     if layers.is_empty() {
@@ -168,7 +172,7 @@ fn joined(alloc: Global, layers: &[Layer], last: &Layer) -> Result<Layer, NoMemo
 }
 
 // The salt of the names in several tables and in one more.
-fn joined_salt(layers: &[Layer], with: Salt) -> Salt {
+fn joined_salt<V: Copy>(layers: &[Layer<V>], with: Salt) -> Salt {
     let mut salt = with;
     for layer in layers {
         salt = salt.joined(layer.table().salt());

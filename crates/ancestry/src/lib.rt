@@ -3,12 +3,13 @@
 //! - `facts`: what a rule may ask of a change of a ref;
 //! - `wholeness`: whether all that an id leads to is there and of the kind wanted;
 //! - `verdict`: what is amiss first among all that some ids lead to;
-//! - `table`, `layers`: verdicts by name, and tables of them that walkers share;
+//! - `table`, `layers`: values by name, and tables of them that walkers share;
 //! - `known`: what walkers find out, and keep for later ones;
 //! - `seen`: a plain walk, which keeps nothing;
 //! - `walks`: walks among the same objects;
 //! - `id_set`, `reached`: names, each once, and the one walk that goes along them;
-//! - `ancestors`: along the parents of commits;
+//! - `generations`: along the parents of commits, down to a generation;
+//! - `ancestors`: ancestors, and merges among them;
 //! - `sent`: what a fetch sends;
 //! - `tags`: what a tag stands for;
 //! - `laws`: laws of the definitions.
@@ -16,6 +17,7 @@
 
 mod ancestors;
 mod facts;
+mod generations;
 mod id_set;
 mod known;
 mod laws;

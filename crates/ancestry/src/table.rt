@@ -1,10 +1,9 @@
-// Verdicts by the names of the objects that they are of.
+// Values by the names of the objects that they are of.
 ghost use Rattle.std.specs.Prelude.{◌≡◌, ◌<◌, ◌^◌, [], IfOk, length, OnErr, OnOk};
 ghost use Rattle.std.specs.Map.{lookup};
 ghost use Rattle.ref_store.specs.Objects.{same_id};
 ghost use Rattle.ancestry.specs.Tables.{IsOfTwo, Puts};
 
-use crate::verdict::Verdict;
 use base_types::NoMemory;
 use git_object::ObjectId;
 use indexmap::IndexMap;
@@ -12,26 +11,26 @@ use ref_store::Salt;
 use std::alloc::Global;
 use std::marker::Model;
 
-/// For some objects, what is told of all that their links lead to; the object itself is left aside.
+/// A value for each of some objects, by their names.
 #[derive(Drop)]
-pub struct Table {
-    verdicts: IndexMap<ObjectId, Verdict, Salt>,
+pub struct Table<V> {
+    values: IndexMap<ObjectId, V, Salt>,
 }
 
-impl Model for Table {
-    ghost use Rattle.ancestry.specs.Tables.{Verdicts};
+impl<V> Model for Table<V> {
+    ghost use Rattle.ancestry.specs.Tables.{Entries};
 
-    ghost Value = { Verdicts };
+    ghost Value = { Entries V };
 
-    ghost view = { λ t. t.verdicts.entries };
+    ghost view = { λ t. t.values.entries };
 }
 
-impl Table {
-    pub fn new(alloc: Global, salt: Salt) -> Table
+impl<V: Copy> Table<V> {
+    pub fn new(alloc: Global, salt: Salt) -> Table<V>
         ensures { result ≡ [] }
     {
         Table {
-            verdicts: IndexMap::with_hasher(alloc, salt),
+            values: IndexMap::with_hasher(alloc, salt),
         }
     }
 
@@ -39,38 +38,38 @@ impl Table {
         ensures len { result ≡ length self.now }
         ensures small { result < 2 ^ 63 }
     {
-        self.verdicts.len()
+        self.values.len()
     }
 
     /// Where the hash of each name in the table begins.
     pub fn salt(&self) -> Salt {
-        *self.verdicts.hasher()
+        *self.values.hasher()
     }
 
-    pub fn get(&self, id: ObjectId) -> Option<Verdict>
+    pub fn get(&self, id: ObjectId) -> Option<V>
         ensures { result ≡ lookup (same_id id) self.now }
     {
-        self.verdicts.get(&id).copied()
+        self.values.get(&id).copied()
     }
 
-    pub fn insert(&mut self, id: ObjectId, verdict: Verdict) -> Result<(), NoMemory>
-        ensures ok { OnOk result (Puts self.old self.new id verdict) }
+    pub fn insert(&mut self, id: ObjectId, value: V) -> Result<(), NoMemory>
+        ensures ok { OnOk result (Puts self.old self.new id value) }
         ensures err { OnErr result (self.new ≡ self.old) }
     {
-        self.verdicts.insert(id, verdict)?;
+        self.values.insert(id, value)?;
         Ok(())
     }
 
-    /// The table with another's verdicts put in. It costs the other's number.
-    pub fn with_all(self, other: &Table) -> Result<Table, NoMemory>
+    /// The table with another's values put in. It costs the other's number.
+    pub fn with_all(self, other: &Table<V>) -> Result<Table<V>, NoMemory>
         ensures { IfOk result (IsOfTwo self other.now) }
     {
         let mut table = self;
-        for id in other.verdicts.keys() {
-            let Some(verdict) = other.get(*id) else {
+        for id in other.values.keys() {
+            let Some(value) = other.get(*id) else {
                 continue;
             };
-            table.insert(*id, verdict)?;
+            table.insert(*id, value)?;
         }
         Ok(table)
     }

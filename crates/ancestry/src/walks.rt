@@ -1,7 +1,9 @@
 // Walks among the same objects.
-ghost use Rattle.std.specs.Prelude.{◌≡◌, [], false, IfOk, IfSome, OnOk};
+ghost use Rattle.std.specs.Prelude.{◌≡◌, [], false, IfOk, IfSome, OnOk, Some};
 ghost use Rattle.std.specs.Option.{option_copied, option_map_or};
-ghost use Rattle.git_object.specs.Object.{links_of};
+ghost use Rattle.git_object.specs.Object.{links_of, parents_of};
+ghost use Rattle.ref_store.specs.Objects.{first_named};
+ghost use Rattle.ancestry.specs.Generations.{HasGeneration, IsAfter};
 ghost use Rattle.ancestry.specs.Verdict.{IsToldOf, IsToldOfAll};
 ghost use Rattle.ancestry.specs.Walk.{links_at, wanted_by};
 ghost use Rattle.ancestry.specs.Wholeness.{TellsOfWholeness};
@@ -18,8 +20,8 @@ use std::alloc::Global;
 use std::marker::Model;
 
 /// Walks among the same objects. Each object that isn't known yet is entered once by a walker, whatever it is asked and whether all is whole or
-/// not, and the links of what is entered are looked at twice. A blob is never entered. Only where links lead in a circle does each question walk
-/// by itself, along all that it meets.
+/// not, and the links of what is entered are looked at twice, the parents of a commit once more. A blob is never entered. Only where links lead in a
+/// circle does each question walk by itself, along all that it meets.
 #[derive(Drop)]
 pub struct Walks<'a> {
     alloc: Global,
@@ -141,6 +143,33 @@ impl<'a> Walks<'a> {
         Some(verdict)
     }
 
+    // The generation of an object behind which all is whole, where it is known already.
+    fn generation(&self, id: ObjectId) -> Option<u64>
+        ensures { IfSome result (HasGeneration self.now id) }
+    {
+        match self.notes.generation(id) {
+            Some(generation) => Some(generation),
+            None => self.known.generation(id),
+        }
+    }
+
+    // The generation of an object, by those of its parents; nothing where one of theirs isn't known.
+    fn generation_of(&self, object: &Object) -> Option<u64>
+        ensures { IfSome result (IsAfter self.now (parents_of object.now.kind object.now.body)) }
+    {
+        let mut generation: u64 = 0;
+        for parent in object.parents() {
+            let Some(before) = self.generation(parent) else {
+                return None;
+            };
+            let Some(after) = before.checked_add(1) else {
+                return None;
+            };
+            generation = generation.max(after);
+        }
+        Some(generation)
+    }
+
     // Adds the links of an object that aren't settled to what is to be done.
     fn add_links(&self, object: &Object, work: &mut Vec<ObjectId>) -> Result<(), NoMemory> {
         for (to, _) in object.links() {
@@ -151,12 +180,14 @@ impl<'a> Walks<'a> {
         Ok(())
     }
 
-    // Notes what is told of all that the links of an object lead to.
-    fn put(&mut self, id: ObjectId, verdict: Verdict) -> Result<(), NoMemory>
-        requires { IsRight self.old id verdict }
+    // Notes what is told of all that the links of an object lead to, and its generation.
+    fn put(&mut self, id: ObjectId, object: &Object, verdict: Verdict) -> Result<(), NoMemory>
+        requires object { first_named self.old id ≡ Some object.now }
+        requires verdict { IsRight self.old id verdict }
         ensures { self.new ≡ self.old }
     {
-        self.notes.insert(id, verdict)
+        let generation = self.generation_of(object);
+        self.notes.insert(id, verdict, generation)
     }
 
     // Settles an id and all that it leads to, links before what they are links of. An id comes up twice where a link of it isn't settled: when
@@ -176,7 +207,7 @@ impl<'a> Walks<'a> {
                 continue;
             };
             if let Some(verdict) = self.verdict_of_links(object) {
-                self.put(id, verdict)?;
+                self.put(id, object, verdict)?;
                 continue;
             }
             let is_new = entered.insert(id)?;

@@ -1,6 +1,11 @@
 // What commits bring, and what a fetch sends.
+ghost use Rattle.std.specs.Prelude.{◌≡◌};
+ghost use Rattle.ancestry.specs.Known.{AreFound, AreKnown};
+
 use crate::tests::{absent, lens_of, put, put_commit, put_tag, put_tree, repo_of};
-use ancestry::{Advance, advance_between, brings_merge, is_ancestor, peel, reach};
+use ancestry::{
+    Advance, Findings, Known, Walks, advance_between, brings_merge, is_ancestor, peel, reach,
+};
 use git_object::{Kind, ObjectId, ObjectList};
 use ref_store::{Lens, Repo};
 use std::alloc::Global;
@@ -111,16 +116,52 @@ fn put_history(
 }
 
 // Whether just this is told of an old and a new object, at once and by its halves.
-fn check_advance(rt: &impl Abort, alloc: Global, lens: &Lens, ids: &[ObjectId], row: &AdvanceRow) {
+fn ask_all(walks: &mut Walks<'_>, ids: &[ObjectId])
+    ensures { walks.new ≡ walks.old }
+{
+    for id in ids {
+        let _told = walks.whole(*id, None);
+    }
+}
+
+// What one walker finds out of all of these.
+fn found_of(rt: &impl Abort, alloc: Global, lens: &Lens, ids: &[ObjectId]) -> Findings
+    ensures { AreFound lens.now result }
+{
+    let mut walks = Walks::new(alloc, lens);
+    ask_all(&mut walks, ids);
+    walks.into_findings().expect(rt, "memory for findings")
+}
+
+fn known_of(rt: &impl Abort, alloc: Global, lens: &Lens, ids: &[ObjectId]) -> Known
+    ensures { AreKnown lens.now result }
+{
+    let findings = found_of(rt, alloc, lens, ids);
+    let nothing = Known::nothing(alloc);
+    nothing
+        .with(alloc, &findings)
+        .expect(rt, "memory for what is known")
+}
+
+fn check_advance(
+    rt: &impl Abort,
+    alloc: Global,
+    lens: &Lens,
+    known: &Known,
+    ids: &[ObjectId],
+    row: &AdvanceRow,
+)
+    requires { AreKnown lens.now known.now }
+{
     let (old, new) = (id_at(rt, ids, row.0), id_at(rt, ids, row.1));
     let due = Advance {
         forward: row.2,
         merge: row.3,
     };
-    let told = advance_between(alloc, lens, old, new);
+    let told = advance_between(alloc, lens, known, old, new);
     assert!(rt; told == Ok(due), "from {} to {}", row.0, row.1);
-    assert!(rt; is_ancestor(alloc, lens, old, new) == Ok(row.2));
-    assert!(rt; brings_merge(alloc, lens, old, new) == Ok(row.3));
+    assert!(rt; is_ancestor(alloc, lens, known, old, new) == Ok(row.2));
+    assert!(rt; brings_merge(alloc, lens, known, old, new) == Ok(row.3));
 }
 
 #[test]
@@ -130,8 +171,11 @@ fn what_a_commit_brings(rt: HostRuntime) {
     let mut pack = ObjectList::new(alloc);
     let ids = put_history(&rt, alloc, &mut stored, &mut pack);
     let lens = lens_of(&rt, alloc, &stored, &pack);
+    let nothing = Known::nothing(alloc);
+    let known = known_of(&rt, alloc, &lens, &ids);
     for row in &ADVANCES {
-        check_advance(&rt, alloc, &lens, &ids, row);
+        check_advance(&rt, alloc, &lens, &nothing, &ids, row);
+        check_advance(&rt, alloc, &lens, &known, &ids, row);
     }
 }
 

@@ -111,8 +111,9 @@ fn tell_all(
     ensures found { IfOk result (λ all. AreFound lens.now all.findings) }
 {
     let names = names_of(alloc, commands)?;
-    let facts = facts_of_all(alloc, lens, commands)?;
-    let mut walks = Walks::knowing(alloc, lens, known_with(alloc, pin, pack)?);
+    let known = known_with(alloc, pin, pack)?;
+    let facts = facts_of_all(alloc, lens, &known, commands)?;
+    let mut walks = Walks::knowing(alloc, lens, known);
     let EachTold { outcomes, confs } = tell_each(
         alloc, pin, lens, pack, commands, &names, &facts, &mut walks,
     )?;

@@ -1,4 +1,5 @@
 -- That passes of a hub may go from thread to thread, part by part.
+use denote.Builtin.{u64}
 use denote.Param.Send.{IsSend, IsSync, recorded_send, sendable, struct_send, view_send}
 use denote.RattleType.{RattleType}
 use denote.Ref.{NamedLft}
@@ -14,6 +15,7 @@ use Rattle.ref_store.specs.contracts.repo.Repo as Repo
 use Rattle.ref_store.specs.contracts.lens.Lens as Lens
 use Rattle.ancestry.specs.contracts.table.Table as Table
 use Rattle.ancestry.specs.contracts.known.Known as Known
+use Rattle.ancestry.specs.contracts.verdict.Verdict as Verdict
 use Rattle.wild_perms.specs.contracts.wild.Wild as Wild
 use Rattle.rule_compile.specs.contracts.fault.PolicyFault as Fault
 use Rattle.hub_history.specs.contracts.outcome.Outcome as Outcome
@@ -70,17 +72,23 @@ lens_send = search (segments_send, objects_send, heap.crosses, sendable) depth 6
 lens_sync : IsSync Lens.the_row
 lens_sync = search (segments_sync, objects_sync, heap.crosses, sendable) depth 60
 
-verdicts_send : IsSend Table.the_row
+verdicts_send : IsSend (Table.the_row (Verdict.the_field).row)
 verdicts_send = search (heap.crosses, maps.crosses, sendable) depth 100 fits 50000
 
-verdicts_sync : IsSync Table.the_row
+verdicts_sync : IsSync (Table.the_row (Verdict.the_field).row)
 verdicts_sync = search (heap.crosses, maps.crosses, sendable) depth 100 fits 50000
 
+generations_send : IsSend (Table.the_row u64)
+generations_send = search (heap.crosses, maps.crosses, sendable) depth 100 fits 50000
+
+generations_sync : IsSync (Table.the_row u64)
+generations_sync = search (heap.crosses, maps.crosses, sendable) depth 100 fits 50000
+
 known_send : IsSend (Known.the_field).row
-known_send = search (verdicts_send, verdicts_sync, heap.crosses, sendable) depth 60
+known_send = search (verdicts_send, verdicts_sync, generations_send, generations_sync, heap.crosses, sendable) depth 100 fits 50000
 
 known_sync : IsSync (Known.the_field).row
-known_sync = search (verdicts_send, verdicts_sync, heap.crosses, sendable) depth 60
+known_sync = search (verdicts_send, verdicts_sync, generations_send, generations_sync, heap.crosses, sendable) depth 100 fits 50000
 
 wild_send : IsSend Wild.the_row
 wild_send = search (heap.crosses, sendable) depth 60

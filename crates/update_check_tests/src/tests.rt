@@ -1,6 +1,7 @@
 //! Changes of refs under small confs, with what the rules say of them worked out by hand.
 
 use access_check::{Request, denial_text};
+use ancestry::Known;
 use conf_groups::{ConfFile, FileList};
 use git_object::{Kind, MAX_BODY, Object, ObjectId, ObjectList};
 use ref_store::Repo;
@@ -375,7 +376,15 @@ fn refusal_of(
     asked: &Asked,
     change: &Command,
 ) -> Option<Refusal> {
-    let facts = facts_of(alloc, lens, change.name.bytes(), change.old, change.new);
+    let known = Known::nothing(alloc);
+    let facts = facts_of(
+        alloc,
+        lens,
+        &known,
+        change.name.bytes(),
+        change.old,
+        change.new,
+    );
     let facts = facts.expect(rt, "memory for facts");
     let check = UpdateCheck::new(policy, &asked.wild, &asked.name, &asked.asker);
     let refusal = check.refusal(alloc, lens, &facts, change);

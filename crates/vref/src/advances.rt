@@ -1,6 +1,7 @@
 // How commits follow others, many pairs at once.
 ghost use Rattle.std.specs.Prelude.{◌≡◌, ◌≤◌, ◌<◌, ◌↔◌, ℕ, IfOk, IfSome, IsTrue, length, map, Some};
 ghost use Rattle.std.specs.List.{AllZip, Contains};
+ghost use Rattle.ancestry.specs.Known.{AreKnown};
 ghost use Rattle.vref.specs.Advances.{AreFresh, IsAdvance};
 ghost use Rattle.vref.specs.History.{place};
 ghost use Rattle.vref.specs.Marks.{IsMarked};
@@ -9,7 +10,7 @@ use crate::bits::{BITS, has, joined, without};
 use crate::history::{Ids, links_of, merges_of, place_of};
 use crate::marks::marks_of;
 use crate::order::in_order;
-use ancestry::{Advance, advance_between};
+use ancestry::{Advance, Known, advance_between};
 use base_types::NoMemory;
 use git_object::ObjectId;
 use ref_store::Lens;
@@ -19,7 +20,7 @@ use std::marker::Model;
 /// A commit, and one that is to follow it.
 pub type Pair = (ObjectId, ObjectId);
 
-// Up to so many pairs each walk by itself: such a walk goes no further back than it must, and so many whole walks cost about twice what the order does.
+// Up to so many pairs each walk by itself: such a walk goes no further back than it must, and so many whole walks cost a few times what the order does.
 const FEW: usize = 4;
 
 /// How the second commit of each pair follows the first.
@@ -28,21 +29,23 @@ const FEW: usize = 4;
 pub fn advances_between(
     alloc: Global,
     lens: &Lens,
+    known: &Known,
     pairs: &[Pair],
 ) -> Result<Vec<Advance>, NoMemory>
+    requires { AreKnown lens.now known.now }
     ensures { IfOk result (λ advances. AllZip (IsAdvance lens.now) pairs.now advances.items) }
 {
     if count_of_different(pairs) <= FEW {
-        return advances_by_walks(alloc, lens, pairs);
+        return advances_by_walks(alloc, lens, known, pairs);
     }
     let Some(history) = History::of(alloc, lens, pairs)? else {
-        return advances_by_walks(alloc, lens, pairs);
+        return advances_by_walks(alloc, lens, known, pairs);
     };
     let mut advances = Vec::new(alloc);
     let mut rest = pairs;
     while !rest.is_empty() {
         let (portion, behind) = rest.split_at(rest.len().min(BITS));
-        let told = history.advances_of_portion(alloc, portion)?;
+        let told = history.advances_of_portion(alloc, known, portion)?;
         advances.extend_from_slice(&told)?;
         rest = behind;
     }
@@ -61,18 +64,30 @@ fn count_of_different(pairs: &[Pair]) -> usize {
 }
 
 // Each pair by a walk of its own.
-fn advances_by_walks(alloc: Global, lens: &Lens, pairs: &[Pair]) -> Result<Vec<Advance>, NoMemory>
+fn advances_by_walks(
+    alloc: Global,
+    lens: &Lens,
+    known: &Known,
+    pairs: &[Pair],
+) -> Result<Vec<Advance>, NoMemory>
+    requires { AreKnown lens.now known.now }
     ensures { IfOk result (λ advances. AllZip (IsAdvance lens.now) pairs.now advances.items) }
 {
     let mut advances = Vec::new(alloc);
     for pair in pairs {
-        advances.push(advance_by_walk(alloc, lens, *pair)?)?;
+        advances.push(advance_by_walk(alloc, lens, known, *pair)?)?;
     }
     Ok(advances)
 }
 
 /// How the second commit of a pair follows the first, by a walk if they differ.
-pub fn advance_by_walk(alloc: Global, lens: &Lens, pair: Pair) -> Result<Advance, NoMemory>
+pub fn advance_by_walk(
+    alloc: Global,
+    lens: &Lens,
+    known: &Known,
+    pair: Pair,
+) -> Result<Advance, NoMemory>
+    requires { AreKnown lens.now known.now }
     ensures { IfOk result (IsAdvance lens.now pair) }
 {
     let (old, new) = pair;
@@ -82,7 +97,7 @@ pub fn advance_by_walk(alloc: Global, lens: &Lens, pair: Pair) -> Result<Advance
             merge: false,
         });
     }
-    advance_between(alloc, lens, old, new)
+    advance_between(alloc, lens, known, old, new)
 }
 
 /// The commits of some pairs and all their ancestors.
@@ -107,6 +122,7 @@ impl<'a> Model for History<'a> {
 }
 
 impl<'a> History<'a> {
+    ghost use Rattle.ancestry.specs.Known.{AreKnown};
     ghost use Rattle.vref.specs.Advances.{IsAdvance};
 
     // Nothing where a parent isn't found in the order, which is so of no history.
@@ -127,17 +143,23 @@ impl<'a> History<'a> {
     }
 
     // At most 64 pairs at once. Where links lead in a circle each walks by itself.
-    fn advances_of_portion(&self, alloc: Global, pairs: &[Pair]) -> Result<Vec<Advance>, NoMemory>
-        requires { length pairs.now ≤ 64 }
+    fn advances_of_portion(
+        &self,
+        alloc: Global,
+        known: &Known,
+        pairs: &[Pair],
+    ) -> Result<Vec<Advance>, NoMemory>
+        requires few { length pairs.now ≤ 64 }
+        requires known { AreKnown self.now known.now }
         ensures { IfOk result (λ advances. AllZip (IsAdvance self.now) pairs.now advances.items) }
     {
         let olds = olds_of(alloc, pairs)?;
         let news = news_of(alloc, pairs)?;
         let Some(of_old) = marks_of(alloc, &self.ids, &self.links, &olds)? else {
-            return advances_by_walks(alloc, self.lens, pairs);
+            return advances_by_walks(alloc, self.lens, known, pairs);
         };
         let Some(of_new) = marks_of(alloc, &self.ids, &self.links, &news)? else {
-            return advances_by_walks(alloc, self.lens, pairs);
+            return advances_by_walks(alloc, self.lens, known, pairs);
         };
         let fresh = fresh_of(&self.merges, &of_old, &of_new);
         let mut advances = Vec::new(alloc);

@@ -2,28 +2,31 @@
 ghost use Rattle.std.specs.Prelude.{◌≡◌, ◌↔◌, ◌||◌, nat_eq, IfOk, IsTrue, codes, map};
 ghost use Rattle.std.specs.List.{AllZip, starts_with};
 ghost use Rattle.ancestry.specs.Ancestors.{BringsMerge, IsAncestor};
+ghost use Rattle.ancestry.specs.Known.{AreKnown};
 ghost use Rattle.vref.specs.Advances.{IsAdvance};
 ghost use Rattle.vref.specs.Facts.{AreFacts, change_of, is_between_commits, is_commit, is_zero, pair_of};
 
 use crate::advances::{Pair, advance_by_walk, advances_between};
-use ancestry::{Advance, Change, Facts};
+use ancestry::{Advance, Change, Facts, Known};
 use base_types::NoMemory;
 use git_object::{Kind, ObjectId};
 use ref_store::{Command, Lens};
 use std::alloc::Global;
 
-/// The facts of a change of a ref of this name. Of an update between two commits it walks back from the new one as far as the old one, and where it
-/// meets a merge from the old one too; of any other change it costs a few look-ups.
+/// The facts of a change of a ref of this name. Of an update between two commits it costs what `ancestry::advance_between` does; of any other change a few
+/// look-ups.
 pub fn facts_of(
     alloc: Global,
     lens: &Lens,
+    known: &Known,
     name: &[u8],
     old: ObjectId,
     new: ObjectId,
 ) -> Result<Facts, NoMemory>
+    requires { AreKnown lens.now known.now }
     ensures { IfOk result (AreFacts lens.now name.now old new) }
 {
-    let advance = advance_by_walk(alloc, lens, pair_of(lens, old, new))?;
+    let advance = advance_by_walk(alloc, lens, known, pair_of(lens, old, new))?;
     Ok(facts_by(lens, name, old, new, advance))
 }
 
@@ -31,11 +34,17 @@ pub fn facts_of(
 ///
 /// A few updates between commits walk as those of `facts_of` do. Of more the histories of all old and new commits are read once, and then gone along
 /// four times for each 64 changes. Where links lead in a circle, which no known history can, each update walks by itself.
-pub fn facts_of_all(alloc: Global, lens: &Lens, changes: &[Command]) -> Result<Vec<Facts>, NoMemory>
+pub fn facts_of_all(
+    alloc: Global,
+    lens: &Lens,
+    known: &Known,
+    changes: &[Command],
+) -> Result<Vec<Facts>, NoMemory>
+    requires { AreKnown lens.now known.now }
     ensures { IfOk result (λ facts. AllZip (λ change facts. AreFacts lens.now change.name change.old change.new facts) changes.now facts.items) }
 {
     let pairs = pairs_of(alloc, lens, changes)?;
-    let advances = advances_between(alloc, lens, &pairs)?;
+    let advances = advances_between(alloc, lens, known, &pairs)?;
     let mut all = Vec::new(alloc);
     for k in 0..changes.len() {
         let change = &changes[k];

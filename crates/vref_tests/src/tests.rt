@@ -1,3 +1,4 @@
+use ancestry::Known;
 use base_types::Text;
 use git_object::{Kind, MAX_BODY, Object, ObjectId, ObjectList};
 use ref_store::{Command, Lens, Repo};
@@ -66,7 +67,8 @@ type Row = (&'static str, ObjectId, ObjectId, Facts);
 
 fn is_told(alloc: Global, lens: &Lens, row: Row) -> bool {
     let (name, old, new, facts) = row;
-    facts_of(alloc, lens, name.as_bytes(), old, new) == Ok(facts)
+    let known = Known::nothing(alloc);
+    facts_of(alloc, lens, &known, name.as_bytes(), old, new) == Ok(facts)
 }
 
 fn check_each(rt: &impl Abort, alloc: Global, lens: &Lens, rows: &[Row]) {
@@ -107,7 +109,8 @@ fn is_fact_of_row(told: &[Facts], rows: &[Row], place: usize) -> bool {
 // The facts of all changes at once, so many times the rows.
 fn check_all(rt: &impl Abort, alloc: Global, lens: &Lens, rows: &[Row], times: usize) {
     let changes = changes_of(rt, alloc, rows, times);
-    let told = facts_of_all(alloc, lens, &changes).expect(rt, "memory for facts");
+    let known = Known::nothing(alloc);
+    let told = facts_of_all(alloc, lens, &known, &changes).expect(rt, "memory for facts");
     assert_eq!(rt; told.len(), changes.len());
     for place in 0..told.len() {
         assert!(rt;

@@ -1,14 +1,16 @@
-use Rattle.ancestry.proofs.LineLemmas.{short_reached, stop_met, merge_met}
+use Rattle.std.proofs.Common.{arith}
 use Rattle.ancestry.proofs.ancestors.advance_between.Goals as goal
 
-pub returns-clause-forward : goal.returns-clause-forward
-returns-clause-forward c = (
-  λ is. short_reached c.args.lens.now c.args.old c.args.new c.args.old ((c.in_ok-line.ensures c.args.old).0 (c.contains.ensures.0 is)),
-  λ is. c.contains.ensures.1 ((c.in_ok-line.ensures c.args.old).1 (stop_met c.args.lens.now c.args.old c.args.new is)),
-)
+pub loop-least-init : goal.loop-least-init
+loop-least-init c = record {
+  goes = omega (arith, c.max-step.ensures);
+  above = (c.in-Some.generation, c.in-Some.ensures.right c.args.lens.now c.requires, omega (arith, c.min-least_of_new.ensures));
+}
 
-pub returns-clause-merge : goal.returns-clause-merge
-returns-clause-merge c =
-    let met = merge_met c.args.lens.now c.args.old c.args.new c.in_ok-line.line c.in_ok-line.ensures in
-    let has = c.in_ok-has_new_merge.ensures in
-    (λ is. met.0 (has.0 is), λ brings. has.1 (met.1 brings))
+pub loop-least-preserved : goal.loop-least-preserved
+loop-least-preserved c =
+    let above = c.loop-least.invariant.above in
+    record {
+      goes = omega (arith, c.saturating_mul-step.ensures, c.loop-least.invariant.goes);
+      above = (above.0, above.1, omega (arith, c.saturating_sub-least_of_new.ensures, above.2));
+    }

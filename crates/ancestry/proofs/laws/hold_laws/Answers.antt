@@ -2,6 +2,7 @@ use Rattle.std.proofs.Common.{length}
 use Rattle.ancestry.specs.Wholeness.{is_missing, is_wrong}
 use Rattle.ancestry.proofs.WalkLemmas.{met_by_walk, met_early, least_met}
 use Rattle.ancestry.proofs.LineLemmas.{further, line_of, of_line, met_of_reached, reached_of_met}
+use Rattle.ancestry.proofs.GenerationLemmas.{one_generation, generation_after, ancestor_lower}
 use Rattle.ancestry.proofs.laws.hold_laws.Goals as goal
 
 pub returns-clause-within : goal.returns-clause-within
@@ -21,3 +22,12 @@ returns-clause-lines c = λ objects ancestor id. (line_of objects id ancestor, �
 
 pub returns-clause-ancestors : goal.returns-clause-ancestors
 returns-clause-ancestors c = λ objects first second third one two. further objects second third first one two
+
+pub returns-clause-generation : goal.returns-clause-generation
+returns-clause-generation c = λ objects id one other. one_generation objects id one other
+
+pub returns-clause-parents : goal.returns-clause-parents
+returns-clause-parents c = λ objects id generation there after. generation_after objects id generation there after
+
+pub returns-clause-lower : goal.returns-clause-lower
+returns-clause-lower c = λ objects ancestor id lower higher is low high. ancestor_lower objects ancestor id lower higher is low high

@@ -1,7 +1,7 @@
 use Rattle.std.proofs.Common.{◌≡◌, ◌++◌}
 use Rattle.git_object.specs.Object.{parents_of}
 use Rattle.ancestry.specs.IdSet.{Adds}
-use Rattle.ancestry.proofs.ancestors.insert_parents.Given as goal
+use Rattle.ancestry.proofs.generations.insert_parents.Given as goal
 
 abbrev pub invariant-loop-parent : goal.invariant-loop-parent
 invariant-loop-parent l = record {

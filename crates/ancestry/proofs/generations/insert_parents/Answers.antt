@@ -2,7 +2,7 @@ use Rattle.std.proofs.Common.{◌++◌, ◌∷◌, [], List, refl, sym, ◌∙�
 use Rattle.git_object.specs.declared.object_id.ObjectId.{ObjectId}
 use Rattle.ancestry.specs.IdSet.{Adds}
 use Rattle.ancestry.proofs.ReachedLemmas.{adds_none, adds_more}
-use Rattle.ancestry.proofs.ancestors.insert_parents.Goals as goal
+use Rattle.ancestry.proofs.generations.insert_parents.Goals as goal
 
 pub loop-parent-init : goal.loop-parent-init
 loop-parent-init c = record { adds = adds_none c.args.set.now; left = c.into_iter-parent-iterator.ensures.into_iter_gives ∙ c.parents-parent-items.ensures.parents }
