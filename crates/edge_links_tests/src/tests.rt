@@ -6,18 +6,33 @@ use std::fs::File;
 use std::io;
 use std::io::{ErrorKind, Read, Write};
 use std::net::{Shutdown, TcpListener, TcpStream};
+use std::process::Abort;
 use std::sync::atomic::AtomicU64;
 use std::sync::atomic::Ordering::SeqCst;
-use std::test::Fail;
 use std::time::Duration;
 
-fn link_over(alloc: Global, input: &[u8]) -> Result<MemoryLink, Fail> {
-    Ok(MemoryLink::new(
-        input.to_vec(alloc)?,
+fn link_over(rt: &impl Abort, alloc: Global, input: &[u8]) -> MemoryLink {
+    MemoryLink::new(
+        input.to_vec(alloc).expect(rt, "memory for the input"),
         65_536,
         Vec::new(alloc),
         Vec::new(alloc),
-    ))
+    )
+}
+
+fn door_over(
+    rt: &impl Abort,
+    alloc: Global,
+    inputs: &[&[u8]],
+    failing: &[u64],
+) -> MemoryDoor<MemoryLink> {
+    let mut links = Vec::new(alloc);
+    for input in inputs {
+        let link = link_over(rt, alloc, input);
+        links.push(link).expect(rt, "memory for a link");
+    }
+    let failing = failing.to_vec(alloc).expect(rt, "memory for a few numbers");
+    MemoryDoor::new(alloc, links, failing).expect(rt, "memory for a door")
 }
 
 // Takes a link and gives it back.
@@ -38,11 +53,9 @@ fn sent<T: Send>(it: T) -> T {
 }
 
 #[test]
-fn a_memory_door_serves_its_links_in_order(rt: HostRuntime) -> Result<(), Fail> {
-    let alloc = rt.alloc();
-    let links = vec![in alloc; link_over(alloc, b"first")?, link_over(alloc, b"second")?]?;
-    let door = MemoryDoor::new(alloc, links, vec![in alloc; 0, 2, 4]?)?;
-    let mut door = sent(door);
+fn a_memory_door_serves_its_links_in_order(rt: HostRuntime) {
+    let inputs: [&[u8]; 2] = [b"first", b"second"];
+    let mut door = sent(door_over(&rt, rt.alloc(), &inputs, &[0, 2, 4]));
     for answer in b"flflfcc" {
         assert_eq!(rt; serve_next(&mut door), *answer);
     }
@@ -50,29 +63,27 @@ fn a_memory_door_serves_its_links_in_order(rt: HostRuntime) -> Result<(), Fail> 
     assert_eq!(rt; served.len(), 2);
     assert_eq!(rt; served[0].left(), b"first".as_slice());
     assert_eq!(rt; served[1].left(), b"second".as_slice());
-    Ok(())
 }
 
 #[test]
-fn what_a_pipe_gives_is_taken_up_to_its_end(rt: HostRuntime) -> Result<(), Fail> {
-    let (reader, mut writer) = io::pipe(&rt)?;
+fn what_a_pipe_gives_is_taken_up_to_its_end(rt: HostRuntime) {
+    let (reader, mut writer) = io::pipe(&rt).expect(&rt, "a pipe");
     let mut source = StdSource::new(reader);
     let mut room = [0u8; 4];
-    writer.write_all(b"hello")?;
+    send(&rt, &mut writer, b"hello");
     drop(writer);
     assert!(rt; source.take(&mut room) == Taken::Got(4));
     assert_eq!(rt; room, *b"hell");
     assert!(rt; source.take(&mut room) == Taken::Got(1));
     assert_eq!(rt; room[0], b'o');
     assert!(rt; source.take(&mut room) == Taken::End);
-    let mut folder = StdSource::new(File::open(&rt, "/")?);
+    let mut folder = StdSource::new(File::open(&rt, "/").expect(&rt, "a folder"));
     assert!(rt; folder.take(&mut room) == Taken::Failed);
-    Ok(())
 }
 
 #[test]
-fn what_is_put_into_a_pipe_is_in_it_at_once(rt: HostRuntime) -> Result<(), Fail> {
-    let (reader, writer) = io::pipe(&rt)?;
+fn what_is_put_into_a_pipe_is_in_it_at_once(rt: HostRuntime) {
+    let (reader, writer) = io::pipe(&rt).expect(&rt, "a pipe");
     let mut sink = StdSink::new(writer);
     let mut source = StdSource::new(reader);
     let mut room = [0u8; 5];
@@ -81,7 +92,6 @@ fn what_is_put_into_a_pipe_is_in_it_at_once(rt: HostRuntime) -> Result<(), Fail>
     assert_eq!(rt; room, *b"hello");
     drop(source);
     assert!(rt; sink.put(b"hello") == Put::Failed);
-    Ok(())
 }
 
 // A stream that fails at its first call, counts its calls, and then moves a byte with each.
@@ -126,7 +136,7 @@ impl Write for FailsOnce<'_> {
 
 // Each call of a source or sink is one of its stream: a failed one is told and not made again.
 #[test]
-fn a_failed_call_is_told_at_once(rt: HostRuntime) -> Result<(), Fail> {
+fn a_failed_call_is_told_at_once(rt: HostRuntime) {
     let reads = AtomicU64::new(0);
     let mut source = StdSource::new(FailsOnce { calls: &reads });
     let mut room = [0u8; 4];
@@ -141,74 +151,106 @@ fn a_failed_call_is_told_at_once(rt: HostRuntime) -> Result<(), Fail> {
     assert_eq!(rt; writes.load(SeqCst), 1);
     assert!(rt; sink.put(b"hello") == Put::Took(1));
     assert_eq!(rt; writes.load(SeqCst), 2);
-    Ok(())
 }
 
 // A listener, and a client that waits to be accepted.
-fn client_of(rt: &HostRuntime) -> Result<(TcpListener, TcpStream), Fail> {
-    let listener = TcpListener::bind(rt, "127.0.0.1:0")?;
-    let client = TcpStream::connect(rt, listener.local_addr()?)?;
-    Ok((listener, client))
+fn client_of(rt: &HostRuntime) -> Option<(TcpListener, TcpStream)> {
+    let listener = TcpListener::bind(rt, "127.0.0.1:0").ok()?;
+    let address = listener.local_addr().ok()?;
+    let client = TcpStream::connect(rt, address).ok()?;
+    Some((listener, client))
+}
+
+// The other end of the client that waits.
+fn accepted(rt: &impl Abort, listener: &TcpListener) -> TcpStream {
+    let (stream, _) = listener.accept().expect(rt, "a client");
+    stream
+}
+
+fn again(rt: &impl Abort, stream: &TcpStream) -> TcpStream {
+    stream.try_clone().expect(rt, "another handle")
+}
+
+fn linked(rt: &impl Abort, alloc: Global, stream: TcpStream) -> TcpLink {
+    TcpLink::new(alloc, stream).expect(rt, "memory for a link")
+}
+
+fn send(rt: &impl Abort, to: &mut impl Write, bytes: &[u8]) {
+    to.write_all(bytes).expect(rt, "an open stream");
+}
+
+// How many bytes are there.
+fn read_once(rt: &impl Abort, from: &mut impl Read, room: &mut [u8]) -> usize {
+    from.read(room).expect(rt, "an open stream")
+}
+
+fn shut(rt: &impl Abort, stream: &TcpStream, side: Shutdown) {
+    stream.shutdown(side).expect(rt, "an open stream");
+}
+
+// Whether a read would have to wait.
+fn is_empty(rt: &impl Abort, stream: &mut TcpStream) -> bool {
+    stream.set_nonblocking(true).expect(rt, "an open stream");
+    let mut room = [0u8; 8];
+    let early = stream.read(&mut room).map_err(|error| error.kind());
+    stream.set_nonblocking(false).expect(rt, "an open stream");
+    early == Err(ErrorKind::WouldBlock)
 }
 
 #[test]
-fn a_tcp_link_gathers_what_is_put_until_it_is_read(rt: HostRuntime) -> Result<(), Fail> {
-    let (listener, mut client) = client_of(&rt)?;
-    let (stream, _) = listener.accept()?;
-    let near = stream.try_clone()?;
-    let mut link = sent(TcpLink::new(rt.alloc(), stream)?);
+fn a_tcp_link_gathers_what_is_put_until_it_is_read(rt: HostRuntime) {
+    let (listener, mut client) = client_of(&rt).expect(&rt, "a client");
+    let stream = accepted(&rt, &listener);
+    let near = again(&rt, &stream);
+    let mut link = sent(linked(&rt, rt.alloc(), stream));
     let mut room = [0u8; 8];
-    assert!(rt; near.nodelay()?);
+    assert!(rt; near.nodelay().expect(&rt, "an open stream"));
     assert!(rt; link.put(b"0009") == Put::Took(4));
     assert!(rt; link.put(b"hello") == Put::Took(5));
-    client.set_nonblocking(true)?;
-    let early = client.read(&mut room).map_err(|error| error.kind());
-    assert!(rt; early == Err(ErrorKind::WouldBlock));
-    client.set_nonblocking(false)?;
-    client.write_all(b"0000more")?;
+    assert!(rt; is_empty(&rt, &mut client));
+    send(&rt, &mut client, b"0000more");
     assert!(rt; link.take(room.split_at_mut(4).0) == Taken::Got(4));
     assert_eq!(rt; room, *b"0000\0\0\0\0");
-    assert!(rt; client.read(&mut room)? == 8);
+    assert_eq!(rt; read_once(&rt, &mut client, &mut room), 8);
     assert_eq!(rt; room, *b"0009hell");
     // what is gathered can't be sent any more
     assert!(rt; link.put(b"lost") == Put::Took(4));
-    near.shutdown(Shutdown::Both)?;
+    shut(&rt, &near, Shutdown::Both);
     assert!(rt; link.take(&mut room) == Taken::Failed);
     assert!(rt; link.put(b"lost") == Put::Failed);
-    Ok(())
 }
 
 #[test]
-fn a_tcp_link_reads_on_behind_the_last_reply(rt: HostRuntime) -> Result<(), Fail> {
-    let (listener, mut client) = client_of(&rt)?;
-    let (stream, _) = listener.accept()?;
-    let mut near = stream.try_clone()?;
-    let mut link = TcpLink::new(rt.alloc(), stream)?;
+fn a_tcp_link_reads_on_behind_the_last_reply(rt: HostRuntime) {
+    let (listener, mut client) = client_of(&rt).expect(&rt, "a client");
+    let stream = accepted(&rt, &listener);
+    let mut near = again(&rt, &stream);
+    let mut link = linked(&rt, rt.alloc(), stream);
     let mut room = [0u8; 4];
-    client.write_all(&[b'x'; 100_000])?;
-    client.shutdown(Shutdown::Write)?;
+    send(&rt, &mut client, &[b'x'; 100_000]);
+    shut(&rt, &client, Shutdown::Write);
     assert!(rt; link.take(&mut room) == Taken::Got(4));
     assert!(rt; link.put(b"refused") == Put::Took(7));
     link.close();
     // nothing is left unread, and the reply has its end, though another handle of the connection is open
-    assert!(rt; near.read(&mut room)? == 0);
-    client.set_read_timeout(Some(Duration::from_secs(5)))?;
+    assert_eq!(rt; read_once(&rt, &mut near, &mut room), 0);
+    let limit = client.set_read_timeout(Some(Duration::from_secs(5)));
+    limit.expect(&rt, "an open stream");
     let mut reply = Vec::new(rt.alloc());
-    assert!(rt; client.read_to_end(&mut reply)? == 7);
+    let read = client.read_to_end(&mut reply);
+    assert_eq!(rt; read.expect(&rt, "an open stream"), 7);
     assert_eq!(rt; reply.as_slice(), b"refused".as_slice());
-    Ok(())
 }
 
 #[test]
-fn a_tcp_door_gives_the_connections_of_its_listener(rt: HostRuntime) -> Result<(), Fail> {
-    let (listener, mut client) = client_of(&rt)?;
-    client.shutdown(Shutdown::Write)?;
+fn a_tcp_door_gives_the_connections_of_its_listener(rt: HostRuntime) {
+    let (listener, mut client) = client_of(&rt).expect(&rt, "a client");
+    shut(&rt, &client, Shutdown::Write);
     let mut door = sent(TcpDoor::new(rt.alloc(), Some(&listener)));
     assert_eq!(rt; serve_next(&mut door), b'l');
     let mut room = [0u8; 4];
-    assert!(rt; client.read(&mut room)? == 0);
+    assert_eq!(rt; read_once(&rt, &mut client, &mut room), 0);
     let mut unbound = TcpDoor::new(rt.alloc(), None);
     assert_eq!(rt; serve_next(&mut unbound), b'f');
     assert_eq!(rt; serve_next(&mut unbound), b'f');
-    Ok(())
 }

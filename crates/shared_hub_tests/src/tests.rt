@@ -11,8 +11,8 @@ use git_object::ObjectId;
 use hub::{EnterKept, Entry, Event, Hub, UserName};
 use shared_hub::{NoMemory, SharedHub, SharedPass};
 use std::alloc::Global;
+use std::process::Abort;
 use std::sync::Wait;
-use std::test::Fail;
 use std::thread::{Threads, join};
 
 // ---- two callers
@@ -164,32 +164,52 @@ fn kinds(log: &[Entry]) -> (usize, usize, usize) {
     (openings, denied, pushes)
 }
 
-fn new_hub(alloc: Global) -> Result<Hub, Fail> {
-    let ann = UserName::parse(alloc, b"ann")?.ok_or("a user's name")?;
-    Ok(Hub::start(alloc, &ann)?)
+fn new_hub(rt: &impl Abort, alloc: Global) -> Hub {
+    let ann = UserName::parse(alloc, b"ann").expect(rt, "memory for a name");
+    let hub = Hub::start(alloc, &ann.expect(rt, "a user's name"));
+    hub.expect(rt, "memory for a hub")
 }
 
-// Whether two callers are told what their row says, and their log has their openings and pushes.
-fn is_told<R: Threads + Wait + Sync>(rt: &R, alloc: Global, row: &Row) -> Result<bool, Fail> {
-    let (one, other, at_once, number, other_number, denied) = row;
-    let (one, other) = (job_of(alloc, one)?, job_of(alloc, other)?);
-    let steps = if *at_once { &AT_ONCE[..] } else { &IN_TURN[..] };
-    let hub = new_hub(alloc)?;
-    let (hub, told, other_told) = two_callers(rt, alloc, hub, (&one, &other), steps)?;
-    let numbers = (*number, *other_number);
-    let in_order = are(&told, &other_told, one.new, numbers);
-    let turned = *at_once && are(&other_told, &told, other.new, numbers);
-    let openings = if *at_once { 2 } else { 3 };
-    let whole = kinds(hub.log().as_slice()) == (openings, *denied, 2);
-    Ok((in_order || turned) && whole)
+fn steps_of(at_once: bool) -> &'static [(Act, Act)] {
+    if at_once { &AT_ONCE[..] } else { &IN_TURN[..] }
+}
+
+// Whether two callers that push these values are told what their row says.
+fn are_told(told: (&Told, &Told), row: &Row, news: (ObjectId, ObjectId)) -> bool {
+    let numbers = (row.3, row.4);
+    are(told.0, told.1, news.0, numbers) || (row.2 && are(told.1, told.0, news.1, numbers))
+}
+
+// Whether their log has their openings and pushes.
+fn has_entries(hub: &Hub, row: &Row) -> bool {
+    let openings = if row.2 { 2 } else { 3 };
+    kinds(hub.log().as_slice()) == (openings, row.5, 2)
+}
+
+// Two callers are told what their row says, and their log has their openings and pushes.
+fn check_jobs<R: Threads + Wait + Abort + Sync>(
+    rt: &R,
+    alloc: Global,
+    jobs: (&Job, &Job),
+    row: &Row,
+) {
+    let left = two_callers(rt, alloc, new_hub(rt, alloc), jobs, steps_of(row.2));
+    let (hub, told, other_told) = left.expect(rt, "memory for two callers");
+    assert!(rt; are_told((&told, &other_told), row, (jobs.0.new, jobs.1.new)));
+    assert!(rt; has_entries(&hub, row));
+}
+
+fn check_row<R: Threads + Wait + Abort + Sync>(rt: &R, alloc: Global, row: &Row) {
+    let one = job_of(rt, alloc, &row.0);
+    let other = job_of(rt, alloc, &row.1);
+    check_jobs(rt, alloc, (&one, &other), row);
 }
 
 #[test]
-fn two_callers_are_told_by_one_log(rt: HostRuntime) -> Result<(), Fail> {
+fn two_callers_are_told_by_one_log(rt: HostRuntime) {
     for row in &ROWS {
-        assert!(rt; is_told(&rt, rt.alloc(), row)?);
+        check_row(&rt, rt.alloc(), row);
     }
-    Ok(())
 }
 
 // ---- four callers
@@ -330,10 +350,13 @@ fn count_of(log: &[Entry], caller: u64) -> usize {
     count
 }
 
-fn jobs_of(alloc: Global) -> Result<[Job; 4], Fail> {
-    let early = (job_of(alloc, &JOBS[0])?, job_of(alloc, &JOBS[1])?);
-    let late = (job_of(alloc, &JOBS[2])?, job_of(alloc, &JOBS[3])?);
-    Ok([early.0, early.1, late.0, late.1])
+fn jobs_of(rt: &impl Abort, alloc: Global) -> [Job; 4] {
+    [
+        job_of(rt, alloc, &JOBS[0]),
+        job_of(rt, alloc, &JOBS[1]),
+        job_of(rt, alloc, &JOBS[2]),
+        job_of(rt, alloc, &JOBS[3]),
+    ]
 }
 
 // Whether each of four callers has so many entries.
@@ -346,20 +369,23 @@ fn have_entries(log: &[Entry], due: u64) -> bool {
     true
 }
 
-fn are_in_order<R: Threads + Wait + Sync>(
+// Four callers leave all their entries, each pushing as often as the others.
+fn check_order<R: Threads + Wait + Abort + Sync>(
     rt: &R,
     alloc: Global,
+    jobs: &[Job; 4],
     rounds: u64,
-) -> Result<bool, Fail> {
-    let jobs = jobs_of(alloc)?;
-    let hub = four_callers(rt, alloc, new_hub(alloc)?, &jobs, rounds)?;
+) {
+    let left = four_callers(rt, alloc, new_hub(rt, alloc), jobs, rounds);
+    let hub = left.expect(rt, "memory for four callers");
     let due = rounds.saturating_mul(2).saturating_add(2);
+    assert!(rt; have_entries(hub.log().as_slice(), due));
     // each has made its ref and deleted it in turn, as often as the other
-    Ok(have_entries(hub.log().as_slice(), due) && hub.ref_count() == 0)
+    assert_eq!(rt; hub.ref_count(), 0);
 }
 
 #[test]
-fn four_callers_leave_their_entries_in_order(rt: HostRuntime) -> Result<(), Fail> {
-    assert!(rt; are_in_order(&rt, rt.alloc(), 250)?);
-    Ok(())
+fn four_callers_leave_their_entries_in_order(rt: HostRuntime) {
+    let jobs = jobs_of(&rt, rt.alloc());
+    check_order(&rt, rt.alloc(), &jobs, 250);
 }

@@ -16,8 +16,8 @@ use ref_store::{Command, CommandList};
 use shared_hub::{NoMemory, SharedDesk, SharedHub, SharedPass};
 use std::alloc::Global;
 use std::marker::Model;
+use std::process::Abort;
 use std::sync::Wait;
-use std::test::Fail;
 
 // ---- what a caller asks
 
@@ -33,27 +33,26 @@ pub struct Job {
     pub new: ObjectId,
 }
 
-fn user_of(alloc: Global, name: &str) -> Result<UserName, Fail> {
-    Ok(UserName::parse(alloc, name.as_bytes())?.ok_or("a user's name")?)
+fn user_of(rt: &impl Abort, alloc: Global, name: &str) -> UserName {
+    let name = UserName::parse(alloc, name.as_bytes()).expect(rt, "memory for a name");
+    name.expect(rt, "a user's name")
 }
 
-fn repo_of(alloc: Global, name: &str) -> Result<RepoName, Fail> {
-    Ok(RepoName::parse(alloc, name.as_bytes())?.ok_or("a repository's name")?)
+fn repo_of(rt: &impl Abort, alloc: Global, name: &str) -> RepoName {
+    let name = RepoName::parse(alloc, name.as_bytes()).expect(rt, "memory for a name");
+    name.expect(rt, "a repository's name")
 }
 
-pub fn job_of(alloc: Global, asks: &Asks) -> Result<Job, Fail> {
-    let (user, repo, name, text, letter) = asks;
-    let user = user_of(alloc, user)?;
-    let repo = repo_of(alloc, repo)?;
-    let name = Text::of(alloc, name.as_bytes())?;
-    let (pack, new) = pack_of(alloc, text, *letter)?;
-    Ok(Job {
-        user,
-        repo,
-        name,
+pub fn job_of(rt: &impl Abort, alloc: Global, asks: &Asks) -> Job {
+    let (user, repo, name, text, letter) = *asks;
+    let (pack, new) = pack_of(rt, alloc, text, letter);
+    Job {
+        user: user_of(rt, alloc, user),
+        repo: repo_of(rt, alloc, repo),
+        name: Text::of(alloc, name.as_bytes()).expect(rt, "memory for a name"),
         pack,
         new,
-    })
+    }
 }
 
 // A command that makes the ref, or deletes it where the opening has it.

@@ -1,50 +1,48 @@
 // Packs for pushes.
-use git_object::{Kind, Object, ObjectId, ObjectList};
+use git_object::{Kind, MAX_BODY, Object, ObjectId, ObjectList};
 use std::alloc::Global;
-use std::test::Fail;
-
-fn put(alloc: Global, pack: &mut ObjectList, kind: Kind, body: &[u8]) -> Result<ObjectId, Fail> {
-    if body.len() > 16_777_216 {
-        return Err(Fail::from("a short body"));
-    }
-    let object = Object::parse(alloc, kind, body)?;
-    let name = object.name();
-    pack.push(object)?;
-    Ok(name)
-}
+use std::process::Abort;
 
 // An object whose body is these parts.
-fn put_parts(
+fn put(
+    rt: &impl Abort,
     alloc: Global,
     pack: &mut ObjectList,
     kind: Kind,
     parts: &[&[u8]],
-) -> Result<ObjectId, Fail> {
+) -> ObjectId {
     let mut body = Vec::new(alloc);
     for part in parts {
-        body.extend_from_slice(part)?;
+        body.extend_from_slice(part).expect(rt, "memory for a body");
     }
-    put(alloc, pack, kind, &body)
+    assert!(rt; body.len() <= MAX_BODY);
+    let object = Object::parse(alloc, kind, &body).expect(rt, "a body of its form");
+    let name = object.name();
+    pack.push(object).expect(rt, "memory for an object");
+    name
 }
 
 // A tree with this conf: the admin's own rule, and this behind it.
-fn put_conf(alloc: Global, pack: &mut ObjectList, text: &str) -> Result<ObjectId, Fail> {
+fn put_conf(rt: &impl Abort, alloc: Global, pack: &mut ObjectList, text: &str) -> ObjectId {
     let main = b"repo gitolite-admin\n    RW+ = ann\n".as_slice();
-    let file = put_parts(alloc, pack, Kind::Blob, &[main, text.as_bytes()])?;
+    let file = put(rt, alloc, pack, Kind::Blob, &[main, text.as_bytes()]);
     let entry = [b"100644 gitolite.conf\0".as_slice(), file.bytes.as_slice()];
-    let folder = put_parts(alloc, pack, Kind::Tree, &entry)?;
+    let folder = put(rt, alloc, pack, Kind::Tree, &entry);
     let entry = [b"40000 conf\0".as_slice(), folder.bytes.as_slice()];
-    put_parts(alloc, pack, Kind::Tree, &entry)
+    put(rt, alloc, pack, Kind::Tree, &entry)
+}
+
+fn put_tree(rt: &impl Abort, alloc: Global, pack: &mut ObjectList, text: &str) -> ObjectId {
+    if text.is_empty() {
+        return put(rt, alloc, pack, Kind::Tree, &[]);
+    }
+    put_conf(rt, alloc, pack, text)
 }
 
 /// A pack of a commit with this conf, or with no file where there is no text, and the commit's name.
-pub fn pack_of(alloc: Global, text: &str, letter: u8) -> Result<(ObjectList, ObjectId), Fail> {
+pub fn pack_of(rt: &impl Abort, alloc: Global, text: &str, letter: u8) -> (ObjectList, ObjectId) {
     let mut pack = ObjectList::new(alloc);
-    let tree = if text.is_empty() {
-        put(alloc, &mut pack, Kind::Tree, b"")?
-    } else {
-        put_conf(alloc, &mut pack, text)?
-    };
+    let tree = put_tree(rt, alloc, &mut pack, text);
     // without parents, and with the letter as its message
     let id = tree.hex();
     let message = [letter];
@@ -54,6 +52,6 @@ pub fn pack_of(alloc: Global, text: &str, letter: u8) -> Result<(ObjectList, Obj
         b"\nauthor a <a> 0 +0000\ncommitter a <a> 0 +0000\n\n".as_slice(),
         message.as_slice(),
     ];
-    let commit = put_parts(alloc, &mut pack, Kind::Commit, &parts)?;
-    Ok((pack, commit))
+    let commit = put(rt, alloc, &mut pack, Kind::Commit, &parts);
+    (pack, commit)
 }
