@@ -2,8 +2,8 @@
 """What pushes and fetches cost: push_costs.py PROGRAM [CASE ..], by hand, never in the gate.
 
 PROGRAM is the built gitolite_shell. Each case makes its input, hands it to one running program session by session, and
-prints seconds from a session's first byte to its reply. `one_ref` and `large_pack` run a script from a file, and print the seconds
-of the run. Without a CASE all are run; `list` names them. Two of them, `refused` and `old`, fill repositories of millions of
+prints seconds from a session's first byte to its reply. `one_ref` and `large_pack` run a script from a file to a file, and print the
+seconds of the run. Without a CASE all are run; `list` names them. Two of them, `refused` and `old`, fill repositories of millions of
 objects, and take some minutes and gigabytes.
 """
 import hashlib
@@ -73,13 +73,14 @@ class Program:
         self.child = subprocess.Popen([path, "script", "--admin", "admin"], stdin=subprocess.PIPE, stdout=subprocess.PIPE)
 
     def serve(self, data):
-        """Seconds, and the reply."""
+        """Seconds from the first byte written to the last one read, and the reply."""
+        frame = b"session %d\n" % len(data) + data + b"\n"
         began = time.perf_counter()
-        self.child.stdin.write(b"session %d\n" % len(data) + data + b"\n")
+        self.child.stdin.write(frame)
         self.child.stdin.flush()
         head = self.child.stdout.readline().split()
-        reply = self.child.stdout.read(int(head[3]) + 1)[:-1]
-        return time.perf_counter() - began, reply
+        printed = self.child.stdout.read(int(head[3]) + 1)
+        return time.perf_counter() - began, printed[:-1]
 
     def expect(self, data, word=b"ok refs/"):
         took, reply = self.serve(data)
@@ -99,17 +100,20 @@ class Program:
 
 
 def run_script(program, sessions):
-    """Seconds of a run over a file of these sessions, from start to end, the least of five; and what it printed."""
-    with tempfile.TemporaryFile() as script:
+    """Seconds of a run from a file of these sessions to another file, from start to end, the least of five; and what it printed."""
+    with tempfile.TemporaryFile() as script, tempfile.TemporaryFile() as printed:
         for data in sessions:
             script.write(b"session %d\n" % len(data) + data + b"\n")
         took = []
         for _ in range(5):
             script.seek(0)
+            printed.seek(0)
+            printed.truncate()
             began = time.perf_counter()
-            ran = subprocess.run([program, "script", "--admin", "admin"], stdin=script, stdout=subprocess.PIPE, check=True)
+            subprocess.run([program, "script", "--admin", "admin"], stdin=script, stdout=printed, check=True)
             took.append(time.perf_counter() - began)
-    return min(took), ran.stdout
+        printed.seek(0)
+        return min(took), printed.read()
 
 
 def times(seconds):

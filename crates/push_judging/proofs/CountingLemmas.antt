@@ -1,6 +1,6 @@
 -- How many commands are for a ref.
 use Rattle.std.proofs.Common.{◌≡◌, ℕ, zero, suc, ◌+◌, ◌<◌, Bool, true, false, cond, List, [], take, length, get_or, nat_le, nat_lt, add-one, refl, sym, ◌∙◌, ap, arith}
-use Rattle.std.specs.Prelude.{Option, Some, is_some}
+use Rattle.std.specs.Prelude.{Option, Some, is_some, Result, Ok, Err, IfOk}
 use Rattle.std.specs.List.{count_by}
 use Rattle.std.specs.Option.{option_map_or}
 use Rattle.std.specs.FinMap.{get, insert, empty, get-insert, get-empty}
@@ -9,12 +9,13 @@ use Rattle.std.specs.Cmp.Lexicographic.{slice_cmp, nat_list_cmp_total, texts_tie
 use Rattle.std.proofs.lemmas.Bool.Decides.{nat_tests}
 use Rattle.std.proofs.lemmas.List.Sums.{count_by_more_yes, count_by_more_no}
 use Rattle.base_types.specs.Names.{ByName}
+use Rattle.base_types.specs.declared.no_memory.NoMemory.{NoMemory}
 use Rattle.ref_store.specs.Refs.{Name}
 use Rattle.ref_store.specs.declared.command.Command.{Command}
 use Rattle.ref_store.proofs.ObjectLemmas.{same_bytes}
 use Rattle.hub_history.specs.Push.{is_named_twice}
 use Rattle.hub_history.specs.State.{same_name}
-use Rattle.push_judging.specs.Counting.{Counts, kept_of}
+use Rattle.push_judging.specs.Counting.{Counts, TellsOfSeveral, kept_of}
 
 -- what is kept of a ref with one command more for it
 kept_more : (n : ℕ) → Some (is_some (kept_of n)) ≡ kept_of (suc n)
@@ -60,5 +61,16 @@ twice_of (suc (suc n)) =
     let two : nat_le 2 (suc (suc n)) ≡ true = grind (arith, nat_tests) in
     several ∙ sym two
 
-pub twice_is : (names : ByName Bool) (cs : List Command) (name : Name) → Counts names cs → option_map_or (λ (t : Bool). t) (get names name) false ≡ is_named_twice cs name
+twice_is : (names : ByName Bool) (cs : List Command) (name : Name) → Counts names cs → option_map_or (λ (t : Bool). t) (get names name) false ≡ is_named_twice cs name
 twice_is names cs name counts = ap (λ (o : Option Bool). option_map_or (λ (t : Bool). t) o false) (counts name) ∙ twice_of (count_by (λ (c : Command). same_name name c.name) cs)
+
+-- no ref has several commands, and the map has no ref
+pub none_several : (names : ByName Bool) (cs : List Command) → names ≡ empty → ((name : Name) → is_named_twice cs name ≡ false) → TellsOfSeveral names cs
+none_several names cs none once = λ q.
+    ap (λ (m : ByName Bool). option_map_or (λ (t : Bool). t) (get m q) false) none
+    ∙ ap (λ (o : Option Bool). option_map_or (λ (t : Bool). t) o false) (get-empty {X = Bool} (slice_cmp nat_cmp) q)
+    ∙ sym (once q)
+
+pub counted_several : (cs : List Command) (r : Result (ByName Bool) NoMemory) → IfOk r (λ names. Counts names cs) → IfOk r (λ names. TellsOfSeveral names cs)
+counted_several cs (Ok names) counts = λ name. twice_is names cs name counts
+counted_several cs (Err e) counts = tt

@@ -2,3 +2,4 @@ mod ListLemmas
 mod CountingLemmas
 mod PreparedLemmas
 mod RowLemmas
+mod AscendLemmas

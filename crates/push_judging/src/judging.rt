@@ -1,14 +1,15 @@
 // All commands of a push.
-ghost use Rattle.std.specs.Prelude.{◌≡◌, ◌++◌, IfOk, false};
+ghost use Rattle.std.specs.Prelude.{◌≡◌, ◌++◌, IfOk, IsTrue, false};
 ghost use Rattle.std.specs.FinMap as map;
 ghost use Rattle.std.specs.List.{AllZip};
 ghost use Rattle.std.specs.Option.{option_map_or};
 ghost use Rattle.ancestry.specs.Known.{AreFound, AreKnown};
+ghost use Rattle.ref_store.specs.Refs.{Name};
 ghost use Rattle.rule_compile.specs.Patterns.{AreTrue, Patterns};
 ghost use Rattle.vref.specs.Facts.{AreFacts};
-ghost use Rattle.hub_history.specs.Push.{JudgesAll};
+ghost use Rattle.hub_history.specs.Push.{JudgesAll, is_named_twice};
 ghost use Rattle.hub_state.specs.Prepared.{IsPrepared};
-ghost use Rattle.push_judging.specs.Counting.{Counts};
+ghost use Rattle.push_judging.specs.Counting.{Counts, TellsOfSeveral};
 ghost use Rattle.push_judging.specs.Judged.{IsJudgement, conf_of, confs_of};
 ghost use Rattle.push_judging.specs.Rows.{IsCheckOf, Tells};
 
@@ -143,7 +144,7 @@ fn tell_each(
     walks: &mut Walks<'_>,
 ) -> Result<EachTold, NoMemory>
     requires lens { lens.now ≡ pin.now.pinned.repository.objects ++ pack.now }
-    requires names { Counts names.now commands.now }
+    requires names { TellsOfSeveral names.now commands.now }
     requires facts { AllZip (λ change facts. AreFacts lens.now change.name change.old change.new facts) commands.now all_facts.now }
     requires walks { walks.old ≡ lens.now }
     ensures outcomes { IfOk result (λ each. (ps : Patterns) → AreTrue ps → JudgesAll ps pin.now.pinned pack.now commands.now each.outcomes.items) }
@@ -275,8 +276,30 @@ fn known_behind(
     known.with(alloc, findings)
 }
 
-// The refs of the commands, each with whether there are several commands for it.
+// The refs that several commands are for. Where each name is behind the one before, as git sends them, there are none.
 fn names_of(alloc: Global, commands: &[Command]) -> Result<NameMap<bool>, NoMemory>
+    ensures { IfOk result (λ names. TellsOfSeveral names commands.now) }
+{
+    if ascend(commands) {
+        return Ok(NameMap::new(alloc));
+    }
+    counted_names(alloc, commands)
+}
+
+// Whether each name is behind the one before.
+fn ascend(commands: &[Command]) -> bool
+    ensures { IsTrue result → (name : Name) → is_named_twice commands.now name ≡ false }
+{
+    for k in 1..commands.len() {
+        if commands[k - 1].name >= commands[k].name {
+            return false;
+        }
+    }
+    true
+}
+
+// The refs of the commands, each with whether there are several commands for it.
+fn counted_names(alloc: Global, commands: &[Command]) -> Result<NameMap<bool>, NoMemory>
     ensures { IfOk result (λ names. Counts names commands.now) }
 {
     let mut names = NameMap::new(alloc);

@@ -61,7 +61,7 @@ fn is_ref_text(text: &[u8]) -> bool
 fn has_no_zero(text: &[u8]) -> bool
     ensures { result ≡ list_all (λ b. not (b == 0)) text.now }
 {
-    text.iter().all(|b| *b != 0)
+    !text.contains(&0)
 }
 
 #[tactic(auto, unfolding(crate::specs::Changes::parts))]

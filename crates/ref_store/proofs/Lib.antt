@@ -6,3 +6,4 @@ pub mod RefLemmas
 pub mod ApartLemmas
 pub mod OddsLemmas
 pub mod BlockLemmas
+pub mod PieceLemmas

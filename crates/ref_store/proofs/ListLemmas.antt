@@ -1,6 +1,8 @@
 -- Lists of bytes.
-use Rattle.std.proofs.Common.{◌≡◌, ℕ, zero, suc, List, [], ◌∷◌, ◌<◌, ◌≤◌, ◌-◌, Bool, true, false, ◌&&◌, ◌||◌, length, drop, get_or, nat_eq, refl, sym, ◌∙◌, ap, subst, arith}
+use Rattle.std.proofs.Common.{◌≡◌, ℕ, zero, suc, List, [], ◌∷◌, ◌<◌, ◌≤◌, ◌-◌, Bool, true, false, ◌&&◌, ◌||◌, length, take, drop, get_or, nat_eq, refl, sym, ◌∙◌, ap, subst, arith}
 use Rattle.std.proofs.lemmas.Bool.Decides.{nat_tests}
+use Rattle.std.specs.List.{list_any}
+use lib.Pointwise.{pointwise}
 use Rattle.ref_store.specs.RefName.{occurs}
 
 both_of_two : (p q : Bool) → (p && (q && true)) ≡ (p && q)
@@ -51,3 +53,21 @@ no_pair_at a b (x ∷ rest) (suc i) past = no_pair_at a b rest i (omega (arith, 
 -- and not in its last byte
 pub no_pair_past : (a b : ℕ) (text : List ℕ) (i : ℕ) → length text ≤ i → occurs (a ∷ b ∷ []) (drop (i - 1) text) ≡ false
 no_pair_past a b text i past = no_pair_at a b text (i - 1) (omega (arith, past))
+
+-- and nowhere where the first of them isn't
+pub no_first : (a b : ℕ) (text : List ℕ) → list_any (λ y. nat_eq y a) text ≡ false → false ≡ occurs (a ∷ b ∷ []) text
+no_first a b [] none = refl
+no_first a b (x ∷ xs) none = by_test (nat_eq x a) refl (no_first a b xs)
+  where
+    by_test : (p : Bool) → nat_eq x a ≡ p → (list_any (λ y. nat_eq y a) xs ≡ false → false ≡ occurs (a ∷ b ∷ []) xs) → false ≡ occurs (a ∷ b ∷ []) (x ∷ xs)
+    by_test true is later = let bad : true ≡ false = sym (ap (λ q. q || list_any (λ y. nat_eq y a) xs) is) ∙ none in cc bad
+    by_test false is later =
+        let other : nat_eq a x ≡ false = grind (arith, nat_tests, is) in
+        let rest : list_any (λ y. nat_eq y a) xs ≡ false = sym (ap (λ q. q || list_any (λ y. nat_eq y a) xs) is) ∙ none in
+        later rest ∙ sym (ap (λ q. (q && pointwise nat_eq (b ∷ []) (take 1 xs)) || occurs (a ∷ b ∷ []) xs) other)
+
+pub take_past : (text : List ℕ) (n : ℕ) → length text ≤ n → take n text ≡ text
+take_past [] zero past = refl
+take_past [] (suc n) past = refl
+take_past (x ∷ xs) zero past = absurd (omega (arith, past))
+take_past (x ∷ xs) (suc n) past = ap (λ (l : List ℕ). x ∷ l) (take_past xs n (omega (arith, past)))

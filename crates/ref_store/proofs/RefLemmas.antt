@@ -1,9 +1,10 @@
 -- Refs in the byte order of their names.
 use Rattle.std.proofs.Common.{◌≡◌, ℕ, ◌+◌, ◌<◌, ◌≤◌, Bool, true, false, ◌&&◌, cond, nat_eq, nat_le, nat_lt, List, [], ◌∷◌, ◌++◌, take, drop, length, get_or, Option, None, Some, refl, sym, ◌∙◌, ap, subst, arith, inl, inr, length-append, append_assoc}
 use Rattle.std.proofs.lemmas.Bool.Decides.{nat_tests}
-use Rattle.std.proofs.lemmas.Cmp.{nat_cmp_total, nat_list_cmp_total, tied_itself}
+use Rattle.std.proofs.lemmas.Cmp.{nat_cmp_total, nat_list_cmp_total, tied_itself, upto}
 use Rattle.std.proofs.lemmas.List.{take-append-drop, drop_more, take_at, get_or_at, take-take}
-use Rattle.std.specs.Prelude.{IsSome}
+use Rattle.std.specs.Prelude.{IfSome, IsSome, is_some}
+use Rattle.std.specs.BTreeMap as tree
 use Rattle.std.specs.BTreeMap.{BTreeMap}
 use Rattle.std.specs.BTreeMap.Range.{IsRangeOf}
 use Rattle.std.specs.declared.ops.Bound.TheVariants.{Included, Unbounded}
@@ -45,6 +46,51 @@ pub least_none : (refs : Refs) (m : BTreeMap Name ObjectId) (from : Name) (r : L
     → IsRangeOf (slice_cmp nat_cmp) (Included from) Unbounded m r → r ≡ [] → IsLeastFrom refs from None
 least_none refs m from r is range empty = λ q from_q. ap (λ (s : Refs). get s q) (sym is) ∙ get-entries m q ∙ range.5 empty q (from_q, tt)
 
+not_less : (n q : Name) → is_lt (slice_cmp nat_cmp n q) ≡ false → IsLe q n
+not_less n q least = by_order (slice_cmp nat_cmp n q) refl least
+  where
+    by_order : (o : Ordering) → slice_cmp nat_cmp n q ≡ o → is_lt o ≡ false → IsLe q n
+    by_order Less is bad = cc bad
+    by_order Equal is same = ap is_gt (nat_list_cmp_total.antisymm q n ∙ ap ordering_reverse is)
+    by_order Greater is less = ap is_gt (nat_list_cmp_total.antisymm q n ∙ ap ordering_reverse is)
+
+-- the last name of all is the nearest to one that is behind it
+module _ (refs : Refs) (m : BTreeMap Name ObjectId) (last name : Name) (id : ObjectId) (is : from_entries m.entries ≡ refs) (there : tree.get (slice_cmp nat_cmp) m last ≡ Some id)
+    (greatest : (q : Name) → IsSome (tree.get (slice_cmp nat_cmp) m q) → is_lt (slice_cmp nat_cmp last q) ≡ false) (before : is_lt (slice_cmp nat_cmp last name) ≡ true) where
+  got : (q : Name) → get refs q ≡ tree.get (slice_cmp nat_cmp) m q
+  got q = ap (λ (s : Refs). get s q) (sym is) ∙ get-entries m q
+
+  not_behind : (q : Name) → IsSome (get refs q) → IsLe q last
+  not_behind q some = not_less last q (greatest q (subst IsSome (got q) some))
+
+  pub last_nearest : IsGreatestTo refs name (Some last)
+  last_nearest = (some_is (get refs last) id (got last ∙ there), by_order (slice_cmp nat_cmp last name) before, λ q _ some. not_behind q some)
+    where
+      by_order : (o : Ordering) → is_lt o ≡ true → is_gt o ≡ false
+      by_order Less less = refl
+      by_order Equal less = refl
+      by_order Greater less = cc less
+
+  pub none_behind_last : IsLeastFrom refs name None
+  none_behind_last q from_q = by_value (get refs q) refl
+    where
+      turned : (o : Ordering) → is_lt o ≡ true → is_gt (ordering_reverse o) ≡ true
+      turned Less less = refl
+      turned Equal less = cc less
+      turned Greater less = cc less
+
+      by_value : (o : Option ObjectId) → get refs q ≡ o → get refs q ≡ None
+      by_value None none = none
+      by_value (Some i) some =
+          let le = upto nat_list_cmp_total name q last from_q (not_behind q (some_is (get refs q) i some)) in
+          let gt = ap is_gt (nat_list_cmp_total.antisymm name last) ∙ turned (slice_cmp nat_cmp last name) before in
+          let bad : true ≡ false = sym gt ∙ le in cc bad
+
+-- where the last name of all is before one, that one isn't there
+pub not_there : {A : Type 0} → (last : Option A) → (refs : Refs) (name : Name) → IfSome last (λ _. IsLeastFrom refs name None) → is_some last ≡ true → None ≡ get refs name
+not_there None refs name behind some = cc some
+not_there (Some a) refs name behind some = sym (behind name (ap is_gt (tied_itself nat_list_cmp_total name)))
+
 -- the last of what a range gives
 pub greatest_some : (refs : Refs) (m : BTreeMap Name ObjectId) (to n : Name) (id : ObjectId) (r t : List (Name × ObjectId)) → from_entries m.entries ≡ refs
     → IsRangeOf (slice_cmp nat_cmp) Unbounded (Included to) m r → r ≡ t ++ (n, id) ∷ [] → IsGreatestTo refs to (Some n)
@@ -54,14 +100,6 @@ greatest_some refs m to n id r t is range last =
       here.0.1,
       λ q to_q some. not_less n q (range.4 (n, id) t last q (tt, to_q) (subst IsSome (ap (λ (s : Refs). get s q) (sym is) ∙ get-entries m q) some)),
     )
-  where
-    not_less : (n q : Name) → is_lt (slice_cmp nat_cmp n q) ≡ false → IsLe q n
-    not_less n q least = by_order (slice_cmp nat_cmp n q) refl least
-      where
-        by_order : (o : Ordering) → slice_cmp nat_cmp n q ≡ o → is_lt o ≡ false → IsLe q n
-        by_order Less is bad = cc bad
-        by_order Equal is same = ap is_gt (nat_list_cmp_total.antisymm q n ∙ ap ordering_reverse is)
-        by_order Greater is less = ap is_gt (nat_list_cmp_total.antisymm q n ∙ ap ordering_reverse is)
 
 pub greatest_none : (refs : Refs) (m : BTreeMap Name ObjectId) (to : Name) (r : List (Name × ObjectId)) → from_entries m.entries ≡ refs
     → IsRangeOf (slice_cmp nat_cmp) Unbounded (Included to) m r → r ≡ [] → IsGreatestTo refs to None

@@ -10,7 +10,7 @@ use std::alloc::Global;
 const BLOCK: usize = 64;
 
 /// The least ref that is a directory of the name or stands below it. Either is next to the name in the order of names, so it costs a few look-ups.
-pub fn at_odds(alloc: Global, refs: &RefMap, name: &[u8]) -> Result<Option<Text>, NoMemory>
+pub fn at_odds(alloc: Global, refs: &RefMap, name: &Text) -> Result<Option<Text>, NoMemory>
     requires { HasRefsApart refs.now }
     ensures { IfOk result (λ r. TellsOfOdds refs.now name.now r) }
 {
@@ -22,13 +22,14 @@ pub fn at_odds(alloc: Global, refs: &RefMap, name: &[u8]) -> Result<Option<Text>
 
 // The ref that is a directory of the name. A directory of the name is a beginning of the greatest ref that isn't behind the name, but it is no
 // directory of that ref where refs stand apart: so it ends just where the two names part.
-fn directory(alloc: Global, refs: &RefMap, name: &[u8]) -> Result<Option<Text>, NoMemory>
+fn directory(alloc: Global, refs: &RefMap, name: &Text) -> Result<Option<Text>, NoMemory>
     requires { HasRefsApart refs.now }
     ensures { IfOk result (λ r. TellsOfDirectory refs.now name.now r) }
 {
-    let Some(nearest) = refs.last_to(Text::of(alloc, name)?) else {
+    let Some(nearest) = refs.last_to(name) else {
         return Ok(None);
     };
+    let name = name.bytes();
     let end = common_len(nearest.bytes(), name);
     if end >= name.len() {
         return Ok(None);
@@ -90,12 +91,12 @@ fn dir_at(alloc: Global, refs: &RefMap, name: &[u8], i: usize) -> Result<Option<
     }
 }
 
-fn below(alloc: Global, refs: &RefMap, name: &[u8]) -> Result<Option<Text>, NoMemory>
+fn below(alloc: Global, refs: &RefMap, name: &Text) -> Result<Option<Text>, NoMemory>
     requires { HasNoDirectory refs.now name.now }
     ensures { IfOk result (λ r. TellsOfOdds refs.now name.now r) }
 {
-    let front = with_slash(alloc, name)?;
-    let Some(found) = refs.first_from(front.clone()?) else {
+    let front = with_slash(alloc, name.bytes())?;
+    let Some(found) = refs.first_from(&front) else {
         return Ok(None);
     };
     if found.bytes().starts_with(front.bytes()) {
@@ -107,7 +108,8 @@ fn below(alloc: Global, refs: &RefMap, name: &[u8]) -> Result<Option<Text>, NoMe
 fn with_slash(alloc: Global, name: &[u8]) -> Result<Text, NoMemory>
     ensures { IfOk result (λ t. t ≡ name.now ++ 47 ∷ []) }
 {
-    let mut bytes = name.to_vec(alloc)?;
+    let mut bytes = Vec::with_capacity(alloc, name.len() + 1)?;
+    bytes.extend_from_slice(name)?;
     bytes.push(b'/')?;
     Ok(Text::from(bytes))
 }

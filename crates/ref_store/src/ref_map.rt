@@ -1,5 +1,5 @@
 // Refs in the byte order of their names.
-ghost use Rattle.std.specs.Prelude.{◌≡◌, IfOk, IfSome, None, OnErr, OnOk};
+ghost use Rattle.std.specs.Prelude.{◌≡◌, IfOk, IfSome, None, OnErr, OnOk, Some};
 ghost use Rattle.std.specs.FinMap as map;
 ghost use Rattle.std.specs.Option.{option_copied, option_map};
 ghost use Rattle.ref_store.specs.Refs.{IsGreatestTo, IsLeastFrom};
@@ -43,6 +43,9 @@ impl RefMap {
     pub fn get(&self, name: &Text) -> Option<&ObjectId>
         ensures { option_copied result ≡ map.get self.now name.now }
     {
+        if self.last_before(name).is_some() {
+            return None;
+        }
         self.entries.get(name)
     }
 
@@ -73,9 +76,12 @@ impl RefMap {
     }
 
     /// The least name that is not before this one.
-    pub fn first_from(&self, from: Text) -> Option<&Text>
-        ensures { IsLeastFrom self.now from (option_map (λ n. n.now) result) }
+    pub fn first_from(&self, from: &Text) -> Option<&Text>
+        ensures { IsLeastFrom self.now from.now (option_map (λ n. n.now) result) }
     {
+        if self.last_before(from).is_some() {
+            return None;
+        }
         let mut names = self.entries.range(from..);
         match names.next() {
             Some((name, _)) => Some(name),
@@ -84,14 +90,29 @@ impl RefMap {
     }
 
     /// The greatest name that is not behind this one.
-    pub fn last_to(&self, to: Text) -> Option<&Text>
-        ensures { IsGreatestTo self.now to (option_map (λ n. n.now) result) }
+    pub fn last_to(&self, to: &Text) -> Option<&Text>
+        ensures { IsGreatestTo self.now to.now (option_map (λ n. n.now) result) }
     {
+        if let Some(last) = self.last_before(to) {
+            return Some(last);
+        }
         let mut names = self.entries.range(..=to);
         match names.next_back() {
             Some((name, _)) => Some(name),
             None => None,
         }
+    }
+
+    // The last name of all, if this one is behind it. It costs one comparison, and saves a look-up where names come in their order.
+    fn last_before(&self, name: &Text) -> Option<&Text>
+        ensures nearest { IfSome result (λ last. IsGreatestTo self.now name.now (Some last.now)) }
+        ensures none_from { IfSome result (λ _. IsLeastFrom self.now name.now None) }
+    {
+        let (last, _) = self.entries.last_key_value()?;
+        if last < name {
+            return Some(last);
+        }
+        None
     }
 }
 

@@ -1,6 +1,6 @@
 // Names of refs.
-ghost use Rattle.std.specs.Prelude.{◌≡◌, ◌==◌, ◌∷◌, [], IfOk, if◌then◌else◌, length, nat_eq, nat_le, None, Some, true};
-ghost use Rattle.std.specs.List.{count_by, list_all};
+ghost use Rattle.std.specs.Prelude.{◌≡◌, ◌==◌, ◌&&◌, ◌∷◌, [], codes, IfOk, if◌then◌else◌, length, nat_eq, nat_le, None, not, Some, true};
+ghost use Rattle.std.specs.List.{count_by, ends_with, list_all, starts_with};
 ghost use Rattle.std.proofs.Common.{rules};
 ghost use Rattle.std.specs.Cmp.Rules.{comparing};
 ghost use lib.Pointwise.{pointwise};
@@ -122,17 +122,20 @@ fn is_ref_byte(c: u8) -> bool
     )
 }
 
-// As many pieces as slashes, and one more.
+// As many pieces as slashes, and one more. It looks no further than the second slash.
 fn has_three_pieces(text: &[u8]) -> bool
     ensures { result ≡ nat_le 3 (length (pieces text.now)) }
 {
-    slashes(text) >= 2
-}
-
-fn slashes(text: &[u8]) -> usize
-    ensures { result ≡ count_by (λ c. c == 47) text.now }
-{
-    text.iter().filter(|c| **c == b'/').count()
+    let mut one = false;
+    for c in text {
+        if *c == b'/' {
+            if one {
+                return true;
+            }
+            one = true;
+        }
+    }
+    false
 }
 
 fn is_piece(piece: &[u8]) -> bool
@@ -144,11 +147,39 @@ fn is_piece(piece: &[u8]) -> bool
 fn all_pieces(text: &[u8]) -> bool
     ensures { result ≡ list_all is_piece (pieces text.now) }
 {
+    if text.contains(&b'.') {
+        return all_split_pieces(text);
+    }
+    // Without a dot a piece is only to have a byte.
+    begins_well(text) && parts_well(text)
+}
+
+fn all_split_pieces(text: &[u8]) -> bool
+    ensures { result ≡ list_all is_piece (pieces text.now) }
+{
     text.split(|c| *c == b'/').all(|piece| is_piece(piece))
 }
 
-// Whether one byte stands before the other somewhere in the text.
+fn begins_well(text: &[u8]) -> bool
+    ensures { result ≡ (not (length text.now == 0) && not (starts_with nat_eq text.now (codes "/"))) }
+{
+    !text.is_empty() && !text.starts_with(b"/")
+}
+
+fn parts_well(text: &[u8]) -> bool
+    ensures { result ≡ (not (ends_with nat_eq text.now (codes "/")) && not (occurs (codes "//") text.now)) }
+{
+    !text.ends_with(b"/") && !occurs(b'/', b'/', text)
+}
+
+// Whether one byte stands before the other somewhere in the text. Most names don't have the first of them.
 fn occurs(first: u8, second: u8, text: &[u8]) -> bool
+    ensures { result ≡ occurs (first ∷ second ∷ []) text.now }
+{
+    text.contains(&first) && stands_before(first, second, text)
+}
+
+fn stands_before(first: u8, second: u8, text: &[u8]) -> bool
     ensures { result ≡ occurs (first ∷ second ∷ []) text.now }
 {
     for i in 1..text.len() {

@@ -214,7 +214,7 @@ impl Repo {
         if !same_id(old, ObjectId::zero()) {
             return Ok(None);
         }
-        match at_odds(self.alloc, refs, name.bytes())? {
+        match at_odds(self.alloc, refs, name.text())? {
             Some(other) => Ok(Some(RefName::known(other))),
             None => Ok(None),
         }

@@ -85,9 +85,12 @@ impl Segments {
         })
     }
 
-    /// A salt of the names of all these objects, made of the segments' salts.
+    /// A salt of the names of all these objects, made of the segments' salts: the one segment's own, where there is one.
     pub fn salt(&self) -> Salt {
-        joined_salt(&self.segments, &[])
+        match self.segments.split_first() {
+            Some((first, rest)) => joined_salt(first.table().salt(), rest),
+            None => Salt::of(&[]),
+        }
     }
 
     /// How many segments there are.
@@ -208,7 +211,7 @@ fn one_of(alloc: Global, segments: &[Segment], fresh: &[Object]) -> Result<Segme
 {
     let mut table = ObjectTable::with_capacity(
         alloc,
-        joined_salt(segments, fresh),
+        joined_salt(Salt::of(fresh), segments),
         joined_len(segments, fresh),
     )?;
     for segment in segments {
@@ -220,9 +223,9 @@ fn one_of(alloc: Global, segments: &[Segment], fresh: &[Object]) -> Result<Segme
     })
 }
 
-// The salt of the names of several segments, and of these objects.
-fn joined_salt(segments: &[Segment], fresh: &[Object]) -> Salt {
-    let mut salt = Salt::of(fresh);
+// This salt, joined with those of several segments.
+fn joined_salt(salt: Salt, segments: &[Segment]) -> Salt {
+    let mut salt = salt;
     for segment in segments {
         salt = salt.joined(segment.table().salt());
     }

@@ -1,17 +1,8 @@
-use Rattle.std.proofs.Common.{rules, ◌≡◌, Bool, ◌∙◌, ap}
-use Rattle.std.specs.Prelude.{is_some}
-use Rattle.std.specs.FinMap.{get, insert}
-use Rattle.ref_store.specs.Refs.{Name}
-use Rattle.push_judging.proofs.CountingLemmas.{counts_none, counts_more}
+use Rattle.push_judging.proofs.CountingLemmas.{counted_several, none_several}
 use Rattle.push_judging.proofs.judging.names_of.Goals as goal
 
-pub loop-command-init : goal.loop-command-init
-loop-command-init c = counts_none c.new-names.result c.new-names.ensures
+pub returns-then-ascend : goal.returns-then-ascend
+returns-then-ascend c = none_several c.new.result c.args.commands.now c.new.ensures (c.ascend.ensures (c.if-ascend.true))
 
-pub loop-command-preserved : goal.loop-command-preserved
-loop-command-preserved c =
-    let again : c.is_some-again.result ≡ is_some (get c.loop-command.names c.command-item.result.name) = search rules in
-    counts_more c.loop-command.names c.insert.new.self c.args.commands.now c.loop-command.command-index c.command-item.result c.loop-command-test.true c.command-item.is c.loop-command.invariant
-    (c.in_ok-insert.ensures.ok
-    ∙ ap (λ (n : Name). insert c.loop-command.names n c.is_some-again.result) c.in_ok-clone.ensures.cases
-    ∙ ap (λ (b : Bool). insert c.loop-command.names c.command-item.result.name b) again)
+pub returns : goal.returns
+returns c = counted_several c.args.commands.now c.counted_names.result c.counted_names.ensures

@@ -11,7 +11,6 @@ use Rattle.hub_history.specs.Push.{Judges, is_named_twice}
 use Rattle.hub_history.specs.State.{Conf}
 use Rattle.push_judging.specs.Judged.{confs_of}
 use Rattle.push_judging.specs.Rows.{Tells}
-use Rattle.push_judging.proofs.CountingLemmas.{twice_is}
 use Rattle.push_judging.proofs.RowLemmas.{as_many, confs_more, judged_more, take_all, zip_at}
 use Rattle.push_judging.proofs.judging.tell_each.Goals as goal
 
@@ -32,7 +31,7 @@ loop-k-preserved c =
     let commands = c.args.commands.now in
     let command = c.index-commands-k.result in
     let told : Option Outcome = c.in_ok-outcome.field-0.outcome in
-    let twice : c.is_named_twice-twice.result ≡ is_named_twice commands command.name = c.is_named_twice-twice.ensures ∙ twice_is c.args.names.now commands command.name c.requires.names in
+    let twice : c.is_named_twice-twice.result ≡ is_named_twice commands command.name = c.is_named_twice-twice.ensures ∙ c.requires.names command.name in
     let outcomes : c.push.new.self.items ≡ c.loop-k.outcomes.items ++ told ∷ [] = c.in_ok-push.ensures.items in
     let confs : c.push-in-loop-k.new.self.items ≡ c.loop-k.confs.items ++ c.in_ok-outcome.field-0.conf ∷ [] = c.in_ok-push-2.ensures.items in
     record {

@@ -1,8 +1,16 @@
-use Rattle.std.proofs.Common.{rules, tests}
-use Rattle.std.proofs.lemmas.Iterator.Search.{all_from_yields_List}
-use Rattle.std.proofs.lemmas.Iterator.Splits.{YieldsList-from_slice_split}
-use Rattle.ref_store.specs.RefName.{is_piece}
+use Rattle.std.proofs.Common.{◌&&◌, not, nat_eq, sym, ◌∙◌, ap}
+use Rattle.std.specs.Prelude.{codes}
+use Rattle.std.specs.List.{ends_with}
+use Rattle.ref_store.specs.RefName.{occurs}
+use Rattle.ref_store.proofs.PieceLemmas.{plain_text}
 use Rattle.ref_store.proofs.ref_name.all_pieces.Goals as goal
 
-pub returns : goal.returns
-returns c = all_from_yields_List is_piece _ _ c.all.result c.all.ensures.ran (YieldsList-from_slice_split _ _ c.args.text.now c.split.ensures.rest c.split.ensures.done c.split.ensures.closure (λ x r q k. search (rules, tests))) (λ x b q k. search (rules, tests))
+pub returns-else-begins_well : goal.returns-else-begins_well
+returns-else-begins_well c =
+    c.if-begins_well.false
+    ∙ sym (plain_text c.args.text.now (sym c.contains.ensures.value ∙ c.if-contains.false) ∙ ap (λ q. q && (not (ends_with nat_eq c.args.text.now (codes "/")) && not (occurs (codes "//") c.args.text.now))) (sym c.begins_well.ensures ∙ c.if-begins_well.false))
+
+pub returns-then-begins_well : goal.returns-then-begins_well
+returns-then-begins_well c =
+    c.parts_well.ensures
+    ∙ sym (plain_text c.args.text.now (sym c.contains.ensures.value ∙ c.if-contains.false) ∙ ap (λ q. q && (not (ends_with nat_eq c.args.text.now (codes "/")) && not (occurs (codes "//") c.args.text.now))) (sym c.begins_well.ensures ∙ c.if-begins_well.true))

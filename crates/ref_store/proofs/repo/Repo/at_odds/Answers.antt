@@ -16,4 +16,4 @@ returns-then-not-same_id-clause-odds c =
 pub returns-in-None-clause-odds : goal.returns-in-None-clause-odds
 returns-in-None-clause-odds c =
     let refs : c.refs-refs.result.now ≡ c.args.self.now.refs = c.refs-refs.ensures ∙ ap (λ (s : Store). s.refs) c.self.view_is in
-    subst (λ (r : Refs). HasNoneAtOdds r c.args.name.now) refs (subst (HasNoneAtOdds c.refs-refs.result.now) c.bytes.ensures.bytes (rw c.in-None.is at c.in_ok-other.ensures))
+    subst (λ (r : Refs). HasNoneAtOdds r c.args.name.now) refs (subst (HasNoneAtOdds c.refs-refs.result.now) c.text.ensures (rw c.in-None.is at c.in_ok-other.ensures))
