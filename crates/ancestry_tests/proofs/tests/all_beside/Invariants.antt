@@ -1,5 +1,0 @@
-use Rattle.ancestry.specs.Known.{AreKnown}
-use Rattle.ancestry_tests.proofs.tests.all_beside.Given as goal
-
-abbrev pub invariant-loop-id : goal.invariant-loop-id
-invariant-loop-id g l = AreKnown l.lens l.known

@@ -1,5 +1,0 @@
-//! Tests of `base_types`, by what is public there.
-#![tactic(auto)]
-
-#[cfg(test)]
-mod tests;

@@ -1,5 +1,0 @@
-//! Tests of `turn_lock`, by what is public there.
-#![tactic(auto)]
-
-#[cfg(test)]
-mod tests;

@@ -1,5 +1,0 @@
-//! Tests of `update_check`, by what is public there.
-#![tactic(auto)]
-
-#[cfg(test)]
-mod tests;

@@ -1,7 +1,0 @@
-//! Tests of `vref`, by what is public there.
-#![tactic(auto)]
-
-#[cfg(test)]
-mod path_tests;
-#[cfg(test)]
-mod tests;
