@@ -1,5 +1,6 @@
 //! A session whole: from its first packet to its end.
 //!
+//! - `buffer`: what sessions read their packets into;
 //! - `perms`: changes and listings of roles;
 //! - `info`: what there is to see;
 //! - `serving`: a session, by what its first packet asks for.
@@ -8,8 +9,10 @@
 //! in `docs/SESSIONS.md`.
 #![tactic(auto)]
 
+mod buffer;
 mod info;
 mod perms;
 mod serving;
 
+pub use buffer::SessionBuffer;
 pub use serving::session;

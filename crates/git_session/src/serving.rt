@@ -9,6 +9,7 @@ ghost use Rattle.session_core.specs.Readers.{IsReady};
 ghost use Rattle.session_core.specs.Rulebook.{ByRulebook, RunsByRulebook};
 ghost use Rattle.git_session.specs.Session.{fetched_outcome, fetching_from, pushing_into, served, serving, session};
 
+use crate::buffer::SessionBuffer;
 use crate::info::look;
 use crate::perms::permit;
 use conf_lex::{RepoName, UserName};
@@ -116,6 +117,7 @@ pub fn session<L: Link, K: Desk, G: Gate>(
     link: &mut L,
     desk: &mut K,
     gate: &mut G,
+    buffer: &mut SessionBuffer,
 ) -> SessionEnd
     ensures turn { ByRulebook (K.view desk.old).admin (K.view desk.new).seen (λ book. TakesTurn (L.state link.old) (L.state link.new) (own_since (K.view desk.old) (K.view desk.new)) (session book ((K.view desk.old).admin)) (halt_of result)) }
     ensures tells { TellsEnd (L.state link.old) (L.state link.new) result }
@@ -128,10 +130,12 @@ pub fn session<L: Link, K: Desk, G: Gate>(
 {
     // called for its clause that what was seen is legal
     desk.sound();
-    let Ok(mut reader) = PktReader::new(alloc) else {
+    let Ok(mut reader) = buffer.take_reader(alloc) else {
         return SessionEnd::NoMemory;
     };
-    match serve(alloc, link, desk, gate, &mut reader) {
+    let served = serve(alloc, link, desk, gate, &mut reader);
+    buffer.put_back(reader);
+    match served {
         Ok(()) => SessionEnd::Served,
         Err(end) => end,
     }

@@ -46,10 +46,12 @@ const ROWS: [(&[u8], Result<Pkt<'static>, PktFault>, usize); 19] = [
 #[test]
 fn the_front_of_an_input_is_read(rt: HostRuntime) -> Result<(), Fail> {
     let alloc = rt.alloc();
+    // one reader, whose buffer has what the rows before left
+    let mut reader = PktReader::new(alloc)?;
     for (input, answer, used) in ROWS {
         for most in [1, 3, 65_520] {
             let mut link = link_over(alloc, input, most, &[], &[])?;
-            let mut reader = PktReader::new(alloc)?;
+            reader.restart();
             assert!(rt; reader.next(&mut link) == answer, "{input:?}");
             assert_eq!(rt;
                 link.left().len(),

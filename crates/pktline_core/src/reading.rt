@@ -47,6 +47,15 @@ impl PktReader {
         })
     }
 
+    /// Stands at the beginning of another input, with the buffer that it has.
+    pub fn restart(&mut self)
+        ensures offset { self.new.offset ≡ 0 }
+        ensures failed { self.new.failed ≡ false }
+    {
+        self.offset = 0;
+        self.failed = false;
+    }
+
     /// The number of bytes that whole packets took: the place of the packet that comes next, or of the one that broke.
     pub fn offset(&self) -> u64
         ensures { result ≡ self.now.offset }

@@ -20,6 +20,12 @@ use rule_compile::PolicyFault;
 use session_core::{push_denial, shown};
 use std::alloc::{AllocError, Global};
 
+// What the line of a ref in an advertisement has at most beside the ref's name: its value, and the capabilities.
+const MOST_BESIDE: usize = 100;
+
+// What most lines of a report have at most beside the ref's name.
+const USUAL_REASON: usize = 80;
+
 fn push_number(text: &mut Vec<u8>, number: u64) -> Result<(), AllocError>
     ensures text { OnOk result (text.new.items ≡ text.old.items ++ decimal number) }
     ensures size { OnOk result (length text.new.items ≤ length text.old.items + 40) }
@@ -52,7 +58,7 @@ pub fn ref_line(
     ensures text { IfOk result (λ v. v.items ≡ (if first then first_line (name.now, id) else more_line (name.now, id))) }
     ensures size { IfOk result (λ v. length v.items ≤ length name.now + 100) }
 {
-    let mut text = Vec::new(alloc);
+    let mut text = Vec::with_capacity(alloc, name.len() + MOST_BESIDE)?;
     push_id(&mut text, id)?;
     text.extend_from_slice(b" ")?;
     text.extend_from_slice(name)?;
@@ -77,16 +83,24 @@ pub fn status_line(
     ensures size { IfOk result (λ v. length v.items ≤ length command.now.name + 61000) }
 {
     if outcome.is_done() {
-        let mut text = Vec::from_slice(alloc, b"ok ")?;
-        text.extend_from_slice(command.name.bytes())?;
+        let mut text = status_front(alloc, b"ok ", &command.name)?;
         text.extend_from_slice(b"\n")?;
         return Ok(text);
     }
-    let mut text = Vec::from_slice(alloc, b"ng ")?;
-    text.extend_from_slice(command.name.bytes())?;
+    let mut text = status_front(alloc, b"ng ", &command.name)?;
     text.extend_from_slice(b" ")?;
     push_reason(&mut text, alloc, policy, push, outcome)?;
     text.extend_from_slice(b"\n")?;
+    Ok(text)
+}
+
+// What the line of a command in a report begins with. It has room for most of what follows.
+fn status_front(alloc: Global, word: &[u8], name: &Text) -> Result<Vec<u8>, AllocError>
+    ensures { IfOk result (λ v. v.items ≡ word.now ++ name.now) }
+{
+    let mut text = Vec::with_capacity(alloc, name.bytes().len() + USUAL_REASON)?;
+    text.extend_from_slice(word)?;
+    text.extend_from_slice(name.bytes())?;
     Ok(text)
 }
 

@@ -6,7 +6,7 @@ use Rattle.pktline_core.specs.LinkState.{LinkState}
 use Rattle.pktline_core.specs.Links.{IsLater}
 use Rattle.pktline_core.proofs.LinkLemmas.{consumes_more, risen_later}
 use Rattle.script_frames.specs.Frames.{head_text, frame_text, BeginsNoFrame}
-use Rattle.script_frames.specs.ReadingFrames.{StopsAtByte, Takes, FailsAfter, HasNoFeed, IsRest, TakesNoLine, StopsInLine, IsSizeIn, HasNoSize, TakesBody, StopsInBody, TakesFrame, TakesNoFrame, EndsInside, GoesNoFurther, StopsInFrame}
+use Rattle.script_frames.specs.ReadingFrames.{StopsAtByte, Takes, FailsAfter, HasNoFeed, IsRest, TakesNoLine, StopsInLine, IsSizeIn, HasNoSize, TakesBody, StopsInBody, TakesFrame, TakesNoFrame, IsInBody, GoesNoFurther, StopsInFrame}
 use Rattle.script_frames.specs.declared.frames.FrameFault.{FrameFault}
 use Rattle.script_frames.specs.declared.frames.FrameFault.TheVariants.{Bad, ReadFault, NoMemory}
 use Rattle.script_frames.proofs.FrameLemmas.{begins_line, begins_long, begins_cut, begins_short, begins_open}
@@ -61,7 +61,7 @@ no_line a b t = record { part = t.part; takes = t.takes; some = some_part t.part
 pub line_stops : (a b : LinkState) (fault : FrameFault) → StopsInLine a b fault → StopsInFrame a b fault
 line_stops a b Bad t = no_line a b t
 line_stops a b ReadFault t = record { part = t.part; none = begins_cut t.part t.no_feed; wants = inl (t.no_feed, t.short); fails = t.fails }
-line_stops a b NoMemory t = record { part = t.part; none = begins_cut t.part t.no_feed; inside = inl (t.no_feed, t.short); takes = t.takes }
+line_stops a b NoMemory t = absurd t
 
 module _ (a b : LinkState) (line : List ℕ) (first : Takes a b (line ++ 10 ∷ [])) where
   some_line : (more : List ℕ) → 0 < length ((line ++ 10 ∷ []) ++ more)
@@ -80,8 +80,8 @@ module _ (a b : LinkState) (line : List ℕ) (first : Takes a b (line ++ 10 ∷ 
     short : (part : List ℕ) → length part ≤ n → BeginsNoFrame ((line ++ 10 ∷ []) ++ part)
     short part less = subst (λ (l : List ℕ). BeginsNoFrame ((l ++ 10 ∷ []) ++ part)) (sym size.head) (begins_short n size.small part less)
 
-    inside : (most : ℕ) (part : List ℕ) → length part ≤ n → EndsInside most ((line ++ 10 ∷ []) ++ part)
-    inside most part less = inr (n, part, size.small, append_assoc line (10 ∷ []) part ∙ ap (λ (l : List ℕ). l ++ 10 ∷ part) size.head, less)
+    inside : (part : List ℕ) → length part ≤ n → IsInBody ((line ++ 10 ∷ []) ++ part)
+    inside part less = (n, part, size.small, append_assoc line (10 ∷ []) part ∙ ap (λ (l : List ℕ). l ++ 10 ∷ part) size.head, less)
 
     ended : (c : LinkState) (part : List ℕ) → Takes b c part → length part ≤ n → IsAtEnd c.left → TakesNoFrame a c
     ended c part more less end = record {
@@ -89,13 +89,13 @@ module _ (a b : LinkState) (line : List ℕ) (first : Takes a b (line ++ 10 ∷ 
       takes = takes_more a b c (line ++ 10 ∷ []) part first more;
       some = some_line part;
       bad = λ rest is. at_end c.left ((line ++ 10 ∷ []) ++ part) rest end is (short part less);
-      no_further = inl (inside 17 part less);
+      no_further = inl (inr (inside part less));
     }
 
     pub body_stops : (c : LinkState) (fault : FrameFault) → IsLater a b → StopsInBody b c n fault → StopsInFrame a c fault
     body_stops c Bad later t = ended c t.part t.takes (omega (arith, t.short)) t.ended
-    body_stops c ReadFault later t = record { part = (line ++ 10 ∷ []) ++ t.part; none = short t.part (omega (arith, t.short)); wants = inside 17 t.part (omega (arith, t.short)); fails = fails_more a b c (line ++ 10 ∷ []) t.part first later t.fails }
-    body_stops c NoMemory later t = record { part = (line ++ 10 ∷ []) ++ t.part; none = short t.part t.within; inside = inside 18 t.part t.within; takes = takes_more a b c (line ++ 10 ∷ []) t.part first t.takes }
+    body_stops c ReadFault later t = record { part = (line ++ 10 ∷ []) ++ t.part; none = short t.part (omega (arith, t.short)); wants = inr (inside t.part (omega (arith, t.short))); fails = fails_more a b c (line ++ 10 ∷ []) t.part first later t.fails }
+    body_stops c NoMemory later t = record { part = (line ++ 10 ∷ []) ++ t.part; none = short t.part t.within; inside = inside t.part t.within; takes = takes_more a b c (line ++ 10 ∷ []) t.part first t.takes }
 
     module _ (c d : LinkState) (body : List ℕ) (second : TakesBody b c n body) where
       both : Takes a c ((line ++ 10 ∷ []) ++ body)
@@ -120,7 +120,7 @@ module _ (a b : LinkState) (line : List ℕ) (first : Takes a b (line ++ 10 ∷ 
         bad = λ rest is. subst BeginsNoFrame
             (sym (append_assoc ((line ++ 10 ∷ []) ++ body) (byte ∷ []) rest ∙ append_assoc (line ++ 10 ∷ []) body (byte ∷ rest)))
             (subst (λ (l : List ℕ). BeginsNoFrame ((l ++ 10 ∷ []) ++ (body ++ byte ∷ rest))) (sym size.head) (begins_open n size.small body rest byte second.sized other));
-        no_further = inr ((line ++ 10 ∷ []) ++ body, byte, refl, inside 17 body (omega (arith, second.sized)));
+        no_further = inr ((line ++ 10 ∷ []) ++ body, byte, refl, inr (inside body (omega (arith, second.sized))));
       }
 
       pub cut_off : Takes c d [] → IsAtEnd d.left → TakesNoFrame a d
@@ -128,5 +128,5 @@ module _ (a b : LinkState) (line : List ℕ) (first : Takes a b (line ++ 10 ∷ 
 
       pub byte_stops : (fault : FrameFault) → IsLater a c → StopsAtByte c d fault → StopsInFrame a d fault
       byte_stops Bad later stop = absurd stop
-      byte_stops ReadFault later stop = record { part = (line ++ 10 ∷ []) ++ body; none = short body (omega (arith, second.sized)); wants = inside 17 body (omega (arith, second.sized)); fails = fails_here a c d ((line ++ 10 ∷ []) ++ body) both later stop }
+      byte_stops ReadFault later stop = record { part = (line ++ 10 ∷ []) ++ body; none = short body (omega (arith, second.sized)); wants = inr (inside body (omega (arith, second.sized))); fails = fails_here a c d ((line ++ 10 ∷ []) ++ body) both later stop }
       byte_stops NoMemory later stop = absurd stop

@@ -58,17 +58,10 @@ pub record FailsInLine (old new : LinkState) : Type 0 where
   pub short : length part ≤ 17
   pub fails : FailsAfter old new part
 
--- memory lacked in a line, of which at most one byte more was taken than a first line has
-pub record LacksInLine (old new : LinkState) : Type 0 where
-  pub part : List ℕ
-  pub no_feed : HasNoFeed part
-  pub short : length part ≤ 18
-  pub takes : Takes old new part
-
 abbrev pub StopsInLine : LinkState → LinkState → FrameFault → Type 0
 StopsInLine old new Bad = TakesNoLine old new
 StopsInLine old new ReadFault = FailsInLine old new
-StopsInLine old new NoMemory = LacksInLine old new
+StopsInLine old new NoMemory = ⊥
 
 -- digits of no number below 2 ^ 32
 abbrev pub IsNoNumber : List ℕ → Type 0
@@ -118,20 +111,18 @@ pub record TakesFrame (old new : LinkState) (taken : ℕ) (body : List ℕ) : Ty
   pub counted : taken ≡ length (frame_text body)
   pub small : length body ≤ largest_body
 
--- This part ends inside a frame: it is a line without its line feed and of so many bytes at most, perhaps empty and perhaps none of a frame;
--- or a good first line, behind which the body or the last line feed isn't whole.
-abbrev pub EndsInside : ℕ → List ℕ → Type 0
-EndsInside most part =
-    (HasNoFeed part × (length part ≤ most))
-    ⊎ ((size : ℕ) × (body : List ℕ) × (size ≤ largest_body) × (part ≡ head_text size ++ 10 ∷ body) × (length body ≤ size))
+-- this part is a good first line, behind which the body or the last line feed isn't whole
+abbrev pub IsInBody : List ℕ → Type 0
+IsInBody part = (size : ℕ) × (body : List ℕ) × (size ≤ largest_body) × (part ≡ head_text size ++ 10 ∷ body) × (length body ≤ size)
 
--- More is wanted behind this part: a line without its line feed isn't too long for a first one.
+-- More is wanted behind this part, which ends inside a frame: it is a line without its line feed that isn't too long for a first one, perhaps empty and
+-- perhaps none of a frame; or it ends behind a good first line.
 abbrev pub WantsMore : List ℕ → Type 0
-WantsMore part = EndsInside 17 part
+WantsMore part = (HasNoFeed part × (length part ≤ 17)) ⊎ IsInBody part
 
--- this part ends inside a frame, or all of it but its last byte does
+-- more is wanted behind this part, or behind all of it but its last byte
 abbrev pub GoesNoFurther : List ℕ → Type 0
-GoesNoFurther part = EndsInside 17 part ⊎ ((front : List ℕ) × (last : ℕ) × (part ≡ front ++ last ∷ []) × EndsInside 17 front)
+GoesNoFurther part = WantsMore part ⊎ ((front : List ℕ) × (last : ℕ) × (part ≡ front ++ last ∷ []) × WantsMore front)
 
 -- What was taken shows that no frame stands here, or the input ended before.
 pub record TakesNoFrame (old new : LinkState) : Type 0 where
@@ -148,11 +139,11 @@ pub record FailsInFrame (old new : LinkState) : Type 0 where
   pub wants : WantsMore part
   pub fails : FailsAfter old new part
 
--- memory lacked before a whole frame was taken; a line without its line feed may be one byte too long for a first one
+-- memory for the body lacked, before a whole frame was taken
 pub record LacksInFrame (old new : LinkState) : Type 0 where
   pub part : List ℕ
   pub none : BeginsNoFrame part
-  pub inside : EndsInside 18 part
+  pub inside : IsInBody part
   pub takes : Takes old new part
 
 abbrev pub StopsInFrame : LinkState → LinkState → FrameFault → Type 0

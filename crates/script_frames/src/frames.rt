@@ -5,9 +5,10 @@ ghost use Rattle.script_frames.specs.Faults.{fault_text};
 ghost use Rattle.script_frames.specs.Frames.{OneScript};
 ghost use Rattle.script_frames.specs.ReadingFrames.{HasNoSize, IsNoNumber, IsSizeIn, StopsAtByte, StopsInBody, StopsInFrame, StopsInLine, TakesBody, TakesByte, TakesFrame, TakesLine, TellsRead};
 
+use arrayvec::ArrayVec;
 use itoa::Buffer;
-use pktline_core::{Source, Taken};
-use std::alloc::{AllocError, AllocFailed, Global};
+use pktline_core::{Source, TakeFault, Taken, take_all};
+use std::alloc::{AllocError, Global};
 use std::error::Error;
 use std::{fmt, str};
 
@@ -18,7 +19,7 @@ pub enum FrameFault {
     Bad,
     /// A read of the source failed.
     ReadFault,
-    /// The frame's line or its body found no memory.
+    /// The frame's body found no memory.
     NoMemory,
 }
 
@@ -42,16 +43,6 @@ impl From<AllocError> for FrameFault {
     ghost from_gives = { λ _ e. e ≡ fault.NoMemory };
 
     fn from(_error: AllocError) -> FrameFault {
-        FrameFault::NoMemory
-    }
-}
-
-impl<T: Drop> From<AllocFailed<T>> for FrameFault {
-    ghost use Rattle.script_frames.specs.declared.frames.FrameFault.TheVariants as fault;
-
-    ghost from_gives = { λ _ e. e ≡ fault.NoMemory };
-
-    fn from(_error: AllocFailed<T>) -> FrameFault {
         FrameFault::NoMemory
     }
 }
@@ -88,16 +79,16 @@ fn take_byte<S: Source>(source: &mut S) -> Result<Option<u8>, FrameFault>
     }
 }
 
-// The first line of a frame, or `None` at the end of the input.
-fn read_line<S: Source>(alloc: Global, source: &mut S) -> Result<Option<Vec<u8>>, FrameFault>
+// The first line of a frame, or `None` at the end of the input. It lies on the stack.
+fn read_line<S: Source>(source: &mut S) -> Result<Option<ArrayVec<u8, LONGEST_LINE>>, FrameFault>
     ensures some { IfOk result (λ found. IfSome found (λ line. TakesLine (S.state source.old) (S.state source.new) (Some line.items))) }
     ensures none { IfOk result (λ found. IfNone found (TakesLine (S.state source.old) (S.state source.new) None)) }
     ensures err { IfErr result (StopsInLine (S.state source.old) (S.state source.new)) }
     ensures tells { TellsRead (S.state source.old) (S.state source.new) result }
     ensures later { IsLater (S.state source.old) (S.state source.new) }
 {
-    let mut line = Vec::new(alloc);
-    while line.len() <= LONGEST_LINE {
+    let mut line = ArrayVec::new();
+    loop {
         let Some(byte) = take_byte(source)? else {
             if line.is_empty() {
                 return Ok(None);
@@ -107,9 +98,10 @@ fn read_line<S: Source>(alloc: Global, source: &mut S) -> Result<Option<Vec<u8>>
         if byte == b'\n' {
             return Ok(Some(line));
         }
-        line.push(byte)?;
+        let Ok(()) = line.try_push(byte) else {
+            return Err(FrameFault::Bad);
+        };
     }
-    Err(FrameFault::Bad)
 }
 
 // The number whose decimal digits these are, in its one spelling: as it is printed.
@@ -153,14 +145,15 @@ fn read_body<S: Source>(alloc: Global, source: &mut S, size: usize) -> Result<Ve
     ensures tells { TellsRead (S.state source.old) (S.state source.new) result }
     ensures later { IsLater (S.state source.old) (S.state source.new) }
 {
-    let mut room = vec![in alloc; 0; size.min(CHUNK)]?;
     let mut body = Vec::new(alloc);
     while body.len() < size {
-        let wanted = room.len().min(size - body.len());
-        match source.take(room.split_at_mut(wanted).0) {
-            Taken::Got(count) => body.extend_from_slice(room.split_at(count).0)?,
-            Taken::End => return Err(FrameFault::Bad),
-            Taken::Failed => return Err(FrameFault::ReadFault),
+        let filled = body.len();
+        let wanted = CHUNK.min(size - filled);
+        body.resize(filled + wanted, 0)?;
+        match take_all(source, body.split_at_mut(filled).1) {
+            Ok(()) => {}
+            Err(TakeFault::Ended) => return Err(FrameFault::Bad),
+            Err(TakeFault::Failed) => return Err(FrameFault::ReadFault),
         }
     }
     Ok(body)
@@ -175,10 +168,10 @@ pub fn read_frame<S: Source>(alloc: Global, source: &mut S) -> Result<Option<Fra
     ensures tells { TellsRead (S.state source.old) (S.state source.new) result }
     ensures later { IsLater (S.state source.old) (S.state source.new) }
 {
-    let Some(line) = read_line(alloc, source)? else {
+    let Some(line) = read_line(source)? else {
         return Ok(None);
     };
-    let Some(size) = size_in(&line) else {
+    let Some(size) = size_in(line.as_slice()) else {
         return Err(FrameFault::Bad);
     };
     let body = read_body(alloc, source, size as usize)?;

@@ -6,7 +6,7 @@ ghost use Rattle.shared_hub.specs.Shared.{IsHubPass, log_at_new, log_seen};
 ghost use Rattle.session_workers.specs.Visits.{HasWorked, ServesNext, is_lack};
 
 use edge_links::{Door, Next};
-use git_session::session;
+use git_session::{SessionBuffer, session};
 use hub::Desk;
 use pktline_core::Link;
 use session_core::{Gate, SessionEnd};
@@ -46,13 +46,14 @@ fn serve_next<L: Link, K: Desk, D: Door<L>, G: Gate>(
     door: &mut D,
     gate: &mut G,
     desk: &mut K,
+    buffer: &mut SessionBuffer,
 ) -> NextServed
     ensures next { ServesNext L.state (D.state door.old) (D.state door.new) (K.view desk.old) (K.view desk.new) result }
     ensures goes { K.goes_on desk.old desk.new }
 {
     match door.next() {
         Next::Link(mut link) => {
-            let end = session(alloc, &mut link, desk, gate);
+            let end = session(alloc, &mut link, desk, gate, buffer);
             door.done(link);
             NextServed::Served(end)
         }
@@ -86,10 +87,11 @@ pub fn work<'a, L: Link, D: Door<L>, G: Gate, R: Wait>(
     ensures worked { HasWorked L.state (admin_in pass.at_new) pass.caller (length (log_at_new pass)) (log_seen result.0) each (D.state door.old) (D.state door.new) result.1 }
 {
     let mut desk = SharedDesk::new(rt, hub, pass);
+    let mut buffer = SessionBuffer::new();
     let mut tally = Tally::NONE;
     for sessions in 0..each {
         tally.sessions = sessions;
-        match serve_next(alloc, door, gate, &mut desk) {
+        match serve_next(alloc, door, gate, &mut desk, &mut buffer) {
             NextServed::Served(end) => tally.no_memory = lacks(tally.no_memory, end),
             NextServed::Closed => return (desk.into_pass(), tally),
             NextServed::Failed => {

@@ -53,7 +53,7 @@ undone source sink admin = record {
   more = [];
   written = λ recorded of. Appends-nil sink.written;
   may_lack = inl refl;
-  stops = inl (record { part = []; small = tt; none = begins_none; inside = inl (tt, omega arith); takes = record { consumed = Consumes-nil source.left; counted = omega arith }; nothing = refl; log_is = λ recorded of. refl });
+  stops = inl (record { part = []; small = tt; none = begins_none; inside = inl refl; takes = record { consumed = Consumes-nil source.left; counted = omega arith }; nothing = refl; log_is = λ recorded of. refl });
 }
 
 module _ (source source' sink sink' : LinkState) (log : List Entry) where

@@ -402,7 +402,7 @@ module _ (s s' s'' k k' k'' : LinkState) (d d' d'' : DeskView) (bodies : List (L
           part = lacks.read.part;
           small = advances.small;
           none = lacks.read.none;
-          inside = lacks.read.inside;
+          inside = inr lacks.read.inside;
           takes = takes_more s s' s'' (flat_map frame_text bodies) lacks.read.part advances.takes lacks.read.takes;
           nothing = refl;
           log_is = log_unmoved lacks.desk_is;

@@ -11,7 +11,7 @@ use Rattle.interaction_tree.specs.Traces.{Begins, FallsShort}
 use Rattle.interaction_tree.specs.Endings.{IsInput}
 use Rattle.session_core.specs.Recorded.{AsRecorded}
 use Rattle.script_frames.specs.Frames.{frame_text, AreBodies, BeginsNoFrame, IsScript}
-use Rattle.script_frames.specs.ReadingFrames.{Takes, IsRest, TakesFrame, TakesNoFrame, EndsInside, GoesNoFurther, WantsMore, FailsInFrame, LacksInFrame}
+use Rattle.script_frames.specs.ReadingFrames.{Takes, IsRest, TakesFrame, TakesNoFrame, IsInBody, GoesNoFurther, WantsMore, FailsInFrame, LacksInFrame}
 use Rattle.shell_program.specs.Script.{stop_word, reply_text, fault_text, served_alone, sessions, bad_offset, script}
 use Rattle.shell_program.specs.declared.script.ScriptFault.{ScriptFault}
 use Rattle.shell_program.specs.declared.script.ScriptFault.TheVariants.{BadScript, InputFault, OutputFault, NoMemory}
@@ -75,7 +75,7 @@ pub record FailsAtRead (source source' sink sink' : LinkState) (old new : DeskVi
   pub sink_is : sink' ≡ sink
   pub desk_is : new ≡ old
 
--- memory lacked before the next frame or inside it, and nothing else was done
+-- memory lacked for the next frame's body, and nothing else was done
 pub record LacksAtRead (source source' sink sink' : LinkState) (old new : DeskView) : Type 0 where
   pub read : LacksInFrame source source'
   pub sink_is : sink' ≡ sink
@@ -186,12 +186,12 @@ pub record StopsAtWrite (source source' sink sink' : LinkState) (admin : Name) (
   pub stops : StopsServing source source' admin log log' done more ⊎ StopsTelling source source' admin log log' done more
   pub risen : HasRisen sink.write_faults sink'.write_faults
 
--- memory lacked before the next frame or inside it, and nothing more was printed than of these
+-- memory lacked before the next frame or for its body, and nothing more was printed than of these
 pub record StopsReading (source source' : LinkState) (admin : Name) (log log' : List Entry) (done : List (List ℕ)) (more : List ℕ) : Type 0 where
   pub part : List ℕ
   pub small : AreBodies done
   pub none : BeginsNoFrame part
-  pub inside : EndsInside 18 part
+  pub inside : (part ≡ []) ⊎ IsInBody part
   pub takes : Takes source source' (flat_map frame_text done ++ part)
   pub nothing : more ≡ []
   pub log_is : AsRecorded admin log' (λ recorded. log' ≡ (sessions recorded admin 1 done log).log)

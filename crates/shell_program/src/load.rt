@@ -18,7 +18,7 @@ use crate::tally::{Tally, count_entries};
 use base_types::{NoMemory, Text};
 use conf_lex::UserName;
 use git_object::ObjectId;
-use git_session::session;
+use git_session::{SessionBuffer, session};
 use hub::{EntryList, Hub, LoneDesk};
 use installation::{First, Visit, first_input, next_visit, repo_name, visit_input};
 use itoa::Buffer;
@@ -37,13 +37,18 @@ fn new_hub(alloc: Global) -> Result<Hub, NoMemory>
 }
 
 // Serves a session with this input, over memory.
-fn serve_input(alloc: Global, hub: Hub, input: Vec<u8>) -> (Hub, Result<(), NoMemory>)
+fn serve_input(
+    alloc: Global,
+    hub: Hub,
+    input: Vec<u8>,
+    buffer: &mut SessionBuffer,
+) -> (Hub, Result<(), NoMemory>)
     ensures ok { OnOk result.1 (ServesInput hub result.0 input.items) }
     ensures lacks { OnErr result.1 (LacksInput hub result.0 input.items) }
 {
     let mut desk = LoneDesk::new(hub);
     let mut link = MemoryLink::new(input, MOST_MOVED, Vec::new(alloc), Vec::new(alloc));
-    let end = session(alloc, &mut link, &mut desk, &mut OpenGate);
+    let end = session(alloc, &mut link, &mut desk, &mut OpenGate, buffer);
     match word(end) {
         Some(_) => (desk.into_hub(), Ok(())),
         None => (desk.into_hub(), Err(NoMemory)),
@@ -84,7 +89,8 @@ fn load_all(alloc: Global, hub: Hub, count: u32, start: u32) -> (Hub, Result<(),
         return (hub, Err(NoMemory));
     };
     let First { input, mut draws } = first;
-    let (mut hub, served) = serve_input(alloc, hub, input);
+    let mut buffer = SessionBuffer::new();
+    let (mut hub, served) = serve_input(alloc, hub, input, &mut buffer);
     if served.is_err() {
         return (hub, Err(NoMemory));
     }
@@ -93,7 +99,7 @@ fn load_all(alloc: Global, hub: Hub, count: u32, start: u32) -> (Hub, Result<(),
         let Ok(input) = input_of(alloc, &hub, number, &visit) else {
             return (hub, Err(NoMemory));
         };
-        let (after, served) = serve_input(alloc, hub, input);
+        let (after, served) = serve_input(alloc, hub, input, &mut buffer);
         hub = after;
         if served.is_err() {
             return (hub, Err(NoMemory));

@@ -8,7 +8,7 @@ ghost use Rattle.shell_program.specs.Script.{end_word, fault_text, reply_text};
 ghost use Rattle.shell_program.specs.RunningScripts.{AdvancesOne, FindsEnd, LacksSession, RunsScript, Serves, StopsAdvancing, StopsScript, StopsWriting, TellsInput, TellsOutput};
 
 use base_types::NoMemory;
-use git_session::session;
+use git_session::{SessionBuffer, session};
 use hub::Desk;
 use itoa::Buffer;
 use pktline_core::{MemoryLink, Sink, Source, WriteFault, write_all};
@@ -37,6 +37,9 @@ impl From<NoMemory> for ScriptFault {
         ScriptFault::NoMemory
     }
 }
+
+// What is printed of a session has room for so many bytes beside its reply: the words and numbers before it, and the line feed behind it.
+const ROOM_BESIDE: usize = 64;
 
 // How many bytes a call on a session's link moves at most.
 pub(crate) const MOST_MOVED: usize = 65_536;
@@ -68,7 +71,7 @@ fn reply_text(alloc: Global, number: u64, word: &str, reply: &[u8]) -> Result<Ve
     ensures { IfOk result (λ text. text.items ≡ reply_text number word.now reply.now) }
 {
     let mut digits = Buffer::new();
-    let mut text = Vec::new(alloc);
+    let mut text = Vec::with_capacity(alloc, reply.len() + ROOM_BESIDE)?;
     text.extend_from_slice(b"session ")?;
     text.extend_from_slice(digits.format(number).as_bytes())?;
     text.extend_from_slice(b" ")?;
@@ -112,6 +115,7 @@ fn serve<K: Desk>(
     number: u64,
     body: Vec<u8>,
     desk: &mut K,
+    buffer: &mut SessionBuffer,
 ) -> Result<Vec<u8>, NoMemory>
     requires { IsTrue (K.view desk.old).alone }
     ensures ok { IfOk result (λ text. Serves (K.view desk.old) (K.view desk.new) number body.items text.items) }
@@ -120,7 +124,7 @@ fn serve<K: Desk>(
     ensures goes { K.goes_on desk.old desk.new }
 {
     let mut link = MemoryLink::new(body, MOST_MOVED, Vec::new(alloc), Vec::new(alloc));
-    let end = session(alloc, &mut link, desk, &mut OpenGate);
+    let end = session(alloc, &mut link, desk, &mut OpenGate, buffer);
     let Some(word) = word(end) else {
         return Err(NoMemory);
     };
@@ -136,6 +140,7 @@ fn advance<I: Source, O: Sink, K: Desk>(
     input: &mut I,
     output: &mut O,
     desk: &mut K,
+    buffer: &mut SessionBuffer,
 ) -> Result<Option<u64>, ScriptFault>
     requires { IsTrue (K.view desk.old).alone }
     ensures some { IfOk result (λ found. IfSome found (AdvancesOne (I.state input.old) (I.state input.new) (O.state output.old) (O.state output.new) (K.view desk.old) (K.view desk.new) number)) }
@@ -150,7 +155,7 @@ fn advance<I: Source, O: Sink, K: Desk>(
 {
     match read_frame(alloc, input) {
         Ok(Some(frame)) => {
-            let text = serve(alloc, number, frame.body, desk)?;
+            let text = serve(alloc, number, frame.body, desk, buffer)?;
             write_text(output, &text)?;
             Ok(Some(frame.taken))
         }
@@ -181,9 +186,10 @@ pub fn run_script<I: Source, O: Sink, K: Desk>(
     ensures admin { (K.view desk.new).admin ≡ (K.view desk.old).admin }
     ensures goes { K.goes_on desk.old desk.new }
 {
+    let mut buffer = SessionBuffer::new();
     let mut number = 1;
     let mut offset = 0;
-    while let Some(taken) = advance(alloc, number, offset, input, output, desk)? {
+    while let Some(taken) = advance(alloc, number, offset, input, output, desk, &mut buffer)? {
         number += 1;
         offset += taken;
     }

@@ -1,6 +1,6 @@
 // Fetches up to their limits, and fetches that are cut off. The shipped script has the rows of what each is told.
 use crate::session_tests::{first_push, new_desk, serve};
-use git_session::session;
+use git_session::{SessionBuffer, session};
 use hub::{LoneDesk, NoMemory};
 use pktline_core::MemoryLink;
 use session_core::{OpenGate, SessionEnd};
@@ -96,7 +96,13 @@ fn fetch_failing(
 ) -> Result<(SessionEnd, usize), NoMemory> {
     let input = fetch_of(alloc, 1, 2, 0)?;
     let mut link = MemoryLink::new(input, 1, takes.to_vec(alloc)?, puts.to_vec(alloc)?);
-    let end = session(alloc, &mut link, desk, &mut OpenGate);
+    let end = session(
+        alloc,
+        &mut link,
+        desk,
+        &mut OpenGate,
+        &mut SessionBuffer::new(),
+    );
     Ok((end, link.written().len()))
 }
 

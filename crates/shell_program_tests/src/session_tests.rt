@@ -1,6 +1,6 @@
 // Sessions over a link of memory and the only desk of a new hub.
 use conf_lex::UserName;
-use git_session::session;
+use git_session::{SessionBuffer, session};
 use hub::{EnterKept, EntryList, Event, Hub, LoneDesk, NoMemory, Outcome, Verdict};
 use pktline_core::MemoryLink;
 use session_core::{Gate, OpenGate, SessionEnd};
@@ -55,7 +55,13 @@ pub fn serve(
 ) -> Result<(SessionEnd, Vec<u8>), NoMemory> {
     let input = input.to_vec(alloc)?;
     let mut link = MemoryLink::new(input, most.max(1), Vec::new(alloc), Vec::new(alloc));
-    let end = session(alloc, &mut link, desk, &mut OpenGate);
+    let end = session(
+        alloc,
+        &mut link,
+        desk,
+        &mut OpenGate,
+        &mut SessionBuffer::new(),
+    );
     let written = link.written().to_vec(alloc)?;
     Ok((end, written))
 }
@@ -108,7 +114,13 @@ fn serve_failing(
     let mut desk = new_desk(alloc)?;
     let input = first_push(alloc)?;
     let mut link = MemoryLink::new(input, 1, takes.to_vec(alloc)?, puts.to_vec(alloc)?);
-    let end = session(alloc, &mut link, &mut desk, &mut OpenGate);
+    let end = session(
+        alloc,
+        &mut link,
+        &mut desk,
+        &mut OpenGate,
+        &mut SessionBuffer::new(),
+    );
     let written = link.written().len();
     Ok((end, written, desk.into_hub().into_log().len()))
 }
@@ -169,6 +181,7 @@ fn a_denial_is_in_the_log(rt: HostRuntime) -> Result<(), Fail> {
 fn the_gate_stands_between_an_opening_and_what_is_written(rt: HostRuntime) -> Result<(), Fail> {
     let alloc = rt.alloc();
     let mut desk = new_desk(alloc)?;
+    let mut buffer = SessionBuffer::new();
     let mut gate = LastPlace {
         calls: 0,
         place: None,
@@ -199,7 +212,10 @@ fn the_gate_stands_between_an_opening_and_what_is_written(rt: HostRuntime) -> Re
         let mut puts = Vec::new(alloc);
         puts.push(failing)?;
         let mut link = MemoryLink::new(input.to_vec(alloc)?, 3, Vec::new(alloc), puts);
-        assert_eq!(rt; session(alloc, &mut link, &mut desk, &mut gate), due);
+        assert_eq!(rt;
+            session(alloc, &mut link, &mut desk, &mut gate, &mut buffer),
+            due
+        );
         assert!(rt; gate.calls == calls && gate.place == place);
         assert!(rt; link.written().is_empty() == (failing == 0));
     }

@@ -12,14 +12,14 @@ returns-in_default g c =
     let k = session_keeps _ _ _ _ _ NoMemory c.sound.ensures (memory_by _ _ _) in
     record { turn = k.turn; tells = search rules; grows = k.grows; sound = k.sound; goes = g.met.K.Desk.stays c.args.desk.now; causes = k.causes; sure = k.sure; later = k.later }
 
-pub returns-in-Ok-serve : goal.returns-in-Ok-serve
+pub returns-in-Ok-served : goal.returns-in-Ok-served
 unfolding session
-returns-in-Ok-serve g c =
-    let k = session_keeps _ _ _ _ _ Served c.sound.ensures (goes_by _ _ _ _ _ (λ book u. ends Served) c.serve.result _ _ c.in-Ok-serve.field-0 _ c.in-Ok-serve.is (rw c.in-Ok.ensures.offset at c.serve.ensures.runs) (runs_always _ _ _ _ _ _ (runs_ends _ _ Served))) in
-    record { turn = k.turn; tells = search rules; grows = k.grows; sound = k.sound; goes = c.serve.ensures.goes; causes = k.causes; sure = k.sure; later = k.later }
+returns-in-Ok-served g c =
+    let k = session_keeps _ _ _ _ _ Served c.sound.ensures (goes_by _ _ _ _ _ (λ book u. ends Served) c.serve-served.result _ _ c.in-Ok-served.field-0 _ c.in-Ok-served.is (rw c.in-Ok.ensures.offset at c.serve-served.ensures.runs) (runs_always _ _ _ _ _ _ (runs_ends _ _ Served))) in
+    record { turn = k.turn; tells = search rules; grows = k.grows; sound = k.sound; goes = c.serve-served.ensures.goes; causes = k.causes; sure = k.sure; later = k.later }
 
-pub returns : goal.returns
+pub returns-in-Err : goal.returns-in-Err
 unfolding session
-returns g c =
-    let k = session_keeps _ _ _ _ _ c.in-Err.end c.sound.ensures (ends_by _ _ _ _ _ (λ book u. ends Served) c.serve.result c.in-Err.end c.in-Err.is (rw c.in-Ok.ensures.offset at c.serve.ensures.runs)) in
-    record { turn = k.turn; tells = search rules; grows = k.grows; sound = k.sound; goes = c.serve.ensures.goes; causes = k.causes; sure = k.sure; later = k.later }
+returns-in-Err g c =
+    let k = session_keeps _ _ _ _ _ c.in-Err.end c.sound.ensures (ends_by _ _ _ _ _ (λ book u. ends Served) c.serve-served.result c.in-Err.end c.in-Err.is (rw c.in-Ok.ensures.offset at c.serve-served.ensures.runs)) in
+    record { turn = k.turn; tells = search rules; grows = k.grows; sound = k.sound; goes = c.serve-served.ensures.goes; causes = k.causes; sure = k.sure; later = k.later }

@@ -5,8 +5,8 @@ use Rattle.script_frames.specs.Frames.{frame_text}
 use Rattle.shell_program.specs.RunningScripts.{Advances}
 use Rattle.shell_program.proofs.script.run_script.Given as goal
 
-abbrev pub invariant-loop-taken : goal.invariant-loop-taken
-invariant-loop-taken g l = record {
+abbrev pub invariant-loop-buffer : goal.invariant-loop-buffer
+invariant-loop-buffer g l = record {
   so_far : (bodies : List (List ℕ))
       × Advances (g.I.Endpoint.state l.initial.input) (g.I.Endpoint.state l.input) (g.O.Endpoint.state l.initial.output) (g.O.Endpoint.state l.output) (g.K.Desk.view l.initial.desk) (g.K.Desk.view l.desk) 1 bodies
       × (l.number ≡ 1 + length bodies) × (l.offset ≡ length (flat_map frame_text bodies));
@@ -17,5 +17,5 @@ invariant-loop-taken g l = record {
   goes : g.K.Desk.goes_on l.initial.desk l.desk;
 }
 
-abbrev pub decreases-loop-taken : goal.decreases-loop-taken
-decreases-loop-taken g l = 2 ^ 63 - (g.I.Endpoint.state l.input).given
+abbrev pub decreases-loop-buffer : goal.decreases-loop-buffer
+decreases-loop-buffer g l = 2 ^ 63 - (g.I.Endpoint.state l.input).given
