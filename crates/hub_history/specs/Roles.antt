@@ -1,8 +1,7 @@
 -- Changes of roles: their answers, and what they change.
-use Rattle.std.specs.Prelude.{◌≡◌, List, Option, None, Some, if◌then◌else◌}
+use Rattle.std.specs.Prelude.{◌≡◌, List, Option, None, Some, Bool, ◌&&◌, not, if◌then◌else◌}
 use Rattle.std.specs.List.{list_any}
 use Rattle.std.specs.Str.{bytes_eq}
-use Rattle.std.specs.Prelude.{Bool, ◌&&◌, not}
 use Rattle.ref_store.specs.Refs.{Name}
 use Rattle.wild_perms.specs.Answers.{refusal, refused_by}
 use Rattle.wild_perms.specs.Roles.{WildView, with_entry, without_entry}

@@ -1,4 +1,4 @@
-//! Tests of `turn_lock`, `hub_history`, `hub_state`, `push_judging`, `hub` and `shared_hub`, by what is public there. They are one crate, since a crate of tests costs a minute of proofs before its first test.
+//! Tests of `turn_lock`, `hub_history`, `hub_state`, `push_judging`, `hub` and `shared_hub`, by what is public there. They are one crate, since each crate of tests proves anew how values of the types that it uses are dropped.
 #![tactic(auto)]
 
 #[cfg(test)]

@@ -1,6 +1,6 @@
 // Names of refs.
 ghost use Rattle.std.specs.Prelude.{◌≡◌, ◌==◌, ◌&&◌, ◌∷◌, [], codes, IfOk, if◌then◌else◌, length, nat_eq, nat_le, None, not, Some, true};
-ghost use Rattle.std.specs.List.{count_by, ends_with, list_all, starts_with};
+ghost use Rattle.std.specs.List.{ends_with, list_all, starts_with};
 ghost use Rattle.std.proofs.Common.{rules};
 ghost use Rattle.std.specs.Cmp.Rules.{comparing};
 ghost use lib.Pointwise.{pointwise};

@@ -15,7 +15,6 @@ use Rattle.ref_store.specs.contracts.repo.Repo as Repo
 use Rattle.ref_store.specs.contracts.lens.Lens as Lens
 use Rattle.ancestry.specs.contracts.table.Table as Table
 use Rattle.ancestry.specs.contracts.known.Known as Known
-use Rattle.ancestry.specs.contracts.verdict.Verdict as Verdict
 use Rattle.wild_perms.specs.contracts.wild.Wild as Wild
 use Rattle.rule_compile.specs.contracts.fault.PolicyFault as Fault
 use Rattle.hub_history.specs.contracts.outcome.Outcome as Outcome
@@ -72,12 +71,6 @@ lens_send = search (segments_send, objects_send, heap.crosses, sendable) depth 6
 lens_sync : IsSync Lens.the_row
 lens_sync = search (segments_sync, objects_sync, heap.crosses, sendable) depth 60
 
-verdicts_send : IsSend (Table.the_row (Verdict.the_field).row)
-verdicts_send = search (heap.crosses, maps.crosses, sendable) depth 100 fits 50000
-
-verdicts_sync : IsSync (Table.the_row (Verdict.the_field).row)
-verdicts_sync = search (heap.crosses, maps.crosses, sendable) depth 100 fits 50000
-
 generations_send : IsSend (Table.the_row u64)
 generations_send = search (heap.crosses, maps.crosses, sendable) depth 100 fits 50000
 
@@ -85,10 +78,10 @@ generations_sync : IsSync (Table.the_row u64)
 generations_sync = search (heap.crosses, maps.crosses, sendable) depth 100 fits 50000
 
 known_send : IsSend (Known.the_field).row
-known_send = search (verdicts_send, verdicts_sync, generations_send, generations_sync, heap.crosses, sendable) depth 100 fits 50000
+known_send = search (generations_send, generations_sync, heap.crosses, sendable) depth 100 fits 50000
 
 known_sync : IsSync (Known.the_field).row
-known_sync = search (verdicts_send, verdicts_sync, generations_send, generations_sync, heap.crosses, sendable) depth 100 fits 50000
+known_sync = search (generations_send, generations_sync, heap.crosses, sendable) depth 100 fits 50000
 
 wild_send : IsSend Wild.the_row
 wild_send = search (heap.crosses, sendable) depth 60

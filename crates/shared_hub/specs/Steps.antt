@@ -1,15 +1,12 @@
 -- What one turn does to the list of a hub.
-use Rattle.std.specs.Prelude.{◌≡◌, ⊤, ℕ, List, [], ◌∷◌, ◌++◌, Option, None, Some, Bool}
-use Rattle.git_object.specs.Content.{Content}
+use Rattle.std.specs.Prelude.{◌≡◌, ⊤, ℕ, List, [], ◌∷◌, ◌++◌, Option, None, Some}
 use Rattle.ref_store.specs.Refs.{Name}
-use Rattle.ref_store.specs.declared.command.Command.{Command}
 use Rattle.access_check.specs.declared.verdicts.Want.{Want}
 use Rattle.access_check.specs.declared.verdicts.Want.TheVariants.{Write}
 use Rattle.wild_perms.specs.declared.answer.PermsAnswer.{PermsAnswer}
 use Rattle.hub_history.specs.declared.entry.Event.{Event}
 use Rattle.hub_history.specs.declared.entry.PermChange.{PermChange}
 use Rattle.hub_history.specs.History.{IsLegal, Stands}
-use Rattle.hub_history.specs.Opening.{Opening}
 use Rattle.git_object.specs.Object.{FitOnePack}
 use Rattle.hub_history.specs.Push.{AreWithinLimits}
 use Rattle.hub_history.specs.Roles.{kept_of}

@@ -1,4 +1,4 @@
-//! Tests of `session_core`, `receive_pack`, `session_workers` and `shell_program`, by what is public there. They are one crate, since a crate of tests costs a minute of proofs before its first test.
+//! Tests of `session_core`, `receive_pack`, `upload_pack`, `git_session`, `session_workers` and `shell_program`, by what is public there. They are one crate, since each crate of tests proves anew how values of the types that it uses are dropped.
 #![tactic(auto)]
 
 #[cfg(test)]

@@ -1,4 +1,4 @@
-//! Tests of `git_object`, `ref_store`, `ancestry` and `vref`, by what is public there. They are one crate, since a crate of tests costs a minute of proofs before its first test.
+//! Tests of `git_object`, `ref_store`, `ancestry` and `vref`, by what is public there. They are one crate, since each crate of tests proves anew how values of the types that it uses are dropped.
 #![tactic(auto)]
 
 #[cfg(test)]

@@ -1,4 +1,4 @@
-use Rattle.std.proofs.Common.{ap, subst, sym, ◌∙◌}
+use Rattle.std.proofs.Common.{ap, subst, sym}
 use Rattle.std.specs.Prelude.{Some}
 use mathlib.Core.List.{IsPrefix}
 use Rattle.turn_lock.specs.Lock.{seen}
