@@ -4,3 +4,4 @@ mod DeniedLemmas
 mod LetLemmas
 mod RefusalLemmas
 mod AtomicLemmas
+mod NamedLemmas

@@ -90,7 +90,7 @@ of_each : (answer : EnterKept) (IsSuch : Patterns → Flat → Option Repository
     → ((ps : Patterns) (rules : Flat) (user repo : Name) (want : Want) (there : Option Repository) → answer ≡ answer_by ps rules there user repo want → IsSuch ps rules there user repo want) → OfEachOpening answer IsSuch
 of_each answer IsSuch by admin before entry user repo want legal is ps ok =
     let due : IsDue ps (history admin before) (Entered user repo want answer) = subst (IsDue ps (history admin before)) is (due_last admin before entry legal ps ok) in
-    (due.0, due.1, by ps due.0 user repo want _ due.2)
+    (due.1.0, due.1.1, by ps due.1.0 user repo want _ due.1.2)
 
 pub opened_is_let : OpenedIsLet
 opened_is_let = record {

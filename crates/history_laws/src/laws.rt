@@ -1,5 +1,6 @@
 // What holds of every legal log.
 ghost use Rattle.history_laws.specs.Laws.{AtomicOtherNamesTheFirst, DeniedIsNotLet, ManyPathsIsNotLet, OpenedIsLet, PastTheRulesIsLet, RefusedIsNotLet};
+ghost use Rattle.history_laws.specs.Named.{AllAreNamed};
 ghost use Rattle.history_laws.specs.Refusals.{RefusalsAreSo};
 
 use rule_compile::some_patterns_are_true;
@@ -13,9 +14,12 @@ pub fn hold_laws()
     ensures past { PastTheRulesIsLet }
     ensures others { RefusalsAreSo }
     ensures atomic { AtomicOtherNamesTheFirst }
+    ensures named { AllAreNamed }
 {
     // called for its clause that some answers about patterns are true, which the proof cites
     some_patterns_are_true();
     // called for its clauses on what is said of a change
     update_check::hold_laws();
+    // called for its clause on the plain names of a conf
+    rule_laws::hold_laws();
 }

@@ -4,7 +4,8 @@
 //!
 //! - of openings: one that was granted or created was let, and one that was refused wasn't;
 //! - of commands: one that is denied, or has too many changed paths, wasn't let, one that is past the rules was, and what any other refusal tells is so;
-//! - of atomic pushes: which command the others are told of.
+//! - of atomic pushes: which command the others are told of;
+//! - of names: repositories, creators and who holds a role have names.
 //!
 //! They are in plain words in `docs/HISTORY.md`.
 #![tactic(auto)]

@@ -15,7 +15,7 @@ use Rattle.hub_history.specs.declared.entry.PermsKept.{PermsKept}
 use Rattle.hub_history.specs.declared.entry.PermsKept.TheVariants.{Changed, AlreadySo, NotWild, NotCreator, NoSuchRole, Listed}
 use Rattle.hub_history.specs.Roles.{answer_to_change, entry_of, has_entry, kept_of, roles_after, unless_kept, unless_refused}
 use Rattle.hub_history.specs.declared.entry.Event.TheVariants.{Permitted}
-use Rattle.hub_history.specs.History.{history, step}
+use Rattle.hub_history.specs.History.{AreNames, IsOfUser, history, step}
 use Rattle.hub_history.specs.Laws.{IsDueBehind}
 use Rattle.hub_history.specs.State.{placed_in, repository_at, wild_of}
 use Rattle.hub_history.proofs.RoleSets.{contained_entry, entry_contained}
@@ -114,8 +114,9 @@ module _ (hub : HubView) (user repo : Name) (new : WildView) where
   abbrev there : WildView
   there = wild_of (repository_at (state_of hub) repo)
 
-  pub change_due : (asked : PermChange) (answer : PermsAnswer) (kept : PermsKept) → kept_of answer ≡ Some kept → Asks there new user asked answer → IsDueBehind hub.admin hub.log (Permitted user repo asked kept)
-  change_due asked answer kept keeps asks = λ ps ok. asked_due there new user asked answer kept keeps asks
+  pub change_due : AreNames user repo → (asked : PermChange) → IsOfUser asked → (answer : PermsAnswer) (kept : PermsKept) → kept_of answer ≡ Some kept → Asks there new user asked answer
+      → IsDueBehind hub.admin hub.log (Permitted user repo asked kept)
+  change_due names asked of_user answer kept keeps asks = λ ps ok. (names, of_user, asked_due there new user asked answer kept keeps asks)
 
   pub change_step : (asked : PermChange) (answer : PermsAnswer) (kept : PermsKept) → kept_of answer ≡ Some kept → Asks there new user asked answer
       → step (history hub.admin hub.log) (Permitted user repo asked kept) ≡ stored (placed_in (state_of hub).repositories (put_of repo (repository_at (state_of hub) repo) new kept)) (state_of hub).conf

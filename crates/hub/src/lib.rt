@@ -4,6 +4,7 @@
 //! - `answer`: what the calls answer;
 //! - `hub`: the hub, which keeps that its log is legal and that what it stores is the log's replay;
 //! - `openings`, `pushes`, `roles`, `looks`: its calls;
+//! - `names`: that names are names;
 //! - `desk`: a hub as one caller has it.
 #![tactic(auto)]
 
@@ -11,6 +12,7 @@ mod answer;
 mod desk;
 mod hub;
 mod looks;
+mod names;
 mod openings;
 mod pushes;
 mod roles;

@@ -1,6 +1,7 @@
 // Listings.
-ghost use Rattle.std.specs.Prelude.{◌≡◌, ◌++◌, IfOk, OnErr, OnOk};
+ghost use Rattle.std.specs.Prelude.{◌≡◌, ◌++◌, true, IfOk, OnErr, OnOk};
 ghost use Rattle.std.specs.List.{flat_map};
+ghost use Rattle.conf_lex.specs.Names.{is_user_name};
 ghost use Rattle.rule_compile.specs.Flat.{Flat};
 ghost use Rattle.rule_compile.specs.Patterns.{AreTrue, Patterns};
 ghost use Rattle.hub_history.specs.declared.entry.Event.TheVariants as event;
@@ -12,6 +13,7 @@ ghost use Rattle.hub.specs.Hub.{Logs, logged, state_of};
 
 use crate::answer::Looked;
 use crate::hub::Hub;
+use crate::names::tell_user;
 use base_types::NoMemory;
 use conf_lex::{RepoName, UserName};
 use hub_history::Event;
@@ -31,6 +33,7 @@ impl Hub {
         ensures answers { AnswersLook self.old user.now result }
         ensures legal { IsLegal self.new.admin self.new.log }
     {
+        tell_user(user);
         let answer = self.looked(alloc, caller, user);
         // called for its clause that the log is legal
         let _log = self.log();
@@ -41,6 +44,7 @@ impl Hub {
     }
 
     fn looked(&mut self, alloc: Global, caller: u64, user: &UserName) -> Result<LookList, NoMemory>
+        requires { is_user_name user.now ≡ true }
         ensures logs { IfOk result (λ lines. self.new ≡ logged self.old caller (event.Looked user.now)) }
         ensures lines { IfOk result (λ lines. (ps : Patterns) → AreTrue ps → (rules : Flat) × AreInForce ps (state_of self.old).conf rules × (lines ≡ lines_for ps rules (state_of self.old) user.now)) }
         ensures err { OnErr result (self.new ≡ self.old) }

@@ -12,6 +12,7 @@ ghost use Rattle.hub.specs.Hub.{Logs, logged, state_of};
 
 use crate::answer::Entered;
 use crate::hub::Hub;
+use crate::names::tell_names;
 use crate::table::one;
 use access_check::{Verdict, Want, first_stage, may_create, unborn_stage};
 use base_types::NoMemory;
@@ -147,6 +148,7 @@ impl Hub {
     fn answer_to(&self, user: &UserName, repo: &RepoName, want: Want) -> EnterKept
         ensures { IsDueBehind self.now.admin self.now.log (event.Entered user.now repo.now want result) }
     {
+        tell_names(user, repo);
         let policy = self.conf().policy();
         match self.hosted_at(repo) {
             Some(hosted) => answer_there(policy, hosted, user, repo, want),

@@ -9,6 +9,7 @@ ghost use Rattle.hub.specs.Asks.{Asks, put_of};
 
 use crate::answer::Permitted;
 use crate::hub::Hub;
+use crate::names::{tell_change, tell_names};
 use crate::table::{Named, one};
 use base_types::NoMemory;
 use conf_lex::{RepoName, UserName};
@@ -56,6 +57,8 @@ impl Hub {
         ensures answers { IfOk result (AnswersChange self.old repo.now) }
         ensures err { OnErr result (self.new ≡ self.old) }
     {
+        tell_names(user, repo);
+        tell_change(&change);
         let hosted = self.hosted(alloc, repo)?;
         let mut wild = hosted.wild().copy()?;
         let answer = ask(&mut wild, user, &change);

@@ -177,7 +177,7 @@ grows-push state pinned pack commands outcomes made lacking q = by_done (list_an
 
 module _ (ps : Patterns) where
   pub grows-step : (h : History) (event : Event) → IsDue ps h event → Grows h.state (step h event)
-  grows-step h (Entered user repo want answer) due = grows-opening ps h.state user repo want answer due
+  grows-step h (Entered user repo want answer) due = grows-opening ps h.state user repo want answer due.1
   grows-step h (Pushed place pack commands atomic outcomes made) due = by_opening (opening_at h place) due
     where
       by_opening : (o : Option Pinned) → IsDueAfter ps h.state o pack commands atomic outcomes made → Grows h.state (after_push h.state o pack commands outcomes made)

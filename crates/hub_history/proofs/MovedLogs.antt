@@ -278,7 +278,7 @@ module _ (ps : Patterns) (ok : AreTrue ps) (admin : Name) (before : List Entry) 
 
       by_event : (event : Event) → entry.event ≡ event → (p : Pinned) × (c : Command) × TellsCommand admin before entry p c Done × (p.repo ≡ repo) × (c.name ≡ name)
       by_event (Entered user to want answer) is =
-          same_step (Entered user to want answer) is (opening_moves_none ps (replay admin before) user to want answer (due_of (Entered user to want answer) is) repo name)
+          same_step (Entered user to want answer) is (opening_moves_none ps (replay admin before) user to want answer (due_of (Entered user to want answer) is).1 repo name)
       by_event (Pushed place pack cs atomic os made) is = by_opening place pack cs atomic os made (opening_at (history admin before) place) is refl (due_of (Pushed place pack cs atomic os made) is)
       by_event (Permitted user to asked answer) is = same_step (Permitted user to asked answer) is (given_moves_none (replay admin before) to asked answer repo name)
       by_event (Looked user) is = same_step (Looked user) is refl

@@ -236,7 +236,7 @@ opening_there ps ok admin log place pinned legal stands =
         → (r : Repository) × (get (replay admin (before ++ record { caller = caller; event = Entered pinned.user pinned.repo pinned.want answer } ∷ [])).repositories pinned.repo ≡ Some r)
     by_answer before caller answer (inl granted) legal =
         let due : IsDueOpening ps (replay admin before) pinned.user pinned.repo pinned.want Granted =
-        subst (λ (a : EnterKept). IsDueOpening ps (replay admin before) pinned.user pinned.repo pinned.want a) granted (due_last admin before (record { caller = caller; event = Entered pinned.user pinned.repo pinned.want answer }) legal ps ok) in
+        subst (λ (a : EnterKept). IsDueOpening ps (replay admin before) pinned.user pinned.repo pinned.want a) granted (due_last admin before (record { caller = caller; event = Entered pinned.user pinned.repo pinned.want answer }) legal ps ok).1 in
         let found = granted_there ps (replay admin before) pinned.user pinned.repo pinned.want due in (
           found.0,
           ap (λ (s : State). get s.repositories pinned.repo) (behind admin before (record { caller = caller; event = Entered pinned.user pinned.repo pinned.want answer }))
@@ -293,7 +293,7 @@ module _ (ps : Patterns) (ok : AreTrue ps) (admin : Name) (before : List Entry) 
   later_by event is = behind admin before entry ∙ ap (step (history admin before)) is
 
   pub answers_tell : (asker repo : Name) (asked : PermChange) (answer : PermsKept) → entry.event ≡ Permitted asker repo asked answer → TellsOfRoles state asker repo asked answer
-  answers_tell asker repo asked answer is = answer_tells state asker repo asked answer (due_of (Permitted asker repo asked answer) is)
+  answers_tell asker repo asked answer is = answer_tells state asker repo asked answer (due_of (Permitted asker repo asked answer) is).2
 
   roles_given : (asker repo : Name) (asked : PermChange) → entry.event ≡ Permitted asker repo asked Changed → (repository_at later repo).roles ≡ roles_after (repository_at state repo).roles asked
   roles_given asker repo asked is =
@@ -353,14 +353,14 @@ module _ (ps : Patterns) (ok : AreTrue ps) (admin : Name) (before : List Entry) 
 
       by_event : (event : Event) → entry.event ≡ event → (asker : Name) × (asked : PermChange) × (entry.event ≡ Permitted asker repo asked Changed)
       by_event (Entered user to want answer) is =
-          same_by (Entered user to want answer) is (opening_keeps (λ (r : Repository). r.roles) (λ user. refl) ps state user to want answer (due_of (Entered user to want answer) is) repo)
+          same_by (Entered user to want answer) is (opening_keeps (λ (r : Repository). r.roles) (λ user. refl) ps state user to want answer (due_of (Entered user to want answer) is).1 repo)
       by_event (Pushed place pack cs atomic os made) is = absurd (differs (same_pushed (λ (r : Repository). r.roles) repo (λ r objects refs. refl) place pack cs atomic os made is))
       by_event (Permitted asker to asked answer) is = by_name asker to asked answer is (eq_by_cmp (slice_cmp nat_cmp) repo to) refl
       by_event (Looked user) is = same_by (Looked user) is refl
 
   pub created_is_new : (user repo : Name) (want : Want) → entry.event ≡ Entered user repo want Created → (get state.repositories repo ≡ None) × (get later.repositories repo ≡ Some (empty_repository (Some user)))
   created_is_new user repo want is = (
-    made_anew ps state user repo want (due_of (Entered user repo want Created) is),
+    made_anew ps state user repo want (due_of (Entered user repo want Created) is).1,
     ap (λ (s : State). get s.repositories repo) (later_by (Entered user repo want Created) is)
         ∙ get-insert nat_list_cmp_total state.repositories repo (empty_repository (Some user)) repo
         ∙ ap (λ (b : Bool). cond b (Some (empty_repository (Some user))) (get state.repositories repo)) (key_itself repo),

@@ -36,13 +36,13 @@ turned a b is = entry_total.antisymm b a ∙ ap ordering_reverse is
 -- ---- what a list contains
 
 module _ {X : Type 0} where
-  contains_none : (x : X) → Contains [] x → ⊥
+  pub contains_none : (x : X) → Contains [] x → ⊥
   contains_none x c = absurd (omega (arith, c.1))
 
-  contains_first : (x : X) (xs : List X) → Contains (x ∷ xs) x
+  pub contains_first : (x : X) (xs : List X) → Contains (x ∷ xs) x
   contains_first x xs = (0, omega arith, refl)
 
-  contains_later : (y x : X) (xs : List X) → Contains xs x → Contains (y ∷ xs) x
+  pub contains_later : (y x : X) (xs : List X) → Contains xs x → Contains (y ∷ xs) x
   contains_later y x xs c = (suc c.0, omega (arith, c.1), c.2)
 
   contains_cases : (y x : X) (xs : List X) → Contains (y ∷ xs) x → (y ≡ x) ⊎ Contains xs x

@@ -33,7 +33,7 @@ BeginsPinned h = (place : ℕ) (p : Pinned) → opening_at h place ≡ Some p �
 abbrev StaysWhole : History → Type 0
 StaysWhole h = Each HasWholeRefs h.state.repositories × BeginsPinned h
 
-opening_last : (os : List (Option Pinned)) (q : Option Pinned) (place : ℕ) (p : Pinned) → joined (slice_get (os ++ q ∷ []) place) ≡ Some p → (joined (slice_get os place) ≡ Some p) ⊎ (q ≡ Some p)
+pub opening_last : (os : List (Option Pinned)) (q : Option Pinned) (place : ℕ) (p : Pinned) → joined (slice_get (os ++ q ∷ []) place) ≡ Some p → (joined (slice_get os place) ≡ Some p) ⊎ (q ≡ Some p)
 opening_last [] q zero p is = inr is
 opening_last [] q (suc place) p is = cc
 opening_last (o ∷ os) q zero p is = inl is

@@ -1,6 +1,7 @@
 -- Logs: the state that a log leads to, and which logs are legal.
-use Rattle.std.specs.Prelude.{◌≡◌, ℕ, Bool, List, [], ◌∷◌, ◌++◌, map, Option, None, Some}
+use Rattle.std.specs.Prelude.{◌≡◌, ℕ, Bool, true, List, [], ◌∷◌, ◌++◌, map, Option, None, Some}
 use Rattle.std.specs.List.{slice_get}
+use Rattle.conf_lex.specs.Names.{is_repo_name, is_user_name}
 use Rattle.git_object.specs.Content.{Content}
 use Rattle.git_object.specs.Object.{FitOnePack}
 use Rattle.ref_store.specs.Refs.{Name}
@@ -11,6 +12,8 @@ use Rattle.hub_history.specs.declared.outcome.Outcome.{Outcome}
 use Rattle.hub_history.specs.declared.entry.Entry.{Entry}
 use Rattle.hub_history.specs.declared.entry.Event.{Event}
 use Rattle.hub_history.specs.declared.entry.Event.TheVariants.{Entered, Pushed, Permitted, Looked}
+use Rattle.hub_history.specs.declared.entry.PermChange.{PermChange}
+use Rattle.hub_history.specs.declared.entry.PermChange.TheVariants as change
 use Rattle.hub_history.specs.Opening.{IsDueOpening, Opening, Pinned, made_by, pins}
 use Rattle.hub_history.specs.Push.{AreWithinLimits, JudgesAll, Makes, conf_put, repository_left, outcomes_in}
 use Rattle.hub_history.specs.Roles.{IsDueChange, given_by}
@@ -95,12 +98,23 @@ abbrev pub IsDueAfter : Patterns → State → Option Pinned → List Content �
 IsDueAfter patterns state None pack commands atomic outcomes made = ⊥
 IsDueAfter patterns state (Some pinned) pack commands atomic outcomes made = IsDuePush patterns state pinned pack commands atomic outcomes made
 
--- the answer that an event records is the one that is due by what stands before it
+-- who asks has a user's name, and what is asked for has a repository's
+pub record AreNames (user repo : Name) : Type 0 where
+  pub asker : is_user_name user ≡ true
+  pub asked_for : is_repo_name repo ≡ true
+
+-- who is to get or to lose a role has a user's name
+abbrev pub IsOfUser : PermChange → Type 0
+IsOfUser (change.Grant role user) = is_user_name user ≡ true
+IsOfUser (change.Revoke role user) = is_user_name user ≡ true
+IsOfUser change.List = Unit {0}
+
+-- the names are names, and the answer that an event records is the one that is due by what stands before it
 abbrev pub IsDue : Patterns → History → Event → Type 0
-IsDue patterns h (Entered user repo want answer) = IsDueOpening patterns h.state user repo want answer
+IsDue patterns h (Entered user repo want answer) = AreNames user repo × IsDueOpening patterns h.state user repo want answer
 IsDue patterns h (Pushed place pack commands atomic outcomes made) = IsDueAfter patterns h.state (opening_at h place) pack commands atomic outcomes made
-IsDue patterns h (Permitted user repo asked answer) = IsDueChange h.state user repo asked answer
-IsDue patterns h (Looked user) = Unit {0}
+IsDue patterns h (Permitted user repo asked answer) = AreNames user repo × IsOfUser asked × IsDueChange h.state user repo asked answer
+IsDue patterns h (Looked user) = is_user_name user ≡ true
 
 abbrev pub IsLegalFrom : Patterns → History → List Entry → Type 0
 IsLegalFrom patterns h [] = Unit {0}

@@ -1,6 +1,7 @@
 use Rattle.history_laws.proofs.AtomicLemmas.{names_the_first}
 use Rattle.history_laws.proofs.DeniedLemmas.{denied_is_not_let, many_is_not_let}
 use Rattle.history_laws.proofs.LetLemmas.{past_is_let}
+use Rattle.history_laws.proofs.NamedLemmas.{all_are_named}
 use Rattle.history_laws.proofs.OpenedLemmas.{opened_is_let, refused_is_not_let}
 use Rattle.history_laws.proofs.RefusalLemmas.{refusals_are_so}
 use Rattle.history_laws.proofs.laws.hold_laws.Goals as goal
@@ -25,3 +26,6 @@ returns-clause-others c = refusals_are_so
 
 pub returns-clause-atomic : goal.returns-clause-atomic
 returns-clause-atomic c = names_the_first c.some_patterns_are_true.ensures.0 c.some_patterns_are_true.ensures.1
+
+pub returns-clause-named : goal.returns-clause-named
+returns-clause-named c = all_are_named c.hold_laws-2.ensures.plain c.some_patterns_are_true.ensures.0 c.some_patterns_are_true.ensures.1

@@ -16,7 +16,7 @@ pub commit-requires-clause-due : goal.commit-requires-clause-due
 commit-requires-clause-due c =
     let asks = subst (λ (w : WildView). Asks w c.ask-answer.new.wild c.args.user.now c.args.change c.ask-answer.result) (c.in_ok-wild.ensures ∙ c.wild.ensures ∙ ap wild_of c.in_ok-hosted.ensures.hosted) c.ask-answer.ensures in
     subst (λ (e : Event). IsDueBehind c.args.self.now.admin c.args.self.now.log e) (sym c.in_ok-event.ensures)
-    (change_due c.args.self.now c.args.user.now c.args.repo.now c.ask-answer.new.wild c.args.change c.ask-answer.result c.in-Some.kept (sym c.kept_of.ensures ∙ c.in-Some.is) asks)
+    (change_due c.args.self.now c.args.user.now c.args.repo.now c.ask-answer.new.wild c.tell_names.ensures c.args.change c.tell_change.ensures c.ask-answer.result c.in-Some.kept (sym c.kept_of.ensures ∙ c.in-Some.is) asks)
 
 pub commit-requires-clause-step : goal.commit-requires-clause-step
 commit-requires-clause-step c =
@@ -31,7 +31,7 @@ pub returns-clause-due : goal.returns-clause-due
 returns-clause-due c =
     let asks = subst (λ (w : WildView). Asks w c.ask-answer.new.wild c.args.user.now c.args.change c.ask-answer.result) (c.in_ok-wild.ensures ∙ c.wild.ensures ∙ ap wild_of c.in_ok-hosted.ensures.hosted) c.ask-answer.ensures in
     subst (λ (k : Option PermsKept). IsDueIn c.args.self.now (permitted c.args.user.now c.args.repo.now c.args.change k)) (sym (sym c.kept_of.ensures ∙ c.in-Some.is))
-    (change_due c.args.self.now c.args.user.now c.args.repo.now c.ask-answer.new.wild c.args.change c.ask-answer.result c.in-Some.kept (sym c.kept_of.ensures ∙ c.in-Some.is) asks)
+    (change_due c.args.self.now c.args.user.now c.args.repo.now c.ask-answer.new.wild c.tell_names.ensures c.args.change c.tell_change.ensures c.ask-answer.result c.in-Some.kept (sym c.kept_of.ensures ∙ c.in-Some.is) asks)
 
 pub returns-clause-answers : goal.returns-clause-answers
 returns-clause-answers c =
