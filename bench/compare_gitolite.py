@@ -1,15 +1,18 @@
 #!/usr/bin/env python3
 """Compares verdicts with those of a real Gitolite: compare_gitolite.py PROGRAM [CONFS [SEED]]
 
-It needs the command `gitolite` (Debian's package gitolite3) and git, and Python's standard library. For each of CONFS random confs (10, from SEED, 1) it
-asks Gitolite's own `gitolite access`, and PROGRAM by a script of sessions, whether each user may open each repository for reading and for writing, and
-create, forward, rewind or delete each ref in it; and which rule denies it. The confs keep to what both decide alike: docs/ACCESS.md has where they part.
-A push that asks changes nothing: it is atomic, and its second command is always refused. It ends with 1 where two verdicts differ.
+It needs the command `gitolite` (Debian's package gitolite3) and git, and Python's standard library. For each of CONFS random confs (10, from SEED, 1), each of
+a main file, one that it includes and one that a subconf delegates, users first open repositories by patterns, by which some are made, give roles in them, and
+ask what they may see. Then Gitolite's own `gitolite access` is asked, and PROGRAM by a script of sessions, whether each user may open each repository for
+reading and for writing, and create, forward, rewind or delete each ref in it; and which rule denies it. The confs keep to what both decide alike:
+docs/ACCESS.md has where they part.
+A push that asks changes nothing: it is atomic, and its second command is always refused. It ends with 1 where two answers differ.
 """
 import hashlib, os, random, re, shutil, subprocess, sys, tempfile
 
 USERS = ["u%d" % n for n in range(1, 6)]
 REPOS = ["r%d" % n for n in range(1, 5)]
+WILD = ["w/u1/a", "w/u3/b", "x/c"]
 REFS = ["refs/heads/master", "refs/heads/master2", "refs/heads/dev/x", "refs/heads/personal/u2/a", "refs/tags/v1", "refs/tags/w"]
 REFEXES = ["", "master", "master$", "dev/", "dev/[a-z]+$", "personal/USER/", "refs/tags/", "refs/tags/v[0-9]", "[a-m]", "refs/heads/p.*/u[23]"]
 PERMS = ["-", "-", "R", "R", "RW", "RW", "RW+", "RW+", "RWC", "RW+C", "RWD", "RW+D", "RWCD", "RW+CD", "RWDC", "RW+DC"]
@@ -17,25 +20,53 @@ ADMIN = "repo gitolite-admin\n    RW+ = admin\n"
 ZERO = bytes(20)
 
 
-# ---- confs
+# ---- confs: files by name
 
 
 def draw_conf(draws):
-    """A conf of groups of users and of repositories, blocks by names, groups and patterns, and rules."""
+    """A conf of groups of users and of repositories, blocks by names, groups and patterns, and rules; some blocks in a file of their own, some delegated."""
     groups = {"@g%d" % n: draws.sample(USERS, draws.randint(1, 3)) for n in range(2)}
     fleets = {"@f%d" % n: draws.sample(REPOS, draws.randint(1, 3)) for n in range(2)}
+    fleets["@s"] = draws.choice([draws.sample(REPOS, 2), draws.sample(REPOS, 2), ["r..*"]])
     lines = ["%s = %s" % (name, " ".join(members)) for name, members in [*groups.items(), *fleets.items()]]
     lines += ["@g2 = @g0 " + draws.choice(USERS), ADMIN.rstrip("\n"), "repo " + " ".join(REPOS), "    R = nobody"]
-    users = [*USERS, *groups, "@g2", "@all"]
-    words = [*REPOS, *REPOS, *fleets, "@all", "r[12]", "r[2-4]", "r..*"]
-    for _ in range(draws.randint(3, 7)):
-        lines.append("repo " + " ".join(draws.sample(words, draws.randint(1, 2))))
-        if draws.random() < 0.2:
-            lines.append("    option deny-rules = 1")
-        for _ in range(draws.randint(1, 4)):
-            refexes = " ".join(draws.sample(REFEXES, draws.randint(1, 2))).strip()
-            lines.append("    %s %s = %s" % (draws.choice(PERMS), refexes, " ".join(draws.sample(users, draws.randint(1, 2)))))
-    return "\n".join(lines) + "\n"
+    users, words = [*USERS, *groups, "@g2", "@all"], [*REPOS, *REPOS, *fleets, "@all", "r[12]", "r[2-4]", "r..*", "x/..*"]
+    ours = draws.sample(USERS, 2)
+    parts = {
+        "more.conf": [line for _ in range(draws.randint(0, 2)) for line in draw_block(draws, words, users)],
+        "s.conf": ["@ours = " + " ".join(ours)] + [line for _ in range(draws.randint(1, 3)) for line in draw_block(draws, [*REPOS, "@s", "@f0", "@f1"], [*users, "@ours"])],
+    }
+    blocks = [draw_block(draws, words, users) for _ in range(draws.randint(3, 6))]
+    blocks += [draw_wild_block(draws, word, users) for word in draws.sample(["w/CREATOR/[a-z]+", "w/..*", "x/[a-c]"], 2)]
+    blocks += [['include "more.conf"'], ['subconf "s.conf"']]
+    draws.shuffle(blocks)
+    parts["gitolite.conf"] = lines + [line for block in blocks for line in block]
+    return {name: "".join(line + "\n" for line in part) for name, part in parts.items()}
+
+
+def draw_block(draws, words, users):
+    lines = ["repo " + " ".join(draws.sample(words, draws.randint(1, 2)))]
+    if draws.random() < 0.2:
+        lines.append("    option deny-rules = %d" % draws.choice([0, 1, 1]))
+    return lines + [draw_rule(draws, PERMS, users) for _ in range(draws.randint(1, 4))]
+
+
+def draw_rule(draws, perms, users):
+    refexes = " ".join(draws.sample(REFEXES, draws.randint(1, 2))).strip()
+    return "    %s %s = %s" % (draws.choice(perms), refexes, " ".join(draws.sample(users, min(len(users), draws.randint(1, 2)))))
+
+
+def draw_wild_block(draws, word, users):
+    """A block by a pattern. Who may make a repository by it may read it then: docs/ACCESS.md has what happens elsewhere."""
+    rules = ["    R = READERS", "    RW = WRITERS", draw_rule(draws, PERMS, ["CREATOR", "READERS", "WRITERS", *users])]
+    if draws.random() < 0.5:
+        rules.append(draw_rule(draws, ["RW", "RW+", "RW+CD"], ["CREATOR"]))
+    draws.shuffle(rules)
+    return ["repo " + word, "    RW+ = CREATOR", "    C = %s" % " ".join(draws.sample(users, 2)), *rules]
+
+
+def text_of(conf):
+    return "".join("---- %s\n%s" % it for it in sorted(conf.items()))
 
 
 # ---- what is asked: a letter as `gitolite access` takes it, and a ref
@@ -50,22 +81,88 @@ def questions():
             yield ("+" if kind == "forward" and ref.startswith("refs/tags/") else letter), (kind, ref)
 
 
-def ask_gitolite(home, conf):
-    """The verdicts, by question, repository and user: the words behind DENIED, with the letter, or None where it is allowed."""
-    with open(home + "/.gitolite/conf/gitolite.conf", "w") as it:
-        it.write(conf)
-    how = dict(env=dict(os.environ, HOME=home), stdout=subprocess.PIPE, stderr=subprocess.PIPE, text=True)
-    subprocess.run(["gitolite", "compile"], check=True, **how)
-    pairs = "".join("%s %s\n" % (repo, user) for repo in REPOS for user in USERS)
-    told, seen = {}, {}
+def draw_visits(draws):
+    """What is done before: who opens which repository to read it, and who gives whom a role in it; and then each asks what there is to see."""
+    visits = [("open", user, repo) for user in USERS for repo in WILD]
+    draws.shuffle(visits)
+    for _ in range(12):
+        visits.append(("give", draws.choice(USERS), draws.choice(WILD), draws.choice(["READERS", "WRITERS"]), draws.choice(USERS)))
+    return visits + [("look", user) for user in USERS]
+
+
+# ---- Gitolite
+
+
+def gitolite_home(home):
+    """A new Gitolite, whose admin is `admin`, in a folder."""
+    how = dict(env=dict(os.environ, HOME=home), stdout=subprocess.DEVNULL, stderr=subprocess.DEVNULL)
+    subprocess.run(["git", "config", "--global", "user.email", "a@b"], check=True, **how)
+    subprocess.run(["git", "config", "--global", "user.name", "a"], check=True, **how)
+    subprocess.run(["gitolite", "setup", "-a", "admin"], check=True, **how)
+
+
+class Gitolite:
+    def __init__(self, home, conf):
+        self.home, self.env = home, dict(os.environ, HOME=home)
+        for name, text in conf.items():
+            with open("%s/.gitolite/conf/%s" % (home, name), "w") as it:
+                it.write(text)
+        self.run("gitolite", "compile")
+        self.places = {name: self.run("gitolite", "query-rc", name).stdout.strip() for name in ["GL_BINDIR", "GL_LIBDIR"]}
+
+    def run(self, *words, check=True, **more):
+        how = dict(stdout=subprocess.PIPE, stderr=subprocess.PIPE, text=True)
+        env = dict(self.env, **more.pop("env", {}))
+        return subprocess.run(words, check=check, env=env, **how, **more)
+
+    def folder(self, repo):
+        return "%s/repositories/%s.git" % (self.home, repo)
+
+    def shell(self, user, command):
+        """What Gitolite makes of a command that comes by ssh, from who sends nothing more than a flush."""
+        asked = dict(SSH_CONNECTION="127.0.0.1 1 127.0.0.1 22", SSH_ORIGINAL_COMMAND=command)
+        return self.run(self.places["GL_BINDIR"] + "/gitolite-shell", user, check=False, env=asked, input="0000")
+
+    def update(self, user, repo, ref, old, new):
+        """What the update hook makes of a change whose objects are there."""
+        env = dict(self.places, GL_REPO=repo, GL_USER=user, GIT_DIR=".")
+        return self.run("hooks/update", ref, old.hex(), new.hex(), check=False, cwd=self.folder(repo), env=env)
+
+    def access(self, letter, ref, repos, users):
+        pairs = "".join("%s %s\n" % (repo, user) for repo in repos for user in users)
+        for line in self.run("gitolite", "access", "%", "%", letter, ref, input=pairs).stdout.splitlines():
+            yield line.split("\t")
+
+    def visit(self, what):
+        """Whether it was done, or the lines of a look. A repository that is made by who may not read it is taken away again: here none is made then."""
+        kind, user, *what = what
+        if kind == "look":
+            lines = (line.partition("\t") for line in self.run("gitolite", "info", "-p", env=dict(GL_USER=user)).stdout.splitlines() if "\t" in line)
+            return sorted("%s\t%s" % (" ".join(letters.split()), repo) for letters, _, repo in lines)
+        repo, *role = what
+        if kind == "give":
+            return self.run("gitolite", "perms", repo, "+", *role, check=False, env=dict(GL_USER=user)).returncode == 0
+        there = os.path.isdir(self.folder(repo))
+        ran = self.shell(user, "git-upload-pack '%s'" % repo)
+        if ran.returncode and not there and os.path.isdir(self.folder(repo)):
+            shutil.rmtree(self.folder(repo))
+        return ran.returncode == 0
+
+
+def ask_gitolite(home, conf, visits):
+    """The answers to the visits, and the verdicts, by question, repository and user: the words behind DENIED, with the letter, or None where it is allowed."""
+    there = Gitolite(home, conf)
+    told = {what: there.visit(what) for what in visits}
+    repos, seen = REPOS + [it for it in WILD if os.path.isdir(there.folder(it))], {}
     for letter, what in questions():
         ref = what if what == "any" else what[1]
         if (letter, ref) not in seen:
-            ran = subprocess.run(["gitolite", "access", "%", "%", letter, ref], input=pairs, check=True, **how)
-            seen[letter, ref] = [line.split("\t") for line in ran.stdout.splitlines()]
+            seen[letter, ref] = list(there.access(letter, ref, repos, USERS))
         for repo, user, said in seen[letter, ref]:
             found = re.fullmatch(r"(\S+) \S+ \S+ \S+ DENIED by (.*)", said)
             told[what if what != "any" else letter, repo, user] = found and "%s %s" % found.groups()
+    for repo in WILD:
+        shutil.rmtree(there.folder(repo), ignore_errors=True)
     return told
 
 
@@ -82,7 +179,7 @@ def name_of(kind, body):
 
 def entry(kind, body):
     size, head = len(body) >> 4, []
-    first = {b"commit": 1, b"tree": 2, b"blob": 3}[kind] << 4 | len(body) & 15
+    first = {b"commit": 1, b"tree": 2, b"blob": 3, b"tag": 4}[kind] << 4 | len(body) & 15
     while size:
         head.append(first | 128)
         first, size = size & 127, size >> 7
@@ -116,12 +213,14 @@ def push(user, repo, commands, objects, words):
     return text + (pack(objects) if objects is not None else b"")
 
 
-def push_conf(conf, before):
-    blob = (b"blob", conf.encode())
-    folder = (b"tree", b"100644 gitolite.conf\0" + name_of(*blob))
+def conf_push(conf, before):
+    """The push of a conf, and its commit."""
+    blobs = [(name.encode(), (b"blob", text.encode())) for name, text in sorted(conf.items())]
+    folder = (b"tree", b"".join(b"100644 %s\0%s" % (name, name_of(*blob)) for name, blob in blobs))
     root = (b"tree", b"40000 conf\0" + name_of(*folder))
     made = commit(b"conf", *[before] if before else [], tree=root)
-    return push("admin", "gitolite-admin", [(before or ZERO, name_of(*made), "refs/heads/master")], [made, root, folder, blob], b"report-status"), name_of(*made)
+    objects = [made, root, folder, *dict(blobs).values()]
+    return push("admin", "gitolite-admin", [(before or ZERO, name_of(*made), "refs/heads/master")], objects, b"report-status"), name_of(*made)
 
 
 def question(user, repo, kind, ref):
@@ -129,24 +228,38 @@ def question(user, repo, kind, ref):
     return push(user, repo, [(old, new, ref), (name_of(*ROOT), ZERO, "refs/heads/a..b")], OBJECTS[kind], b"report-status atomic")
 
 
-def script_of(conf):
-    """The sessions, each with what it asks, or None where it only prepares the hub."""
-    ask = [("R", repo, user) for repo in REPOS for user in USERS]
-    yield None, (made := push_conf(ADMIN + "repo %s\n    RW+ = admin\n" % " ".join(REPOS), None))[0]
-    yield None, (now := push_conf(conf, made[1]))[0]
-    for what in ask:
-        yield what, packet(b"%s git-upload-pack '%s'" % (what[2].encode(), what[1].encode())) + b"0000"
+def open_conf(repos):
+    """A conf by which `root` may push anything to these repositories."""
+    return {"gitolite.conf": ADMIN + "repo %s\n    RW+ = admin\n    RW+CD = root\n" % " ".join(repos)}
+
+
+def visit(what):
+    kind, user, *what = what
+    if kind == "open":
+        return packet(b"%s git-upload-pack '%s'" % (user.encode(), what[0].encode())) + b"0000"
+    return packet(" ".join([user, "info"] if kind == "look" else [user, "perms", what[0], "+", *what[1:]]).encode())
+
+
+def script_of(conf, visits, repos):
+    """The sessions, each with what it asks, or None where it only prepares the hub; `repos` are those that are there behind the visits."""
+    yield None, (made := conf_push(open_conf(REPOS), None))[0]
+    yield None, (now := conf_push(conf, made[1]))[0]
+    for what in visits:
+        yield what, visit(what)
+    for repo in repos:
+        for user in USERS:
+            yield ("R", repo, user), visit(("open", user, repo))
     for kinds in (["create"], ["forward", "rewind", "delete"]):
         for kind in kinds:
             for ref in REFS:
-                for repo in REPOS:
+                for repo in repos:
                     for user in USERS:
                         yield ((kind, ref), repo, user), question(user, repo, kind, ref)
         if kinds == ["create"]:
-            yield None, (back := push_conf(ADMIN + "repo %s\n    RW+ = admin\n    RW+C = root\n" % " ".join(REPOS), now[1]))[0]
-            for repo in REPOS:
+            yield None, (back := conf_push(open_conf([*REPOS, "w/..*", "x/..*"]), now[1]))[0]
+            for repo in repos:
                 yield None, push("root", repo, [(ZERO, name_of(*HERE), ref) for ref in REFS], [HERE, ROOT, EMPTY], b"report-status")
-            yield None, push_conf(conf, back[1])[0]
+            yield None, conf_push(conf, back[1])[0]
 
 
 def verdict(repo, user, ref, reply):
@@ -169,46 +282,57 @@ def tell(said, user):
     return "%s %s" % (said.group(1).decode(), rule.replace("/USER/", "/%s/" % user))
 
 
-def ask_program(program, conf):
-    sessions = list(script_of(conf))
+def replies(program, sessions):
+    """What each session asks, with its reply; one that prepares the hub has to be served, and nothing of it refused."""
+    sessions = list(sessions)
     text = b"".join(b"session %d\n%s\n" % (len(it), it) for _, it in sessions)
-    ran = subprocess.run([program, "script", "--admin", "admin"], input=text, stdout=subprocess.PIPE, check=True)
-    at, told = 0, {}
+    ran = subprocess.run([os.path.abspath(program), "script", "--admin", "admin"], input=text, stdout=subprocess.PIPE, check=True)
+    at = 0
     for number, (what, _) in enumerate(sessions, 1):
         end = ran.stdout.index(b"\n", at)
         words = ran.stdout[at:end].split()
         assert words[1] == b"%d" % number, words
         reply, at = ran.stdout[end + 1 : end + 1 + int(words[3])], end + 2 + int(words[3])
+        if what is None and (words[2] != b"served" or b"ng " in reply):
+            sys.exit("session %d prepares nothing: %r" % (number, reply[-300:]))
+        yield what, words[2].decode(), reply
+
+
+def ask_program(program, conf, visits, repos):
+    told = {}
+    for what, end, reply in replies(program, script_of(conf, visits, repos)):
         if what is None:
-            assert words[2] == b"served" and b"ng " not in reply, (number, reply[-300:])
             continue
-        ref, repo, user = what
-        stage, said = verdict(repo, user, ref, reply)
-        told[(("W" if ref != "R" else "R") if stage == "opening" else ref, repo, user)] = said
-        if stage == "ref":
-            told["W", repo, user] = None
+        if what[0] == "open":
+            told[what] = end == "served"
+        elif what[0] == "give":
+            told[what] = b"perms: changed" in reply or b"perms: already so" in reply
+        elif what[0] == "look":
+            told[what] = sorted(line.decode() for line in re.findall(rb"R(?: W)?\t[^\n]*", reply))
+        else:
+            ref, repo, user = what
+            stage, said = verdict(repo, user, ref, reply)
+            told[(("W" if ref != "R" else "R") if stage == "opening" else ref, repo, user)] = said
+            if stage == "ref":
+                told["W", repo, user] = None
     return told
 
 
 def main(program, confs="10", seed="1"):
-    draws, asked, denied, differ = random.Random(int(seed)), 0, 0, 0
-    home = tempfile.mkdtemp(prefix="compare-gitolite-")
-    try:
-        how = dict(env=dict(os.environ, HOME=home), stdout=subprocess.DEVNULL, stderr=subprocess.DEVNULL)
-        subprocess.run(["git", "config", "--global", "user.email", "a@b"], check=True, **how)
-        subprocess.run(["git", "config", "--global", "user.name", "a"], check=True, **how)
-        subprocess.run(["gitolite", "setup", "-a", "admin"], check=True, **how)
+    draws, asked, denied, made, differ = random.Random(int(seed)), 0, 0, 0, 0
+    with tempfile.TemporaryDirectory(prefix="compare-gitolite-") as home:
+        gitolite_home(home)
         for _ in range(int(confs)):
-            conf = draw_conf(draws)
-            theirs, ours = ask_gitolite(home, conf), ask_program(os.path.abspath(program), conf)
-            for what, said in ours.items():
-                asked, denied = asked + 1, denied + (said is not None)
+            conf, visits = draw_conf(draws), draw_visits(draws)
+            theirs = ask_gitolite(home, conf, visits)
+            repos = [it for it in [*REPOS, *WILD] if ("R", it, USERS[0]) in theirs]
+            made += len(repos) - len(REPOS)
+            for what, said in ask_program(program, conf, visits, repos).items():
+                asked, denied = asked + 1, denied + (said is False or isinstance(said, str))
                 if theirs[what] != said:
                     differ += 1
-                    print("%s: Gitolite says %s, the program %s, of\n%s" % (what, theirs[what], said, conf))
-    finally:
-        shutil.rmtree(home)
-    print("%d confs, %d verdicts, %d of them denials: %d differ" % (int(confs), asked, denied, differ))
+                    print("%s: Gitolite says %s, the program %s, of\n%s" % (what, theirs[what], said, text_of(conf)))
+    print("%d confs, %d repositories made, %d answers, %d of them denials: %d differ" % (int(confs), made, asked, denied, differ))
     return 1 if differ or not asked else 0
 
 

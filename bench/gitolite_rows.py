@@ -1,0 +1,221 @@
+#!/usr/bin/env python3
+"""Asks a real Gitolite and the program what docs/ACCESS.md says of where they part: gitolite_rows.py [PROGRAM]
+
+It needs what compare_gitolite.py needs. Each row is a conf, a question, and the two answers. It ends with 1 where an answer is another. Without PROGRAM only
+Gitolite is asked.
+"""
+import os, re, shutil, subprocess, sys, tempfile
+import compare_pushes as pushes
+from compare_gitolite import ADMIN, ZERO, Gitolite, conf_push, gitolite_home, name_of, open_conf, packet, push, replies, text_of
+
+ALLOWED, DENIED, TAKEN, REFUSED = "allowed", "denied", "taken", "refused"
+
+
+# ---- commits: some files, and changes of them
+
+
+def commit(files, *parents):
+    return pushes.commit(b"row", {path: path.encode() * 3 + b"\n" for path in files}, *parents)
+
+
+BASE = commit(["README"])
+NEXT = commit(["README", "a"], BASE)
+SECRET = commit(["README", "secret"])
+MOVED = pushes.commit(b"moved", {"README": b"READMEREADMEREADME\n", "open": b"secret" * 3 + b"\n"}, SECRET)
+MAKEFILE = commit(["Makefile"])
+UMLAUT = commit(["README", "d/é"])
+SIDE = commit(["README", "b"], BASE)
+MERGE = commit(["README", "a", "b"], NEXT, SIDE)
+TAG = b"tag", b"object %s\ntype commit\ntag v\ntagger a <a> 1 +0000\n\ntag\n" % NEXT.hex().encode()
+pushes.OBJECTS[name_of(*TAG)] = TAG
+
+
+# ---- rows: a conf, in which `; ` ends a line, or its files; a question; what the server says, and what Gitolite says
+
+
+def row(conf, question, here, there):
+    files = conf if isinstance(conf, dict) else {"gitolite.conf": conf}
+    return {name: text.replace("; ", "\n") + "\n" for name, text in files.items()}, question, here, there
+
+
+def read(user, repo):
+    return "open", user, repo, "R"
+
+
+def write(user, repo):
+    return "open", user, repo, "W"
+
+
+def change(user, repo, ref, old, new):
+    return "change", user, repo, ref, old, new
+
+
+def create(user, repo, ref, new=BASE):
+    return change(user, repo, ref, ZERO, new)
+
+
+def roles(user, repo, *words):
+    """A change of roles by who made the repository just before."""
+    return "roles", user, repo, *words
+
+
+CONF = ("conf",)
+T, MASTER = "repo t; ", "refs/heads/master"
+
+ROWS = [
+    # decisions
+    row("repo @all; C = ann; R = ann", read("ann", "new"), DENIED, ALLOWED),
+    row("@own = CREATOR; repo u/..*; C = ann; R = ann; RW = @own", write("ann", "u/x"), ALLOWED, DENIED),
+    row("repo u/..*; C = CREATOR; R = @all", read("ann", "u/x"), ALLOWED, DENIED),
+    row("repo u/[a-z]+; R = bob", read("bob", "u/x"), DENIED, DENIED),
+    row(T + "RW VREF/NAME/x = ann; - VREF/MERGE-CHECK = ann; RW = ann", change("ann", "t", MASTER, NEXT, MERGE), DENIED, DENIED),
+    row(T + "- VREF/MERGE-CHECK/master = ann; RW = ann", change("ann", "t", MASTER, NEXT, MERGE), DENIED, DENIED),
+    row(T + "- VREF/MERGE-CHECK/dev/x = ann; RW = ann", change("ann", "t", "refs/heads/dev/y", NEXT, MERGE), ALLOWED, DENIED),
+    row(T + "- VREF/MERGE-CHECK/refs/tags/ = ann; RW+ = ann", change("ann", "t", "refs/tags/v", NEXT, MERGE), DENIED, ALLOWED),
+    row(T + "- VREF/MERGE-CHECK/mast.r$ = ann; RW = ann", change("ann", "t", MASTER, NEXT, MERGE), DENIED, DENIED),
+    row(T + "RW = ann", change("ann", "t", "refs/x/y", BASE, name_of(*TAG)), DENIED, ALLOWED),
+    row(T + "- VREF/NAME/secret$ = ann; RW = ann", change("ann", "t", MASTER, SECRET, MOVED), DENIED, ALLOWED),
+    row(T + "option deny-rules = yes; - = bob; R = @all", read("bob", "t"), ALLOWED, DENIED),
+    row(T + "option deny-rules = 1; - = bob; R = @all", read("bob", "t"), DENIED, DENIED),
+    row(T + "RW = @all", create("ann", "t", "refs/heads/a=b"), ALLOWED, DENIED),
+    row(T + "- VREF/NAME/d/ = ann; RW = ann", create("ann", "t", MASTER, UMLAUT), DENIED, ALLOWED),
+    # patterns
+    row(T + "RW x|d = ann", create("ann", "t", MASTER), DENIED, ALLOWED),
+    row(T + "- x|d = ann; RW = ann", create("ann", "t", "refs/heads/dev"), ALLOWED, DENIED),
+    row(T + "- NAME/secret|Makefile = ann; RW = ann", create("ann", "t", MASTER, MAKEFILE), ALLOWED, DENIED),
+    row(T + "- NAME/(secret|Makefile) = ann; RW = ann", create("ann", "t", MASTER, MAKEFILE), DENIED, DENIED),
+    row("repo foo|bar; C = ann; RW = ann", read("ann", "fooxyz"), DENIED, ALLOWED),
+    row("repo foo|bar; C = ann; RW = ann", read("ann", "foo"), ALLOWED, ALLOWED),
+    row(T + "RW p/USER/ = @all", create("a.b", "t", "refs/heads/p/axb/c"), DENIED, ALLOWED),
+    row(T + "RW p/USER/ = @all", create("a+b", "t", "refs/heads/p/a+b/c"), ALLOWED, DENIED),
+    row(T + "RW p/USER/ = @all", create("a+b", "t", "refs/heads/p/aab/c"), DENIED, ALLOWED),
+    row("repo [a-z]+/CREATOR; C = ann; R = ann", read("ann", "ann/ann"), ALLOWED, DENIED),
+    row("repo xCREATOR/..*; C = ann; R = ann", read("ann", "xann/y"), ALLOWED, DENIED),
+    row(T + "RW (master$|dev)$ = ann", create("ann", "t", MASTER), DENIED, ALLOWED),
+    row(T + "RW a*? = ann", CONF, REFUSED, TAKEN),
+    row(T + "RW (x)\\1 = ann", CONF, REFUSED, TAKEN),
+    row(T + "RW a{b = ann", CONF, REFUSED, TAKEN),
+    row(T + "RW \\bx = ann", CONF, REFUSED, TAKEN),
+    row(T + "RW ^refs/heads/x = ann", CONF, REFUSED, TAKEN),
+    row(T + "RW ^refs/heads/x = ann", create("ann", "t", "refs/heads/x"), REFUSED, DENIED),
+    row(T + "RW (?:a)b = ann", CONF, TAKEN, REFUSED),
+    row(T + "RW a~b = ann", CONF, TAKEN, REFUSED),
+    row("repo f..; RW = ann", CONF, TAKEN, REFUSED),
+    row("repo a//b; RW = ann", CONF, TAKEN, TAKEN),
+    row("repo a/.b; RW = ann", CONF, TAKEN, TAKEN),
+    row("repo x/; RW = ann", CONF, TAKEN, REFUSED),
+    # roles
+    row("repo u/..*; C = ann; RW+ = CREATOR; R = READERS", roles("ann", "u/x", "+", "READERS", "bob"), ALLOWED, ALLOWED),
+    row("repo u/..*; C = ann; RW+ = CREATOR", roles("ann", "u/x", "+", "READERS", "bob"), ALLOWED, DENIED),
+    row("repo u/..*; C = ann; RW+ = CREATOR", roles("ann", "u/x", "-", "READERS", "bob"), ALLOWED, ALLOWED),
+    row("repo u/..*; C = ann; RW+ = CREATOR", roles("ann", "u/x", "-", "TESTERS", "bob"), DENIED, ALLOWED),
+    # the conf
+    row("hello", CONF, REFUSED, TAKEN),
+    row(T + "X = ann", CONF, REFUSED, TAKEN),
+    row("RW = ann", CONF, REFUSED, TAKEN),
+    row(T + "R = @none", CONF, REFUSED, TAKEN),
+    row('include "none.conf"', CONF, REFUSED, TAKEN),
+    row({"gitolite.conf": 'repo a; R = @b; subconf "b.conf"; @b = a', "b.conf": "RW = bob"}, CONF, REFUSED, TAKEN),
+    row({"gitolite.conf": '@b = a; repo a; subconf "b.conf"', "b.conf": "RW = bob"}, write("bob", "a"), REFUSED, ALLOWED),
+    row({"gitolite.conf": '@b = c; repo a; subconf "b.conf"; RW = bob', "b.conf": "repo c; R = ann"}, write("bob", "c"), REFUSED, ALLOWED),
+    row({"gitolite.conf": '@b = a; @g = ann; subconf "b.conf"', "b.conf": "@g = bob; repo a; RW = @g"}, write("ann", "a"), ALLOWED, DENIED),
+    row({"gitolite.conf": '@b = r[12]; repo r1; R = zed; subconf "b.conf"', "b.conf": "repo r[12]; RW = bob"}, write("bob", "r1"), ALLOWED, DENIED),
+    row({"gitolite.conf": '@b = r..*; repo r1; R = zed; subconf "b.conf"', "b.conf": "repo r..*; RW = bob"}, write("bob", "r1"), ALLOWED, ALLOWED),
+    row({"gitolite.conf": '@b = x/..*; subconf "b.conf"', "b.conf": "repo x/y[0-9]; C = bob; RW = bob"}, write("bob", "x/y1"), DENIED, ALLOWED),
+    row("@r = NAME/x; repo a; - @r = ann; RW = ann", create("ann", "a", MASTER, commit(["x"])), DENIED, ALLOWED),
+    row("@r = NAME/x; repo a; RW @r = ann", create("ann", "a", "refs/heads/NAME/x"), DENIED, ALLOWED),
+    row("@g = @all", CONF, REFUSED, TAKEN),
+    row(T + "RW = @READERS", CONF, REFUSED, TAKEN),
+    row(T + "RW = " + "u" * 65, CONF, REFUSED, TAKEN),
+    row("repo " + "r" * 201 + "; RW = ann", CONF, REFUSED, TAKEN),
+    row(T + "RW = ann; include x.conf", CONF, REFUSED, REFUSED),
+    row({"gitolite.conf": "include x.conf", "x.conf": T + "RW = ann"}, CONF, TAKEN, REFUSED),
+    row(T + "RW = ann; desc = x", CONF, TAKEN, REFUSED),
+    row(T + "RW = ann; option x = a b", CONF, REFUSED, TAKEN),
+    row(T + "RW = ann; option x =", CONF, REFUSED, TAKEN),
+    row(T + "RW = ann; = begin testconf; hello; = end", CONF, REFUSED, TAKEN),
+    row("repo _x; RW = ann", CONF, TAKEN, REFUSED),
+    row(T + "RW VREF/COUNT/5 = ann", CONF, REFUSED, TAKEN),
+    row(T + "option CREATE_IS_C = 0; RWC = bob; RW = ann", create("ann", "t", MASTER), DENIED, DENIED),
+    row(T + "RWC = bob; RW = ann; option CREATE_IS_C = 0", create("ann", "t", MASTER), DENIED, ALLOWED),
+]
+
+
+# ---- Gitolite
+
+
+def ask_gitolite(home, conf, question):
+    for place in [home + "/.gitolite/conf", home + "/repositories"]:
+        for name in os.listdir(place):
+            if name not in ["gitolite-admin.git", "testing.git"]:
+                (shutil.rmtree if os.path.isdir("%s/%s" % (place, name)) else os.remove)("%s/%s" % (place, name))
+    try:
+        there = Gitolite(home, {**conf, "gitolite.conf": conf["gitolite.conf"] + ADMIN})
+    except subprocess.CalledProcessError as failed:
+        return REFUSED + ": " + failed.stderr.strip().split("\n")[-1]
+    if question == CONF:
+        return TAKEN
+    if question[0] == "open":
+        _, user, repo, want = question
+        ran = there.shell(user, "git-%s-pack '%s'" % ("upload" if want == "R" else "receive", repo))
+    elif question[0] == "roles":
+        _, user, repo, *words = question
+        there.run("gitolite", "create", repo, env=dict(GL_USER=user))
+        ran = there.run("gitolite", "perms", repo, *words, check=False, env=dict(GL_USER=user))
+    else:
+        pushes.store_objects(there.folder(question[2]))
+        ran = there.update(*question[1:])
+    return ALLOWED if ran.returncode == 0 else DENIED + ": " + ran.stderr.strip().split("\n")[0]
+
+
+# ---- the program
+
+
+def ask_program(program, conf, question):
+    conf = {**conf, "gitolite.conf": conf["gitolite.conf"] + ADMIN}
+    text, head = conf_push(open_conf(["t", "a"]), None)
+    sessions = [(None, text)]
+    if question[0] == "change" and question[4] != ZERO:
+        sessions.append((None, push("root", question[2], [(ZERO, question[4], question[3])], pushes.OBJECTS.values(), b"report-status")))
+    sessions.append(("conf", conf_push(conf, head)[0]))
+    if question[0] == "open":
+        _, user, repo, want = question
+        sessions.append(("ask", packet(b"%s git-%s-pack '%s'" % (user.encode(), b"upload" if want == "R" else b"receive", repo.encode())) + b"0000"))
+    elif question[0] == "roles":
+        _, user, repo, *words = question
+        sessions.append((None, packet(b"%s git-upload-pack '%s'" % (user.encode(), repo.encode())) + b"0000"))
+        sessions.append(("ask", packet(" ".join([user, "perms", repo, *words]).encode())))
+    elif question[0] == "change":
+        _, user, repo, ref, old, new = question
+        sessions.append(("ask", push(user, repo, [(old, new, ref)], pushes.OBJECTS.values(), b"report-status")))
+    for what, end, reply in replies(program, sessions):
+        if what == "conf" and b"ok refs/heads/master" not in reply:
+            return REFUSED + ": " + re.search(rb"ng refs/heads/master ([^\n]*)", reply).group(1).decode()
+        if what == "ask":
+            if end != "served":
+                return DENIED + ": " + reply.decode(errors="replace").strip()
+            if b"perms: " in reply and b"perms: changed" not in reply and b"perms: already so" not in reply:
+                return DENIED + ": " + reply.decode().strip()
+            if b"ng " in reply:
+                return DENIED + ": " + re.search(rb"ng \S+ ([^\n]*)", reply).group(1).decode()
+            return ALLOWED
+    return TAKEN
+
+
+def main(program=None):
+    differ = 0
+    with tempfile.TemporaryDirectory(prefix="gitolite-rows-") as home:
+        gitolite_home(home)
+        for conf, question, here, there in ROWS:
+            said = ask_gitolite(home, conf, question)
+            ours = ask_program(program, conf, question) if program else here
+            for who, due, answer in (("Gitolite", there, said), ("the program", here, ours)):
+                if answer.split(":")[0] != due:
+                    differ += 1
+                    print("%s says %s, not %s: %s\n%s" % (who, answer, due, [it.hex()[:7] if isinstance(it, bytes) else it for it in question], text_of(conf)))
+    print("%d rows, %d answers differ" % (len(ROWS), differ))
+    return 1 if differ else 0
+
+
+if __name__ == "__main__":
+    sys.exit(main(*sys.argv[1:]))
