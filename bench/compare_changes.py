@@ -4,10 +4,11 @@
 It needs git and Python's standard library. For each of HISTORIES random histories (5, from SEED, 1), of commits with up to three parents and trees in which
 files come, go, change, become links, folders or submodules, it asks PROGRAM by a script of sessions, and git in a repository that has the same objects, of random
 creates, deletes and moves of refs: whether one is a move forward, whether it brings a merge, and which paths it changes. The program tells the first two by the
-letters of a denial, and each path by a rule that denies it to one user. It ends with 1 where two answers differ.
+letters of a denial, and each path by a rule that denies it to one user. For each history it also asks both of 300 random texts whether a ref may have that name
+(`git check-ref-format`); here a name begins with `refs/` and has three pieces at least. It ends with 1 where two answers differ.
 """
 import os, random, re, subprocess, sys, tempfile, zlib
-from compare_gitolite import ADMIN, ZERO, conf_push, name_of, open_conf, push, replies
+from compare_gitolite import ADMIN, EMPTY, HERE, ROOT, ZERO, conf_push, name_of, open_conf, push, replies
 
 PATHS = ["a", "b", "d", "d/a", "d/b", "d/e/a", "d/e/b", "da", "f/g/h/a", "f/g/h", "f/i", "z"]
 COMMITS, CHANGES = 25, 40
@@ -136,8 +137,38 @@ def ask_program(program, objects, changes):
     return [tuple(it) for it in told]
 
 
+# ---- names of refs
+
+PIECES = [".", "..", "-", "@", "{", "@{", ".lock", "lock", "~", "^", ":", "?", "*", "[", "\\", "]", "\x7f", "\x01", " ", "=", "#", "é"]
+
+
+def draw_name(draws):
+    pieces = ["".join(draws.choice(PIECES) if draws.random() < 0.2 else draws.choice("abcX09") for _ in range(draws.randint(0, 4))) for _ in range(draws.randint(1, 4))]
+    return draws.choice(["refs/heads/", "refs/heads/", "refs/tags/", "refs/", "refs/", "heads/"]) + "/".join(pieces)
+
+
+def names_differ(program, draws):
+    """How many names were good, and of which the two differ."""
+    names = sorted({draw_name(draws) for _ in range(300)})
+    made, _ = conf_push(open_conf(["r"]), None)
+    sessions = [(None, made)]
+    for name in names:
+        commands = [(ZERO, name_of(*HERE), name), (name_of(*ROOT), ZERO, "refs/heads/a..b")]
+        sessions.append((name, push("root", "r", commands, [HERE, ROOT, EMPTY], b"report-status atomic")))
+    good, differ = 0, []
+    for name, _, reply in replies(program, sessions):
+        if name is None:
+            continue
+        is_good = b"ng %s bad ref name" % name.encode() not in reply
+        ran = subprocess.run([b"git", b"check-ref-format", name.encode()], stderr=subprocess.DEVNULL)
+        good += is_good
+        if is_good != (ran.returncode == 0 and name.startswith("refs/") and name.count("/") > 1):
+            differ.append((name, is_good))
+    return good, differ
+
+
 def main(program, histories="5", seed="1"):
-    draws, count, paths, merges, differ = random.Random(int(seed)), 0, 0, 0, 0
+    draws, count, paths, merges, names, differ = random.Random(int(seed)), 0, 0, 0, 0, 0
     for _ in range(int(histories)):
         commits, objects = draw_history(draws)
         changes = draw_changes(draws, commits)
@@ -148,7 +179,12 @@ def main(program, histories="5", seed="1"):
             if one != other:
                 differ += 1
                 print("%s: git says %s, the program %s" % ([change[0], change[1].hex()[:7], change[2].hex()[:7]], other, one))
-    print("%d histories, %d changes, %d of them bring a merge, %d paths: %d differ" % (int(histories), count, merges, paths, differ))
+        good, others = names_differ(program, draws)
+        names, differ = names + good, differ + len(others)
+        for name, is_good in others:
+            print("%r: the program says %s" % (name, is_good))
+    said = int(histories), count, merges, paths, names, differ
+    print("%d histories, %d changes, %d of them bring a merge, %d paths; %d good names: %d differ" % said)
     return 1 if differ or not count else 0
 
 
