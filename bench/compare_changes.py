@@ -77,13 +77,18 @@ def draw_changes(draws, commits):
 # ---- git
 
 
-def ask_git(folder, objects, changes):
-    """Of each change the letters that Gitolite has for it by what git says, and the paths."""
+def store_objects(folder, objects):
+    """A new repository that has these objects."""
     subprocess.run(["git", "init", "-q", "--bare", folder], check=True)
     for name, (kind, body) in objects.items():
         os.makedirs("%s/objects/%s" % (folder, name.hex()[:2]), exist_ok=True)
         with open("%s/objects/%s/%s" % (folder, name.hex()[:2], name.hex()[2:]), "wb") as it:
             it.write(zlib.compress(b"%s %d\0%s" % (kind, len(body), body)))
+
+
+def ask_git(folder, objects, changes):
+    """Of each change the letters that Gitolite has for it by what git says, and the paths."""
+    store_objects(folder, objects)
     empty = subprocess.run(["git", "-C", folder, "hash-object", "-w", "-t", "tree", "/dev/null"], stdout=subprocess.PIPE, check=True, text=True).stdout.strip()
 
     def git(*words, **more):
