@@ -1,10 +1,10 @@
 #!/usr/bin/env python3
 """Compares what is said of changes of refs with git: compare_changes.py PROGRAM [HISTORIES [SEED]]
 
-It needs git and Python's standard library. For each of HISTORIES random histories (5, from SEED, 1), of commits with up to three parents and trees in which
+It needs git and Python's standard library. For each of HISTORIES random histories (5, drawn from SEED, 1), of commits with up to three parents and trees in which
 files come, go, change, become links, folders or submodules, it asks PROGRAM by a script of sessions, and git in a repository that has the same objects, of random
 creates, deletes and moves of refs: whether one is a move forward, whether it brings a merge, and which paths it changes. The program tells the first two by the
-letters of a denial, and each path by a rule that denies it to one user. For each history it also asks both of 300 random texts whether a ref may have that name
+letters of a denial, and each path by a rule that denies it to one user; another user is denied what is none of the paths. For each history it also asks both of 300 random texts whether a ref may have that name
 (`git check-ref-format`); here a name begins with `refs/` and has three pieces at least. It ends with 1 where two answers differ.
 """
 import os, random, re, subprocess, sys, tempfile, zlib
@@ -12,6 +12,7 @@ from compare_gitolite import ADMIN, EMPTY, HERE, ROOT, ZERO, conf_push, name_of,
 
 PATHS = ["a", "b", "d", "d/a", "d/b", "d/e/a", "d/e/b", "da", "f/g/h/a", "f/g/h", "f/i", "z"]
 COMMITS, CHANGES = 25, 40
+GIT = dict(env={**{name: value for name, value in os.environ.items() if not name.startswith("GIT_")}, "GIT_CONFIG_GLOBAL": "/dev/null", "GIT_CONFIG_NOSYSTEM": "1"})
 MODES = [b"100644", b"100644", b"100644", b"100755", b"120000", b"160000"]
 
 
@@ -79,7 +80,7 @@ def draw_changes(draws, commits):
 
 def store_objects(folder, objects):
     """A new repository that has these objects."""
-    subprocess.run(["git", "init", "-q", "--bare", folder], check=True)
+    subprocess.run(["git", "init", "-q", "--bare", folder], check=True, **GIT)
     for name, (kind, body) in objects.items():
         os.makedirs("%s/objects/%s" % (folder, name.hex()[:2]), exist_ok=True)
         with open("%s/objects/%s/%s" % (folder, name.hex()[:2], name.hex()[2:]), "wb") as it:
@@ -89,10 +90,10 @@ def store_objects(folder, objects):
 def ask_git(folder, objects, changes):
     """Of each change the letters that Gitolite has for it by what git says, and the paths."""
     store_objects(folder, objects)
-    empty = subprocess.run(["git", "-C", folder, "hash-object", "-w", "-t", "tree", "/dev/null"], stdout=subprocess.PIPE, check=True, text=True).stdout.strip()
+    empty = subprocess.run(["git", "-C", folder, "hash-object", "-w", "-t", "tree", "/dev/null"], stdout=subprocess.PIPE, check=True, text=True, **GIT).stdout.strip()
 
     def git(*words, **more):
-        return subprocess.run(["git", "-C", folder, *words], stdout=subprocess.PIPE, text=True, **more)
+        return subprocess.run(["git", "-C", folder, *words], stdout=subprocess.PIPE, text=True, **GIT, **more)
 
     told = []
     for ref, old, new in changes:
@@ -101,7 +102,8 @@ def ask_git(folder, objects, changes):
         if ZERO in (old, new):
             told.append(("C" if old == ZERO else "D", paths))
             continue
-        forward = git("merge-base", "--is-ancestor", old.hex(), new.hex()).returncode == 0 and not ref.startswith("refs/tags/")
+        is_ancestor = {0: True, 1: False}[git("merge-base", "--is-ancestor", old.hex(), new.hex()).returncode]
+        forward = is_ancestor and not ref.startswith("refs/tags/")
         merge = git("rev-list", "-n", "1", "--merges", "%s..%s" % (old.hex(), new.hex()), check=True).stdout != ""
         told.append((("W" if forward else "+") + "M" * merge, paths))
     return told
@@ -113,8 +115,8 @@ def ask_git(folder, objects, changes):
 CONF = {
     "gitolite.conf": ADMIN
     + "repo r\n    RW+CDM refs/ = all\n    - refs/ = letters\n"
-    + "".join("    - NAME/%s$ = p%d\n" % (path, number) for number, path in enumerate(PATHS))
-    + "    RW+CDM refs/ = letters %s\n" % " ".join("p%d" % number for number in range(len(PATHS)))
+    + "".join("    - NAME/%s$ = p%d\n    RW+CDM NAME/%s$ = other\n" % (path, number, path) for number, path in enumerate(PATHS))
+    + "    - NAME/ = other\n    RW+CDM refs/ = letters other %s\n" % " ".join("p%d" % number for number in range(len(PATHS)))
 }
 
 
@@ -123,7 +125,7 @@ def ask_program(program, objects, changes):
     put = [(ZERO, old, ref) for ref, old, _ in changes if old != ZERO]
     sessions = [(None, made), (None, push("root", "r", put, objects.values(), b"report-status")), (None, conf_push(CONF, head)[0])]
     for number, (ref, old, new) in enumerate(changes):
-        for user in ["letters", *("p%d" % it for it in range(len(PATHS)))]:
+        for user in ["letters", "other", *("p%d" % it for it in range(len(PATHS)))]:
             commands = [(old, new, ref), (head, ZERO, "refs/heads/a..b")]
             sessions.append(((number, user), push(user, "r", commands, objects.values() if new != ZERO else None, b"report-status atomic")))
     told = [["", set()] for _ in changes]
@@ -153,7 +155,7 @@ def draw_name(draws):
 
 
 def names_differ(program, draws):
-    """How many names were good, and of which the two differ."""
+    """How many texts were asked, how many were names, and of which the two differ."""
     names = sorted({draw_name(draws) for _ in range(300)})
     made, _ = conf_push(open_conf(["r"]), None)
     sessions = [(None, made)]
@@ -164,16 +166,17 @@ def names_differ(program, draws):
     for name, _, reply in replies(program, sessions):
         if name is None:
             continue
-        is_good = b"ng %s bad ref name" % name.encode() not in reply
-        ran = subprocess.run([b"git", b"check-ref-format", name.encode()], stderr=subprocess.DEVNULL)
+        [said] = re.findall(rb"ng %s (bad ref name|atomic push refused)" % re.escape(name.encode()), reply)
+        is_good = said != b"bad ref name"
+        ran = subprocess.run([b"git", b"check-ref-format", name.encode()], stderr=subprocess.DEVNULL, **GIT)
         good += is_good
         if is_good != (ran.returncode == 0 and name.startswith("refs/") and name.count("/") > 1):
             differ.append((name, is_good))
-    return good, differ
+    return len(names), good, differ
 
 
 def main(program, histories="5", seed="1"):
-    draws, count, paths, merges, names, differ = random.Random(int(seed)), 0, 0, 0, 0, 0
+    draws, count, paths, merges, texts, names, differ = random.Random(int(seed)), 0, 0, 0, 0, 0, 0
     for _ in range(int(histories)):
         commits, objects = draw_history(draws)
         changes = draw_changes(draws, commits)
@@ -184,12 +187,12 @@ def main(program, histories="5", seed="1"):
             if one != other:
                 differ += 1
                 print("%s: git says %s, the program %s" % ([change[0], change[1].hex()[:7], change[2].hex()[:7]], other, one))
-        good, others = names_differ(program, draws)
-        names, differ = names + good, differ + len(others)
+        asked, good, others = names_differ(program, draws)
+        texts, names, differ = texts + asked, names + good, differ + len(others)
         for name, is_good in others:
             print("%r: the program says %s" % (name, is_good))
-    said = int(histories), count, merges, paths, names, differ
-    print("%d histories, %d changes, %d of them bring a merge, %d paths; %d good names: %d differ" % said)
+    said = int(histories), count, merges, paths, texts, names, differ
+    print("%d histories, %d changes, %d of them bring a merge, %d paths; %d texts, %d of them names: %d differ" % said)
     return 1 if differ or not count else 0
 
 

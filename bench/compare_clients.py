@@ -1,17 +1,16 @@
 #!/usr/bin/env python3
 """Compares what becomes of the pushes of a git client with a real Gitolite: compare_clients.py PROGRAM [CONFS [SEED]]
 
-It needs what compare_gitolite.py needs, and nothing may listen at 127.0.0.1:9418. For each of CONFS random confs (3, from SEED, 1), over repositories that stay,
+It needs what compare_gitolite.py needs, and nothing may listen at 127.0.0.1:9418. For each of CONFS random confs (3, drawn from SEED, 1), over repositories that stay,
 git makes the same forty random pushes to Gitolite, by its gitolite-shell, and to PROGRAM, through the front end: of up to four refs, creates, moves and deletes
-of branches, tags and other refs, some in the way of others, some atomic, some forced. After each, the marks that `git push --porcelain` has for each ref have to be
-the same, and so have all refs. Gitolite's git is told to follow no renames, and to let the branch of HEAD be deleted; no ref is deleted that isn't there, and of an
+of branches, tags and other refs, some in the way of others, some atomic, some forced. After each, the mark that `git push --porcelain` has for each ref has to be
+the same, and whether it is git itself that refuses; so have git's status and all refs. Gitolite's git is told to follow no renames, and to let the branch of HEAD be deleted; no ref is deleted that isn't there, and of an
 atomic push no ref is in the way of another: docs/ACCESS.md has these. It ends with 1 where two answers differ.
 """
 import os, pathlib, random, subprocess, sys, tempfile
 from compare_changes import PATHS, draw_history, store_objects
 from compare_gitolite import ADMIN, Gitolite, gitolite_home
 
-sys.dont_write_bytecode = True
 sys.path.insert(0, str(pathlib.Path(__file__).resolve().parent.parent / "front"))
 from tests import world  # noqa: E402
 
@@ -48,9 +47,9 @@ def draw_push(draws, commits, there):
 
 
 def marks(said):
-    """Of each ref of `git push --porcelain` its mark: new, moved, forced, deleted, as it was, or refused."""
+    """Of each ref of `git push --porcelain` its mark: new, moved, forced, deleted, as it was, refused by the server (`!`), or by git itself (`!!`)."""
     lines = [line.split("\t") for line in said.splitlines() if line.count("\t") == 2]
-    return sorted((names.rpartition(":")[2], mark) for mark, names, _ in lines)
+    return sorted((names.rpartition(":")[2], mark + "!" * why.startswith("[rejected]")) for mark, names, why in lines)
 
 
 class Sides:
@@ -76,14 +75,14 @@ class Sides:
 
 
 def main(program, confs="3", seed="1"):
-    draws, count, refused, differ = random.Random(int(seed)), 0, 0, 0
+    draws, count, denied, differ = random.Random(int(seed)), dict.fromkeys(["done", "as it was", "!", "!!"], 0), 0, 0
     commits, objects = draw_history(draws)
-    there = {repo: "" for repo in REPOS}
-    here = world.World(os.path.abspath(program))
+    there = {repo: [] for repo in REPOS}
     with tempfile.TemporaryDirectory(prefix="compare-clients-") as home:
+        here = world.World(os.path.abspath(program))
         try:
             gitolite_home(home)
-            for name, value in [("diff.renames", "false"), ("receive.denyDeleteCurrent", "ignore")]:
+            for name, value in [("diff.renames", "false"), ("receive.denyDeleteCurrent", "ignore"), ("gc.auto", "0")]:
                 subprocess.run(["git", "config", "--global", name, value], check=True, env=dict(os.environ, HOME=home))
             store_objects(home + "/client", objects)
             here.start()
@@ -94,10 +93,15 @@ def main(program, confs="3", seed="1"):
                 for _ in range(PUSHES):
                     user, repo, words, changes = draw_push(draws, commits, there)
                     said = list(sides.git(user, "push", "--porcelain", *words, "here:" + repo, *changes))
-                    refs = [ran.stdout for ran in sides.git("keeper", "ls-remote", "here:" + repo)]
+                    looks = list(sides.git("keeper", "ls-remote", "here:" + repo))
+                    refs = [ran.stdout for ran in looks]
                     there[repo] = refs[0].split()
+                    if any(ran.returncode for ran in looks):
+                        sys.exit("the refs can't be listed: %s" % looks)
                     theirs, ours = [(marks(ran.stdout), ran.returncode) for ran in said]
-                    count, refused = count + len(changes), refused + sum(mark == "!" for _, mark in ours[0])
+                    denied += not ours[0]
+                    for _, mark in ours[0]:
+                        count[mark if mark in count else "as it was" if mark == "=" else "done"] += 1
                     if theirs != ours or refs[0] != refs[1]:
                         differ += 1
                         print("%s pushes to %s: %s\nGitolite: %s\nthe program: %s\nof\n%s" % (user, repo, [*words, *changes], said[0], said[1], conf))
@@ -105,8 +109,9 @@ def main(program, confs="3", seed="1"):
                             sys.exit("the refs differ: %s, %s" % (refs[0], refs[1]))
         finally:
             here.close()
-    print("%d confs, %d pushes, %d changes, %d refused: %d differ" % (int(confs), int(confs) * PUSHES, count, refused, differ))
-    return 1 if differ or not count else 0
+    said = int(confs), int(confs) * PUSHES, denied, *count.values(), differ
+    print("%d confs, %d pushes, %d denied at the opening; changes: %d done, %d as it was, %d refused, %d refused by git itself: %d differ" % said)
+    return 1 if differ or not count["done"] or not count["!"] else 0
 
 
 if __name__ == "__main__":

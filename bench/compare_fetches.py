@@ -1,13 +1,14 @@
 #!/usr/bin/env python3
 """Compares what a fetch is told and sent with git: compare_fetches.py PROGRAM [HISTORIES [SEED]]
 
-It needs git and Python's standard library. For each of HISTORIES random histories (5, from SEED, 1), those of compare_changes.py with annotated tags, it asks
-PROGRAM by a script of sessions, and git in a repository that has the same objects and refs: which refs are advertised (`git show-ref`), and what is sent for random
-wants to a client that has random objects (`git rev-list --objects`). The objects have to come in the order in which they were pushed. It ends with 1 where two
+It needs git and Python's standard library. For each of HISTORIES random histories (5, drawn from SEED, 1), those of compare_changes.py with annotated tags, it
+asks PROGRAM by a script of sessions, and git in a repository that has the same objects and refs: which refs are advertised (`git show-ref --head -d`; capabilities
+aren't compared), and what is sent for random wants to a client that has random objects. That is what `git rev-list --objects` finds behind the wants, without what
+it finds behind those of the client's objects that are there. The objects have to come in the order in which they were pushed. It ends with 1 where two
 answers differ.
 """
 import random, re, subprocess, sys, tempfile
-from compare_changes import draw_history, store_objects
+from compare_changes import GIT, draw_history, store_objects
 from compare_gitolite import ZERO, conf_push, name_of, open_conf, packet, push, replies
 
 KINDS = {1: b"commit", 2: b"tree", 3: b"blob", 4: b"tag"}
@@ -44,12 +45,12 @@ def draw_fetches(draws, refs, objects):
 def ask_git(folder, objects, refs, fetches):
     """The lines that are advertised, and of each fetch the names that are sent."""
     store_objects(folder, objects)
-    subprocess.run(["git", "-C", folder, "symbolic-ref", "HEAD", "refs/heads/master"], check=True)
+    subprocess.run(["git", "-C", folder, "symbolic-ref", "HEAD", "refs/heads/master"], check=True, **GIT)
     text = "".join("create %s %s\n" % (ref, value.hex()) for ref, value in refs.items())
-    subprocess.run(["git", "-C", folder, "update-ref", "--stdin"], input=text, check=True, text=True)
+    subprocess.run(["git", "-C", folder, "update-ref", "--stdin"], input=text, check=True, text=True, **GIT)
 
     def lines(*words):
-        return subprocess.run(["git", "-C", folder, *words], stdout=subprocess.PIPE, check=True, text=True).stdout.splitlines()
+        return subprocess.run(["git", "-C", folder, *words], stdout=subprocess.PIPE, check=True, text=True, **GIT).stdout.splitlines()
 
     def closure(names):
         return {bytes.fromhex(line) for line in lines("rev-list", "--objects", "--no-object-names", *(it.hex() for it in names))} if names else set()

@@ -1,9 +1,9 @@
 #!/usr/bin/env python3
 """Compares verdicts with those of a real Gitolite: compare_gitolite.py PROGRAM [CONFS [SEED]]
 
-It needs the command `gitolite` (Debian's package gitolite3) and git, and Python's standard library. For each of CONFS random confs (10, from SEED, 1), each of
+It needs the command `gitolite` (Debian's package gitolite3) and git, and Python's standard library. For each of CONFS random confs (10, drawn from SEED, 1), each of
 a main file, one that it includes and one that a subconf delegates, users first open repositories by patterns, by which some are made, give roles in them, and
-ask what they may see. Then Gitolite's own `gitolite access` is asked, and PROGRAM by a script of sessions, whether each user may open each repository for
+ask which of the repositories that are there they may see. Then Gitolite's own `gitolite access` is asked, and PROGRAM by a script of sessions, whether each user may open each repository for
 reading and for writing, and create, forward, rewind or delete each ref in it; and which rule denies it. The confs keep to what both decide alike:
 docs/ACCESS.md has where they part.
 A push that asks changes nothing: it is atomic, and its second command is always refused. It ends with 1 where two answers differ.
@@ -332,7 +332,7 @@ def main(program, confs="10", seed="1"):
                 if theirs[what] != said:
                     differ += 1
                     print("%s: Gitolite says %s, the program %s, of\n%s" % (what, theirs[what], said, text_of(conf)))
-    print("%d confs, %d repositories made, %d answers, %d of them denials: %d differ" % (int(confs), made, asked, denied, differ))
+    print("%d confs, %d repositories made, %d answers, %d of them refusals: %d differ" % (int(confs), made, asked, denied, differ))
     return 1 if differ or not asked else 0
 
 

@@ -1,15 +1,15 @@
 #!/usr/bin/env python3
 """Compares what becomes of pushes with a real Gitolite: compare_pushes.py PROGRAM [CONFS [SEED]]
 
-It needs what compare_gitolite.py needs. For each of CONFS random confs (5, from SEED, 1), whose rules ask for changed paths and for merges too, it asks
-Gitolite's own update hook, in its own repositories, and PROGRAM by a script of sessions, whether each user may make each change to each ref; and which rule
-denies it, and for which path. The changes are creates, deletes, moves forward and back and to the side, and such that bring a merge, of commits whose trees
+It needs what compare_gitolite.py needs. For each of CONFS random confs (5, drawn from SEED, 1), whose rules ask for changed paths and for merges too, it asks
+Gitolite's own update hook, in its own repositories, and PROGRAM by a script of sessions, whether each user who may open a repository may make each change to each
+ref; and which rule denies it, and for which path. The changes are creates, deletes, moves forward and back and to the side, and such that bring a merge, of commits whose trees
 differ in a few files. Before the hook is asked `gitolite access` is, as Gitolite does at a push. The confs keep to what both decide alike: docs/ACCESS.md has
 where they part. It ends with 1 where two verdicts differ.
 """
 import os, random, re, sys, tempfile, zlib
 from concurrent.futures import ThreadPoolExecutor
-from compare_gitolite import ADMIN, ZERO, Gitolite, conf_push, gitolite_home, name_of, open_conf, pack, push, replies
+from compare_gitolite import ADMIN, ZERO, Gitolite, conf_push, gitolite_home, name_of, open_conf, push, replies
 
 USERS = ["u1", "u2", "u3"]
 REPOS = ["r1", "r2"]
@@ -195,14 +195,13 @@ def main(program, confs="5", seed="1"):
         for _ in range(int(confs)):
             conf = draw_conf(draws)
             theirs, ours = ask_gitolite(home, conf), ask_program(os.path.abspath(program), conf)
-            if theirs.keys() != ours.keys():
-                sys.exit("not the same questions: %s" % (theirs.keys() ^ ours.keys()))
-            for what, said in ours.items():
+            for what in [*ours, *(it for it in theirs if it not in ours)]:
+                said, other = ours.get(what, "not asked"), theirs.get(what, "not asked")
                 count, denied = count + 1, denied + (said is not None)
                 of_paths, of_merges = of_paths + ("VREF/NAME" in (said or "")), of_merges + ("VREF/MERGE" in (said or ""))
-                if theirs[what] != said:
+                if other != said:
                     differ += 1
-                    print("%s: Gitolite says %s, the program %s, of\n%s" % ([it.hex()[:7] if isinstance(it, bytes) else it for it in what], theirs[what], said, conf["gitolite.conf"]))
+                    print("%s: Gitolite says %s, the program %s, of\n%s" % ([it.hex()[:7] if isinstance(it, bytes) else it for it in what], other, said, conf["gitolite.conf"]))
     print("%d confs, %d verdicts, %d of them denials, %d for a path and %d for a merge: %d differ" % (int(confs), count, denied, of_paths, of_merges, differ))
     return 1 if differ or not count else 0
 

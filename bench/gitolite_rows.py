@@ -72,7 +72,8 @@ ROWS = [
     row(T + "- VREF/MERGE-CHECK/master = ann; RW = ann", change("ann", "t", MASTER, NEXT, MERGE), DENIED, DENIED),
     row(T + "- VREF/MERGE-CHECK/dev/x = ann; RW = ann", change("ann", "t", "refs/heads/dev/y", NEXT, MERGE), ALLOWED, DENIED),
     row(T + "- VREF/MERGE-CHECK/refs/tags/ = ann; RW+ = ann", change("ann", "t", "refs/tags/v", NEXT, MERGE), DENIED, ALLOWED),
-    row(T + "- VREF/MERGE-CHECK/mast.r$ = ann; RW = ann", change("ann", "t", MASTER, NEXT, MERGE), DENIED, DENIED),
+    row(T + "RW VREF/MERGE-CHECK/mast[e]r = ann; RW = ann", change("ann", "t", MASTER, NEXT, MERGE), ALLOWED, DENIED),
+    row(T + "RW VREF/MERGE-CHECK/mast[e]r = ann; RW = ann", change("ann", "t", "refs/heads/dev", NEXT, MERGE), ALLOWED, ALLOWED),
     row(T + "RW = ann", change("ann", "t", "refs/x/y", BASE, name_of(*TAG)), DENIED, ALLOWED),
     row(T + "- VREF/NAME/secret$ = ann; RW = ann", change("ann", "t", MASTER, SECRET, MOVED), DENIED, ALLOWED),
     row(T + "option deny-rules = yes; - = bob; R = @all", read("bob", "t"), ALLOWED, DENIED),
@@ -102,7 +103,8 @@ ROWS = [
     row(T + "RW a~b = ann", CONF, TAKEN, REFUSED),
     row("repo f..; RW = ann", CONF, TAKEN, REFUSED),
     row("repo a//b; RW = ann", CONF, TAKEN, TAKEN),
-    row("repo a/.b; RW = ann", CONF, TAKEN, TAKEN),
+    row("repo a/.b; C = ann; RW = ann", write("ann", "a/xb"), ALLOWED, DENIED),
+    row(T + "- (master$|dev)$ = ann; RW = ann", create("ann", "t", MASTER), ALLOWED, DENIED),
     row("repo x/; RW = ann", CONF, TAKEN, REFUSED),
     # roles
     row("repo u/..*; C = ann; RW+ = CREATOR; R = READERS", roles("ann", "u/x", "+", "READERS", "bob"), ALLOWED, ALLOWED),
@@ -137,8 +139,17 @@ ROWS = [
     row("repo _x; RW = ann", CONF, TAKEN, REFUSED),
     row(T + "RW VREF/COUNT/5 = ann", CONF, REFUSED, TAKEN),
     row(T + "option CREATE_IS_C = 0; RWC = bob; RW = ann", create("ann", "t", MASTER), DENIED, DENIED),
+    row(T + "option CREATE_IS_C = 1; RW = ann", create("ann", "t", MASTER), ALLOWED, DENIED),
+    row(T + "option DELETE_IS_D = 1; RW+ = ann", change("ann", "t", MASTER, BASE, ZERO), ALLOWED, DENIED),
+    row(T + "option MERGE_CHECK = 1; RW = ann", change("ann", "t", MASTER, NEXT, MERGE), ALLOWED, DENIED),
     row(T + "RWC = bob; RW = ann; option CREATE_IS_C = 0", create("ann", "t", MASTER), DENIED, ALLOWED),
 ]
+
+
+def denied(said):
+    """A refusal, where it is for one of the reasons that rules give."""
+    reasons = ["DENIED by", "no such repository", "Invalid role", "no such role", "invalid characters in ref or filename"]
+    return (DENIED if any(it in said for it in reasons) else "failed") + ": " + said
 
 
 # ---- Gitolite
@@ -165,7 +176,7 @@ def ask_gitolite(home, conf, question):
     else:
         pushes.store_objects(there.folder(question[2]))
         ran = there.update(*question[1:])
-    return ALLOWED if ran.returncode == 0 else DENIED + ": " + ran.stderr.strip().split("\n")[0]
+    return ALLOWED if ran.returncode == 0 else denied(ran.stderr.strip())
 
 
 # ---- the program
@@ -187,18 +198,13 @@ def ask_program(program, conf, question):
         sessions.append(("ask", packet(" ".join([user, "perms", repo, *words]).encode())))
     elif question[0] == "change":
         _, user, repo, ref, old, new = question
-        sessions.append(("ask", push(user, repo, [(old, new, ref)], pushes.OBJECTS.values(), b"report-status")))
+        sessions.append(("ask", push(user, repo, [(old, new, ref)], pushes.OBJECTS.values() if new != ZERO else None, b"report-status")))
     for what, end, reply in replies(program, sessions):
         if what == "conf" and b"ok refs/heads/master" not in reply:
             return REFUSED + ": " + re.search(rb"ng refs/heads/master ([^\n]*)", reply).group(1).decode()
         if what == "ask":
-            if end != "served":
-                return DENIED + ": " + reply.decode(errors="replace").strip()
-            if b"perms: " in reply and b"perms: changed" not in reply and b"perms: already so" not in reply:
-                return DENIED + ": " + reply.decode().strip()
-            if b"ng " in reply:
-                return DENIED + ": " + re.search(rb"ng \S+ ([^\n]*)", reply).group(1).decode()
-            return ALLOWED
+            is_done = end == "served" and b"ng " not in reply and (question[0] != "roles" or b"perms: changed" in reply or b"perms: already so" in reply)
+            return ALLOWED if is_done else denied(reply.decode(errors="replace"))
     return TAKEN
 
 

@@ -9,12 +9,12 @@ use Rattle.hub_history.specs.declared.entry.Entry.{Entry}
 use Rattle.hub_history.specs.History.{IsLegal, replay}
 use Rattle.hub_history.specs.State.{Repository}
 
--- A repository has a repository's name; its creator has a user's, if it has one, and so has each who holds a role in it.
+-- A repository has a repository's name; its creator, if it has one, has a user's, and so has each who holds a role in it.
 pub record IsNamed (name : Name) (repository : Repository) : Type 0 where
   pub repo : is_repo_name name ≡ true
   pub creator : IfSome repository.creator (λ user. is_user_name user ≡ true)
   pub holders : (held : RoleEntry) → Contains repository.roles held → is_user_name held.user ≡ true
 
--- So it is with each repository of the state that a legal log leads to.
+-- Each repository of the state that a legal log leads to is named so.
 abbrev pub AllAreNamed : Type 0
 AllAreNamed = (admin : Name) (log : List Entry) → IsLegal admin log → (name : Name) (repository : Repository) → get (replay admin log).repositories name ≡ Some repository → IsNamed name repository

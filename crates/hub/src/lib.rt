@@ -4,7 +4,7 @@
 //! - `answer`: what the calls answer;
 //! - `hub`: the hub, which keeps that its log is legal and that what it stores is the log's replay;
 //! - `openings`, `pushes`, `roles`, `looks`: its calls;
-//! - `names`: that names are names;
+//! - `names`: that users and repositories have names, as legal logs ask;
 //! - `desk`: a hub as one caller has it.
 #![tactic(auto)]
 

@@ -1,4 +1,4 @@
-// That names are names. These functions do nothing, and are called for their clauses.
+// That what a `UserName` and a `RepoName` hold is a name in the words of legal logs. These functions do nothing, and are called for their clauses.
 ghost use Rattle.std.specs.Prelude.{◌≡◌, true};
 ghost use Rattle.conf_lex.specs.Names.{is_user_name};
 ghost use Rattle.hub_history.specs.History.{AreNames, IsOfUser};
@@ -21,7 +21,7 @@ pub(crate) fn tell_names(user: &UserName, repo: &RepoName)
     let _rule = repo.bytes();
 }
 
-// Tells so of who is to get or to lose a role.
+// Tells so of who is to get or to lose a role, if anybody is.
 pub(crate) fn tell_change(change: &PermChange)
     ensures { IsOfUser change.now }
 {
