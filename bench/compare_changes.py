@@ -7,8 +7,8 @@ creates, deletes and moves of refs: whether one is a move forward, whether it br
 letters of a denial, and each path by a rule that denies it to one user; another user is denied what is none of the paths. For each history it also asks both of 300 random texts whether a ref may have that name
 (`git check-ref-format`); here a name begins with `refs/` and has three pieces at least. It ends with 1 where two answers differ.
 """
-import os, random, re, subprocess, sys, tempfile, zlib
-from compare_gitolite import ADMIN, EMPTY, HERE, ROOT, ZERO, conf_push, name_of, open_conf, push, replies
+import os, random, re, subprocess, sys, tempfile
+from compare_gitolite import ADMIN, EMPTY, HERE, ROOT, ZERO, conf_push, name_of, open_conf, push, replies, tree_of, write_objects
 
 PATHS = ["a", "b", "d", "d/a", "d/b", "d/e/a", "d/e/b", "da", "f/g/h/a", "f/g/h", "f/i", "z"]
 COMMITS, CHANGES = 25, 40
@@ -31,24 +31,6 @@ def draw_files(draws, files):
         files = {it: file for it, file in files.items() if not it.startswith(path + "/") and not path.startswith(it + "/")}
         files[path] = (draws.choice(MODES), draws.choice([b"one\n", b"two\n", b""]))
     return files
-
-
-def tree_of(files, objects):
-    entries, below = {}, {}
-    for path, (mode, text) in files.items():
-        first, slash, rest = path.partition("/")
-        if slash:
-            below.setdefault(first, {})[rest] = (mode, text)
-            continue
-        it = (b"blob", text)
-        if mode != b"160000":
-            objects[name_of(*it)] = it
-        entries[first.encode()] = b"%s %s\0%s" % (mode, first.encode(), name_of(*it))
-    for name, inner in below.items():
-        entries[name.encode() + b"/"] = b"40000 %s\0%s" % (name.encode(), tree_of(inner, objects))
-    tree = b"tree", b"".join(line for _, line in sorted(entries.items()))
-    objects[name_of(*tree)] = tree
-    return name_of(*tree)
 
 
 def draw_history(draws):
@@ -81,10 +63,7 @@ def draw_changes(draws, commits):
 def store_objects(folder, objects):
     """A new repository that has these objects."""
     subprocess.run(["git", "init", "-q", "--bare", folder], check=True, **GIT)
-    for name, (kind, body) in objects.items():
-        os.makedirs("%s/objects/%s" % (folder, name.hex()[:2]), exist_ok=True)
-        with open("%s/objects/%s/%s" % (folder, name.hex()[:2], name.hex()[2:]), "wb") as it:
-            it.write(zlib.compress(b"%s %d\0%s" % (kind, len(body), body)))
+    write_objects(folder, objects)
 
 
 def ask_git(folder, objects, changes):

@@ -4,8 +4,8 @@
 It needs what compare_gitolite.py needs, and nothing may listen at 127.0.0.1:9418. For each of CONFS random confs (3, drawn from SEED, 1), over repositories that stay,
 git makes the same forty random pushes to Gitolite, by its gitolite-shell, and to PROGRAM, through the front end: of up to four refs, creates, moves and deletes
 of branches, tags and other refs, some in the way of others, some atomic, some forced. After each, the mark that `git push --porcelain` has for each ref has to be
-the same, and whether it is git itself that refuses; so have git's status and all refs. Gitolite's git is told to follow no renames, and to let the branch of HEAD be deleted; no ref is deleted that isn't there, and of an
-atomic push no ref is in the way of another: docs/ACCESS.md has these. It ends with 1 where two answers differ.
+the same, and whether it is git itself that refuses; so have git's status and all refs. Gitolite's git is told to follow no renames, and to let the branch of HEAD be
+deleted; no ref is deleted that isn't there, and of an atomic push no ref is in the way of another: docs/ACCESS.md has these. It ends with 1 where two answers differ.
 """
 import os, pathlib, random, subprocess, sys, tempfile
 from compare_changes import PATHS, draw_history, store_objects

@@ -8,7 +8,7 @@ reading and for writing, and create, forward, rewind or delete each ref in it; a
 docs/ACCESS.md has where they part.
 A push that asks changes nothing: it is atomic, and its second command is always refused. It ends with 1 where two answers differ.
 """
-import hashlib, os, random, re, shutil, subprocess, sys, tempfile
+import hashlib, os, random, re, shutil, subprocess, sys, tempfile, zlib
 
 USERS = ["u%d" % n for n in range(1, 6)]
 REPOS = ["r%d" % n for n in range(1, 5)]
@@ -189,6 +189,33 @@ def entry(kind, body):
 def pack(objects):
     text = b"PACK\0\0\0\2" + len(objects).to_bytes(4, "big") + b"".join(entry(*it) for it in objects)
     return text + hashlib.sha1(text).digest()
+
+
+def tree_of(files, objects):
+    """The id of the tree of these files, each with its mode and text by its path; the objects are added by their names, but for what a submodule names."""
+    entries, below = {}, {}
+    for path, (mode, text) in files.items():
+        first, slash, rest = path.partition("/")
+        if slash:
+            below.setdefault(first, {})[rest] = (mode, text)
+            continue
+        it = (b"blob", text)
+        if mode != b"160000":
+            objects[name_of(*it)] = it
+        entries[first.encode()] = b"%s %s\0%s" % (mode, first.encode(), name_of(*it))
+    for name, inner in below.items():
+        entries[name.encode() + b"/"] = b"40000 %s\0%s" % (name.encode(), tree_of(inner, objects))
+    tree = b"tree", b"".join(line for _, line in sorted(entries.items()))
+    objects[name_of(*tree)] = tree
+    return name_of(*tree)
+
+
+def write_objects(folder, objects):
+    """Puts objects into a repository of git's."""
+    for name, (kind, body) in objects.items():
+        os.makedirs("%s/objects/%s" % (folder, name.hex()[:2]), exist_ok=True)
+        with open("%s/objects/%s/%s" % (folder, name.hex()[:2], name.hex()[2:]), "wb") as it:
+            it.write(zlib.compress(b"%s %d\0%s" % (kind, len(body), body)))
 
 
 EMPTY = (b"tree", b"")

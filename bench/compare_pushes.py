@@ -7,9 +7,9 @@ ref; and which rule denies it, and for which path. The changes are creates, dele
 differ in a few files. Before the hook is asked `gitolite access` is, as Gitolite does at a push. The confs keep to what both decide alike: docs/ACCESS.md has
 where they part. It ends with 1 where two verdicts differ.
 """
-import os, random, re, sys, tempfile, zlib
+import os, random, re, sys, tempfile
 from concurrent.futures import ThreadPoolExecutor
-from compare_gitolite import ADMIN, ZERO, Gitolite, conf_push, gitolite_home, name_of, open_conf, push, replies
+from compare_gitolite import ADMIN, ZERO, Gitolite, conf_push, gitolite_home, name_of, open_conf, push, replies, tree_of, write_objects
 
 USERS = ["u1", "u2", "u3"]
 REPOS = ["r1", "r2"]
@@ -46,30 +46,13 @@ def text_of(path, version):
 def files_of(changes={}):
     """The base's files, with other versions of some, or none; each has a text of its own by its path and version."""
     files = dict.fromkeys(["Makefile", "README", "secret", "src/a.c", "src/lib/b.c", "docs/x", "docs/secret", "u2/x"], 1) | changes
-    return {path: text_of(path, version) for path, version in files.items() if version}
-
-
-def tree_of(files, objects):
-    """The id of the tree of these files, by path; its objects are added."""
-    entries, below = {}, {}
-    for path, text in files.items():
-        first, slash, rest = path.partition("/")
-        if slash:
-            below.setdefault(first, {})[rest] = text
-        else:
-            objects.append((b"blob", text))
-            entries[first.encode()] = b"100644 %s\0%s" % (first.encode(), name_of(b"blob", text))
-    for name, inner in below.items():
-        entries[name.encode() + b"/"] = b"40000 %s\0%s" % (name.encode(), tree_of(inner, objects))
-    objects.append((b"tree", b"".join(line for _, line in sorted(entries.items()))))
-    return name_of(*objects[-1])
+    return {path: (b"100644", text_of(path, version)) for path, version in files.items() if version}
 
 
 def commit(text, files, *parents):
-    objects = []
-    lines = b"tree %s\n" % tree_of(files, objects).hex().encode() + b"".join(b"parent %s\n" % it.hex().encode() for it in parents)
+    lines = b"tree %s\n" % tree_of(files, OBJECTS).hex().encode() + b"".join(b"parent %s\n" % it.hex().encode() for it in parents)
     made = b"commit", lines + b"author a <a> 1 +0000\ncommitter a <a> 1 +0000\n\n" + text
-    OBJECTS.update({name_of(*it): it for it in [*objects, made]})
+    OBJECTS[name_of(*made)] = made
     return name_of(*made)
 
 
@@ -110,7 +93,7 @@ def ask_gitolite(home, conf):
     there = Gitolite(home, conf)
     told = {("opening", repo, user): words_of(said) for repo, user, said in there.access("W", "any", REPOS, USERS)}
     for repo in REPOS:
-        store_objects(there.folder(repo))
+        write_objects(there.folder(repo), OBJECTS)
 
     def ask(what):
         old, new, ref, repo, user = what
@@ -123,13 +106,6 @@ def ask_gitolite(home, conf):
     with ThreadPoolExecutor(os.cpu_count()) as pool:
         told.update(pool.map(ask, [it for it in asked() if told["opening", it[3], it[4]] is None]))
     return told
-
-
-def store_objects(folder):
-    for name, (kind, body) in OBJECTS.items():
-        os.makedirs("%s/objects/%s" % (folder, name.hex()[:2]), exist_ok=True)
-        with open("%s/objects/%s/%s" % (folder, name.hex()[:2], name.hex()[2:]), "wb") as it:
-            it.write(zlib.compress(b"%s %d\0%s" % (kind, len(body), body)))
 
 
 def words_of(said):

@@ -6,7 +6,7 @@ Gitolite is asked.
 """
 import os, re, shutil, subprocess, sys, tempfile
 import compare_pushes as pushes
-from compare_gitolite import ADMIN, ZERO, Gitolite, conf_push, gitolite_home, name_of, open_conf, packet, push, replies, text_of
+from compare_gitolite import ADMIN, ZERO, Gitolite, conf_push, gitolite_home, name_of, open_conf, packet, push, replies, text_of, write_objects
 
 ALLOWED, DENIED, TAKEN, REFUSED = "allowed", "denied", "taken", "refused"
 
@@ -15,13 +15,15 @@ ALLOWED, DENIED, TAKEN, REFUSED = "allowed", "denied", "taken", "refused"
 
 
 def commit(files, *parents):
-    return pushes.commit(b"row", {path: path.encode() * 3 + b"\n" for path in files}, *parents)
+    """A commit of files, each with a text of its own; of a file that is moved there are both paths, with `>` between them."""
+    moves = [path.partition(">") for path in files]
+    return pushes.commit(b"row", {new or old: (b"100644", old.encode() * 3 + b"\n") for old, _, new in moves}, *parents)
 
 
 BASE = commit(["README"])
 NEXT = commit(["README", "a"], BASE)
 SECRET = commit(["README", "secret"])
-MOVED = pushes.commit(b"moved", {"README": b"READMEREADMEREADME\n", "open": b"secret" * 3 + b"\n"}, SECRET)
+MOVED = commit(["README", "secret>open"], SECRET)
 MAKEFILE = commit(["Makefile"])
 UMLAUT = commit(["README", "d/é"])
 SIDE = commit(["README", "b"], BASE)
@@ -174,7 +176,7 @@ def ask_gitolite(home, conf, question):
         there.run("gitolite", "create", repo, env=dict(GL_USER=user))
         ran = there.run("gitolite", "perms", repo, *words, check=False, env=dict(GL_USER=user))
     else:
-        pushes.store_objects(there.folder(question[2]))
+        write_objects(there.folder(question[2]), pushes.OBJECTS)
         ran = there.update(*question[1:])
     return ALLOWED if ran.returncode == 0 else denied(ran.stderr.strip())
 
