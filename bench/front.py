@@ -5,15 +5,18 @@ PROGRAM is the built gitolite_shell. It is started once, and serves all cases. P
 and of the last run the front end's seconds of processor and most memory, where /usr/bin/time is there. Without a CASE all are run;
 `list` names them.
 """
+import contextlib
 import hashlib
 import os
 import pathlib
+import pwd
 import random
 import shutil
 import socket
 import subprocess
 import sys
 import tempfile
+import threading
 import time
 
 FRONT = pathlib.Path(__file__).resolve().parent.parent / "front/cerolimau-ssh"
@@ -125,7 +128,118 @@ def clone(bench):
     return "%.2f s" % min(times) + cost
 
 
-CASES = {case.__name__: case for case in (small, large, clone)}
+def history(bench):
+    """60,000 commits, five branches and 364 tags: 180,000 objects, 330 MB of bodies. Made once."""
+    made = bench.room / "long"
+    if made.exists():
+        return made
+    source = random.Random(3)
+
+    def files(names):
+        for name in names:
+            body = text(source, 300)
+            yield b"M 100644 inline f%03d\ndata %d\n%s\n" % (name, len(body), body)
+
+    def stream():
+        mark = 0
+        for number in range(60_000):
+            mark += 1
+            yield b"commit refs/heads/main\nmark :%d\n" % mark + b"\n".join(commit(number).split(b"\n")[1:])
+            yield b"from :%d\n" % last if number else b""
+            yield from files(range(150) if number == 0 else [source.randrange(150)])
+            last = mark
+            if number % 165 == 0:
+                yield b"tag v%d\nfrom :%d\ntagger C <c@example.com> 1700000000 +0000\ndata 2\nt\n\n" % (number, mark)
+            for extra in range(30 if number % 15_000 == 14_999 else 0):
+                yield b"commit refs/heads/release%d\nmark :%d\n" % (number, mark + 1) + b"\n".join(commit(number).split(b"\n")[1:])
+                yield b"from :%d\n" % mark
+                yield from files([extra])
+                mark += 1
+
+    return bench.repository("long", stream())
+
+
+def migration(bench):
+    """a history of 60,000 commits and 180,000 objects pushed by --mirror and cloned by --mirror, over ssh"""
+    made, said = history(bench), []
+    with running_sshd(bench) as sshd:
+        for key, url in ("front", "testing"), ("plain", bench.room / "beside"):
+            bench.git("init", "--bare", bench.room / "beside")
+            bench.environment["GIT_SSH_COMMAND"], bench.environment["GIT_SSH_VARIANT"] = sshd(key), "ssh"
+            url = "%s@127.0.0.1:%s" % (pwd.getpwuid(os.getuid()).pw_name, url)
+            there = bench.room / ("mirror-" + key)
+            times = bench.seconds("-C", made, "push", "--mirror", url), bench.seconds("clone", "--mirror", url, there)
+            bench.git("-C", there, "fsck")
+            refs = [subprocess.run(["git", "for-each-ref"], cwd=where, capture_output=True, check=True).stdout for where in (made, there)]
+            assert refs[0] == refs[1] and refs[0].count(b"\n") > 300
+            said.append("%s: push %.1f s, clone %.1f s" % (key, *times))
+            if key == "front":
+                shallow = bench.room / "shallow"
+                said[0] += ", clone --depth 1 %.1f s" % bench.seconds("clone", "--bare", "--depth", "1", url, shallow)
+    return "; ".join(said)
+
+
+@contextlib.contextmanager
+def running_sshd(bench):
+    """A sshd with a key `front`, which comes to the front end, and a key `plain`, which comes to git. Gives the ssh of each."""
+    room = bench.room / "ssh"
+    room.mkdir()
+    for name in "host", "front", "plain":
+        subprocess.run(["ssh-keygen", "-q", "-t", "ed25519", "-N", "", "-f", room / name], check=True)
+    lines = ['command="%s carol",restrict %s' % (FRONT, (room / "front.pub").read_text()), (room / "plain.pub").read_text()]
+    (room / "keys").write_text("".join(lines))
+    with socket.create_server(("127.0.0.1", 0)) as free:
+        port = free.getsockname()[1]
+    (room / "config").write_text(
+        "Port %d\nListenAddress 127.0.0.1\nHostKey %s/host\nAuthorizedKeysFile %s/keys\nPidFile none\nStrictModes no\nUsePAM no\n" % (port, room, room))
+    os.makedirs("/run/sshd", exist_ok=True)
+    options = "-oIdentitiesOnly=yes -oBatchMode=yes -oStrictHostKeyChecking=no -oUserKnownHostsFile=%s/known -oLogLevel=ERROR" % room
+    with subprocess.Popen(["/usr/sbin/sshd", "-D", "-f", room / "config"], stderr=subprocess.DEVNULL) as started:
+        time.sleep(1)
+        yield lambda key: "ssh -F none -p %d -i %s/%s %s" % (port, room, key, options)
+        started.kill()
+
+
+def slow(bench):
+    """forty clients that clone 10,000 objects and 130 MB at 20 KB/s"""
+    clone(bench)
+    with tempfile.TemporaryDirectory(dir="/var/tmp") as spool:
+        front = [str(FRONT), *("--spool", spool, "--sessions", "100"), "carol", "here", "git-upload-pack 'testing'"]
+        clients = [subprocess.Popen(front, stdin=subprocess.PIPE, stdout=subprocess.PIPE) for _ in range(40)]
+        reading = [threading.Thread(target=read_slowly, args=(client,), daemon=True) for client in clients]
+        for thread in reading:
+            thread.start()
+        times = []
+        for _ in range(100):
+            times.append(bench.seconds("ls-remote", "here:testing"))
+            time.sleep(0.1)
+        memory = sum(int(line.split()[1]) for client in clients for line in smaps(client) if line.startswith("Pss:"))
+        disk = sum(int(path.read_text() or "0") for path in pathlib.Path(spool).glob("*.*") if path.name != ".lock")
+        for client in clients:
+            client.kill()
+            client.wait()
+    times.sort()
+    return "ls-remote beside them %.2f s, at most %.2f s; they have %d MB of memory and %d MB of spools" % (
+        times[len(times) // 2], times[-1], memory >> 10, disk >> 20)
+
+
+def smaps(client):
+    return pathlib.Path("/proc/%d/smaps_rollup" % client.pid).read_text().splitlines()
+
+
+def read_slowly(client):
+    """Wants the branch of the clone, and reads 20 KB in a second."""
+    lines = b""
+    while not lines.endswith(b"0000"):
+        lines += client.stdout.read1(1)
+    want = next(line for line in lines.split(b"\n") if line.endswith(b"refs/heads/history"))[4:44]
+    client.stdin.write(b"0031want %s0000" % want + b"0009done\n")
+    client.stdin.flush()
+    while client.stdout.read1(2000):
+        time.sleep(0.1)
+
+
+CASES = {case.__name__: case for case in (small, large, clone, migration, slow)}
 
 
 def main():

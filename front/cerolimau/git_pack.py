@@ -1,5 +1,6 @@
 """Git's packs (gitformat-pack): one is read whole, with its deltas resolved; one is written without deltas."""
 import hashlib
+import os
 import zlib
 
 from .delta import BadDelta, read_sizes, result_pieces
@@ -9,8 +10,23 @@ from .streams import Cut, Spool
 OFFSET_DELTA, REFERENCE_DELTA = 6, 7
 CHUNK = 1 << 18
 SAMPLE = 4096
+FEW = 1000  # objects that are compressed one after the other
+MAX_THREADS = 4
+LEAST = 1000  # bytes as which the work on an object counts beside its body's
 LONGEST_SIZES = 20  # bytes of the two sizes that begin a delta
-SLICES = "push it in slices (front/push-in-slices)"
+
+
+class Limits:
+    """What a push may have."""
+
+    def __init__(self, what, objects, bytes_of_all):
+        self.what = what
+        self.objects = objects
+        self.bytes = bytes_of_all
+
+
+OF_ONE_PUSH = Limits("one that is atomic, or goes to gitolite-admin,", MAX_ENTRIES, MAX_BODIES)
+OF_SLICES = Limits("one", 1_000_000, 1 << 32)
 
 
 class PackRefused(Exception):
@@ -36,13 +52,15 @@ class Entry:
 
 
 class GitPack:
-    """A client's pack: read to its end, its trailer compared, its deltas resolved, its objects within the server's limits."""
+    """A client's pack: read to its end, its trailer compared, its deltas resolved, its objects within the server's limits, and all of them
+    within those of one push, or of one that is cut into slices."""
 
-    def __init__(self, source):
+    def __init__(self, source, can_be_cut=False):
         self.entries = []
+        self.total = 0  # bytes of the objects
+        self._limits = OF_SLICES if can_be_cut else OF_ONE_PUSH
         self._input = _PackInput(source)
         self._spool = Spool()
-        self._total = 0
         self._waiting = {}  # deltas by their base, which is an offset in the pack or a name
         self._offsets = set()  # where entries begin in the pack
         try:
@@ -51,10 +69,13 @@ class GitPack:
             raise PackRefused("truncated at entry %d" % len(self.entries)) from None
         self._resolve()
 
-    def objects(self):
-        """The kinds and bodies of the objects, in the pack's order."""
-        for entry in self.entries:
-            yield entry.kind, self._spool.read(entry.place, entry.size)
+    def objects(self, entries):
+        """The kinds and bodies of these objects."""
+        for entry in entries:
+            yield entry.kind, self.body(entry)
+
+    def body(self, entry):
+        return self._spool.read(entry.place, entry.size)
 
     def _read(self):
         for number in range(self._read_header()):
@@ -80,14 +101,14 @@ class GitPack:
         if version != 2:
             raise PackRefused("version %d" % version)
         count = int.from_bytes(self._input.take(4), "big")
-        if count > MAX_ENTRIES:
-            raise PackRefused("the push has %d objects, and one may have %d at most: %s" % (count, MAX_ENTRIES, SLICES))
+        if count > self._limits.objects:
+            raise PackRefused("the push has %d objects, and %s may have %d at most" % (count, self._limits.what, self._limits.objects))
         return count
 
     def _read_whole(self, entry, kind):
         entry.kind, entry.size = kind, entry.stored
         if entry.size > MAX_BODIES:
-            _refuse_size(entry)
+            _refuse_size(entry)  # its name isn't worth the reading
         sha1 = begin_name(kind, entry.size)
         for piece in self._inflated(entry):
             sha1.update(piece)
@@ -130,9 +151,9 @@ class GitPack:
         if entry.size > MAX_BODY and (entry.kind or entry.size > MAX_BODIES):
             _refuse_size(entry)
         if entry.size <= MAX_BODY:
-            self._total += entry.size
-        if max(self._total, self._spool.size) > MAX_BODIES:
-            raise PackRefused("the push has more than %d bytes of objects, which are the most of one: %s" % (MAX_BODIES, SLICES))
+            self.total += entry.size
+        if max(self.total, self._spool.size) > self._limits.bytes:
+            raise PackRefused("the push has more than %d bytes of objects, which are the most of %s" % (self._limits.bytes, self._limits.what))
 
     def _resolve(self):
         """Each object that is there resolves the deltas over it, which then are there too."""
@@ -235,8 +256,29 @@ def git_pack(count, objects):
 def _git_pieces(count, objects):
     keep_freed_memory()
     yield pack_header(count)
+    if count < FEW:
+        yield from _entries(objects)
+    else:
+        from .at_once import mapped
+
+        yield from mapped(lambda batch: b"".join(_entries(batch)), _batches(objects), min(MAX_THREADS, os.cpu_count() or 1))
+
+
+def _entries(objects):
     for kind, body in objects:
         yield entry_head(kind, len(body)) + deflate(body)
+
+
+def _batches(objects):
+    """The same objects in lists, each of some hundred kilobytes."""
+    batch, size = [], 0
+    for kind, body in objects:
+        batch.append((kind, body))
+        size += len(body) + LEAST
+        if size > CHUNK:
+            yield batch
+            batch, size = [], 0
+    yield batch
 
 
 def keep_freed_memory():

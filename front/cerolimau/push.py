@@ -1,129 +1,152 @@
-"""A push: `git-receive-pack` (gitprotocol-pack, "Pushing Data To a Server")."""
-from .ends import CLOSED, pass_advertisement
+"""A push: `git-receive-pack` (gitprotocol-pack, "Pushing Data To a Server").
+
+All of it is read before the server is asked for more than its advertisement: a second session pushes, or several do (slices.py).
+"""
+from .ends import CLOSED, ServerRefused
 from .git_pack import GitPack, PackRefused
 from .packets import FLUSH, HEX_DIGITS, packet, read_packet
-from .raw_pack import raw_pack
+from .raw_pack import MAX_BODIES, raw_pack
+from .refs import ZERO_ID, Refs
 from .streams import Refused
 
 MAX_COMMANDS = 10_000
+MAX_LINES = 100_000  # of commands and shallow commits that a client may send
 PIECE = 1 << 16
-ZERO_ID = b"0" * 40
+WORDS = b"side-band-64k", b"ofs-delta"
+ADMIN_REPOSITORY = "gitolite-admin"
 NOT_TOLD = CLOSED + ", and the push may be done or not: fetch, and see"
-REFUSED_FORMS = {  # what a client may send in place of a command, and what it is told
-    b"shallow": "a shallow clone can't push here: make it whole with `git fetch --unshallow`",
-    b"push-cert": "signed pushes aren't taken here",
-}
+SIGNED = "signed pushes aren't taken here"
+UNPACKER_ERROR = b"unpacker error"
 
 
-def push(client, server, when_done):
-    """Returns the exit status. `when_done` is called with the refs that were done, behind the session and before its client has all of
-    the report: who has it knows that what `when_done` does is done."""
-    if not pass_advertisement(client, server):
-        return 1
-    commands = read_commands(client)
-    if not commands:
-        server.send(FLUSH)
+def push(client, sessions, repository, slice_objects, when_done):
+    """Returns the exit status. A push of more than so many objects is cut into slices. `when_done` is called with the refs that were done, before the client has all of the report: who has it
+    knows that what `when_done` does is done."""
+    server, lines = sessions.open()
+    server.send(FLUSH)  # this session only advertises
+    server.close()
+    refs = Refs(lines)
+    refs.advertise(client, [*refs.words.split(), *WORDS])
+    commands = Commands(client)
+    if not commands.rows:
         return 0
+    if b"side-band-64k" in commands.words:
+        client.begin_bands()
+    is_whole = commands.is_atomic or repository == ADMIN_REPOSITORY  # a conf of a slice would come into force
     try:
-        pack = GitPack(client.source) if needs_pack(commands) else None
+        pack = GitPack(client.source, not is_whole) if commands.need_pack() else None
+        if pack and not is_whole and (len(pack.entries) > slice_objects or pack.total > MAX_BODIES):
+            from .slices import push_slices
+
+            outcomes = push_slices(client, sessions, commands.rows, pack, slice_objects)
+            unpacked = b"ok"
+        else:
+            unpacked, outcomes = push_once(client, sessions, commands, pack)
     except PackRefused as refused:
-        report_refused_pack(client, commands, str(refused))
-        return 1
-    send_push(server, commands, pack)
-    if not wants_report(commands):
-        return pass_silence(client, server, commands, when_done)
-    return pass_report(client, server, pack, when_done)
+        unpacked, outcomes = str(refused).encode(), [UNPACKER_ERROR] * len(commands.rows)
+    when_done([ref for (_, _, ref), outcome in zip(commands.rows, outcomes) if outcome == b"ok"])
+    write_report(client, commands, unpacked, outcomes)
+    return 0 if unpacked == b"ok" and all(outcome == b"ok" for outcome in outcomes) else 1
 
 
-def read_commands(client):
-    """The payloads of the command packets; none where the client has nothing to push."""
-    commands = []
-    while (line := read_packet(client.source)) is not None:
-        word = line.split(b" ", 1)[0].split(b"\0", 1)[0]
-        if word in REFUSED_FORMS:
-            raise Refused(REFUSED_FORMS[word])
-        if len(commands) == MAX_COMMANDS:
-            raise Refused("a push may change %d refs at most: push some of them at a time" % MAX_COMMANDS)
-        commands.append(line)
-    return commands
+class Commands:
+    """What the client asks for: rows of an old id, a new id and a ref, and the words behind the first."""
+
+    def __init__(self, client):
+        self.rows, self.words = [], []
+        lines = 0
+        while (line := read_packet(client.source)) is not None:
+            word = line.split(b" ", 1)[0].split(b"\0", 1)[0]
+            lines += 1
+            if lines > MAX_LINES or len(self.rows) == MAX_COMMANDS:
+                raise Refused("a push may change %d refs at most: push some of them at a time" % MAX_COMMANDS)
+            if word == b"push-cert":
+                raise Refused(SIGNED)
+            if word != b"shallow":  # of a shallow clone: the server finds out itself what is missing
+                self._add(line)
+        self.is_atomic = b"atomic" in self.words
+        self.want_report = b"report-status" in self.words
+
+    def _add(self, line):
+        if not self.rows:
+            line, _, words = line.partition(b"\0")
+            self.words = words.rstrip(b"\n").split(b" ")
+        line = line.rstrip(b"\n")
+        ids = line[:40] + line[41:81]
+        if len(ids) < 80 or ids.strip(HEX_DIGITS) or line[40:41] + line[81:82] != b"  " or b"\0" in line:
+            raise ServerRefused("malformed input")
+        self.rows.append((line[:40], line[41:81], line[82:]))
+
+    def need_pack(self):
+        """A push that only deletes has no pack."""
+        return any(new != ZERO_ID for _, new, _ in self.rows)
 
 
-def needs_pack(commands):
-    """A push that only deletes has no pack, and one with a command that breaks the form is refused before it."""
-    return all(map(is_command, commands)) and any(command[41:81] != ZERO_ID for command in commands)
+def push_once(client, sessions, commands, pack):
+    """What the server says of the pack and of each command."""
+    words = b"report-status atomic" if commands.is_atomic else b"report-status"
+    unpacked, outcomes = send_push(sessions, commands.rows, words, pack, pack.entries if pack else [])
+    if pack:
+        tell_entry(client, pack, unpacked)
+    return unpacked, outcomes
 
 
-def is_command(line):
-    ids = line[:40] + line[41:81]
-    return len(ids) == 80 and not ids.strip(HEX_DIGITS) and line[40:41] == line[81:82] == b" "
-
-
-def wants_report(commands):
-    return b"report-status" in commands[0].partition(b"\0")[2].rstrip(b"\n").split(b" ")
-
-
-def ref_of(command):
-    return command.partition(b"\0")[0].rstrip(b"\n")[82:]
-
-
-def report_refused_pack(client, commands, text):
-    """What the server says of a pack that it refuses, with the front end's reason."""
-    if not wants_report(commands):
-        client.tell(text)
-        return
-    client.write(packet(b"unpack %s\n" % text.encode()))
-    for command in commands:
-        client.write(packet(b"ng %s unpacker error\n" % ref_of(command)))
-    client.write(FLUSH)
-    client.flush()
-
-
-def send_push(server, commands, pack):
-    """Sends the commands and the pack. Where the server stops reading, its report says why."""
-    sending = bytearray(b"".join(map(packet, commands)) + FLUSH)
-    for piece in raw_pack(len(pack.entries), pack.objects()) if pack else ():
+def send_push(sessions, rows, words, pack, entries):
+    """One push at the server, of these commands and these entries of the client's pack. Where the server stops reading, its report says
+    why."""
+    server, _ = sessions.open_for_pack("push")
+    sending = bytearray()
+    for number, row in enumerate(rows):
+        sending += packet(b"%s %s %s" % row + (b"\0" + words if number == 0 else b""))
+    sending += FLUSH
+    needs_pack = any(new != ZERO_ID for _, new, _ in rows)
+    for piece in raw_pack(len(entries), pack.objects(entries) if pack else ()) if needs_pack else ():
         sending += piece
         if len(sending) >= PIECE:
             if not server.send(sending):
-                return
+                break
             sending = bytearray()
     server.send(sending)
-
-
-def pass_report(client, server, pack, when_done):
-    status, done = 0, []
-    while (line := server.read_packet(NOT_TOLD)) is not None:
-        client.write(packet(line))
-        word, _, text = line.rstrip(b"\n").partition(b" ")
-        if word == b"ok":
-            done.append(text)
-        elif line != b"unpack ok\n":
-            status = 1
-        if word == b"unpack":
-            tell_entry(client, pack, text)
-        if word == b"ERR":
-            client.flush()
-            return status
+    unpacked, outcomes = read_report(server)
     server.close()
-    when_done(done)
-    client.write(FLUSH)
-    client.flush()
-    return status
+    return unpacked, (outcomes + [UNPACKER_ERROR] * len(rows))[:len(rows)]
+
+
+def read_report(server):
+    """The text of the line `unpack`, and for each command `ok` or the reason of its `ng`."""
+    unpacked, outcomes = b"", []
+    while (line := server.read_packet(NOT_TOLD)) is not None:
+        word, _, text = line.rstrip(b"\n").partition(b" ")
+        if word == b"ERR":
+            raise ServerRefused(text.decode(errors="replace"))
+        if word == b"unpack":
+            unpacked = text
+        elif word == b"ok":
+            outcomes.append(b"ok")
+        else:
+            outcomes.append(text.partition(b" ")[2])
+    return unpacked, outcomes
+
+
+def write_report(client, commands, unpacked, outcomes):
+    """A client that asked for no report is told by lines what wasn't done."""
+    results = [(ref, outcome) for (_, _, ref), outcome in zip(commands.rows, outcomes)]
+    if commands.want_report:
+        client.write(packet(b"unpack %s\n" % unpacked))
+        for ref, outcome in results:
+            client.write(packet(b"ok %s\n" % ref if outcome == b"ok" else b"ng %s %s\n" % (ref, outcome)))
+        client.write(FLUSH)
+    elif unpacked != b"ok":
+        client.tell(unpacked.decode(errors="replace"))
+    else:
+        for ref, outcome in results:
+            if outcome != b"ok":
+                client.tell((ref + b": " + outcome).decode(errors="replace"))
+    client.end_bands()
 
 
 def tell_entry(client, pack, text):
     """The server counts the entries of a pack, and the person at the keyboard knows the names of objects."""
     number = text.rpartition(b" at entry ")[2]
-    if pack and number.isdigit() and int(number) < len(pack.entries):
+    if number.isdigit() and int(number) < len(pack.entries):
         client.tell("entry %s is %s" % (number.decode(), pack.entries[int(number)]))
-
-
-def pass_silence(client, server, commands, when_done):
-    """Without a report the server says nothing, but for an ERR packet. What was done isn't known."""
-    if server.source.peek(1):
-        client.write(packet(server.read_packet()))
-        client.flush()
-        return 1
-    server.close()
-    when_done([ref_of(command) for command in commands])
-    return 0

@@ -1,11 +1,11 @@
-"""Reading from file descriptors with a limit on the wait, and keeping bytes aside."""
+"""Reading from and writing to file descriptors with a limit on the wait, and keeping bytes aside."""
 import io
 import os
 import signal
 
 IN_MEMORY = 4 << 20
 BUFFER = 1 << 16
-idle_seconds = 0  # that a read may wait; 0 for ever
+idle_seconds = 0  # that a read or a write may wait; 0 for ever
 
 
 class Refused(Exception):
@@ -17,12 +17,12 @@ class Cut(Exception):
 
 
 def limit_waiting(seconds):
-    """From here on, so many seconds without a byte from either end raise Refused in the main thread."""
+    """From here on, so many seconds in which neither end gives or takes a byte raise Refused in the main thread."""
     global idle_seconds
     idle_seconds = seconds
 
     def give_up(_signal, _frame):
-        raise Refused("nothing came for %d seconds" % seconds)
+        raise Refused("nothing came or went for %d seconds" % seconds)
 
     signal.signal(signal.SIGALRM, give_up)
 
@@ -35,6 +35,9 @@ class _Descriptor(io.RawIOBase):
     def readable(self):
         return True
 
+    def writable(self):
+        return True
+
     def readinto(self, room):
         signal.alarm(idle_seconds)
         try:
@@ -42,10 +45,19 @@ class _Descriptor(io.RawIOBase):
         except ConnectionResetError:
             return 0
 
+    def write(self, data):
+        signal.alarm(idle_seconds)
+        return os.write(self.number, data)
+
 
 def reader(number):
     """A buffered reader of a file descriptor. A connection that is reset ends."""
     return io.BufferedReader(_Descriptor(number), BUFFER)
+
+
+def writer(number):
+    """A buffered writer to a file descriptor."""
+    return io.BufferedWriter(_Descriptor(number), BUFFER)
 
 
 def read_exactly(source, count):
@@ -56,31 +68,46 @@ def read_exactly(source, count):
 
 
 class Spool:
-    """Bytes that are kept aside and read by their places: in memory while they are few, else in a file without a name."""
+    """Bytes that are kept aside and read by their places: in memory while they are few, else in a file without a name. One thread may add
+    while another reads what is there."""
+
+    folder = "/var/tmp"  # /tmp may be memory
+
+    @staticmethod
+    def reserve(_count):
+        """Called before so many more bytes go into files. It may raise Refused (slots.py)."""
 
     def __init__(self):
         self.size = 0
         self._memory = bytearray()
         self._file = None
+        self._flushed = 0
 
     def add(self, data):
-        if self._file is None and self.size + len(data) > IN_MEMORY:
+        if self._memory is not None and self.size + len(data) > IN_MEMORY:
             self._move_to_file()
-        if self._file is None:
+        if self._memory is not None:
             self._memory += data
         else:
+            Spool.reserve(len(data))
             self._file.write(data)
         self.size += len(data)
 
     def read(self, place, count):
-        if self._file is None:
-            return bytes(self._memory[place:place + count])
-        self._file.flush()
+        memory = self._memory
+        if memory is not None:
+            return bytes(memory[place:place + count])
+        if place + count > self._flushed:
+            size = self.size
+            self._file.flush()
+            self._flushed = size
         return os.pread(self._file.fileno(), count, place)
 
     def _move_to_file(self):
         import tempfile  # its import would cost every small push more than the rest of it
 
-        self._file = tempfile.TemporaryFile(buffering=BUFFER, dir="/var/tmp")  # /tmp may be memory
+        Spool.reserve(self.size)
+        self._file = tempfile.TemporaryFile(buffering=BUFFER, dir=Spool.folder)
         self._file.write(self._memory)
+        self._file.flush()
         self._memory = None

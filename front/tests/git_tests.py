@@ -248,6 +248,18 @@ def info_and_perms(here):
     expect(here.git("bob", "ls-remote", "here:u/alice/x", status=128), "DENIED by fallthru")
 
 
+def as_gitolites_users_type(here):
+    """`help`, `info` with a text, and `perms` in the forms of Gitolite, for several users at once too."""
+    for command in "help", "-h", "info -h", "perms --help":
+        expect(here.ask("alice", command), "hello alice\n", "perms REPOSITORY + ROLE USER ..")
+    assert here.ask("alice", "perms -c u/alice/typed + READERS bob cal") == b"perms: changed\n" * 2
+    assert here.ask("alice", "perms u/alice/typed -l") == here.ask("alice", "perms -l u/alice/typed") == b"READERS bob\nREADERS cal\n"
+    assert here.ask("alice", "perms u/alice/typed - READERS bob cal") == b"perms: changed\n" * 2
+    assert here.ask("alice", "info typed") == b"hello alice\nR W\tu/alice/typed\n"
+    assert here.ask("bob", "info typed") == b"hello bob\n"
+    expect(here.ask("bob", "perms -c u/alice/other + READERS bob", status=1), "cerolimau: W any u/alice/other bob DENIED by fallthru")
+
+
 def eight_at_once(here):
     """Eight clients push to one repository and clone it at once."""
     made = [here.repository({"file": "%d\n" % number * 1000}) for number in range(8)]
@@ -260,5 +272,6 @@ def eight_at_once(here):
 
 TESTS = (
     empty_repository, everything_there_and_back, deltas_of_both_kinds, incremental_fetch, tags_follow, forced_and_with_lease, deletes,
-    atomic, notes, nothing_new, many_refs, denials, conf_takes_effect, conf_refused, confs_at_their_limits, info_and_perms, eight_at_once,
+    atomic, notes, nothing_new, many_refs, denials, conf_takes_effect, conf_refused, confs_at_their_limits, info_and_perms,
+    as_gitolites_users_type, eight_at_once,
 )

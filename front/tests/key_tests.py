@@ -94,7 +94,8 @@ def keydir_of_a_push(here):
     said = here.put_conf(conf, files=files, options=options)
     expect(said, "cerolimau: keydir/bad.pub is left out: it doesn't begin with a key's type and the key")
     assert users() == ["ann", "bob"]
-    assert keys.read_text().startswith("mine\n%s\ncommand=\"%s --keys %s ann\",restrict " % (START, COMMAND, keys))
+    words = " ".join([*here.front("ann")[:-1], *options])
+    assert keys.read_text().startswith("mine\n%s\ncommand=\"%s ann\",restrict " % (START, words))
     here.put_conf(conf + "X\n", files={"keydir/cal.pub": key_of("cal")}, status=1, options=options)
     assert users() == ["ann", "bob"]
     where = here.room / "gitolite-admin"

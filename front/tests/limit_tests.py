@@ -22,12 +22,12 @@ def import_blobs(here, where, bodies):
 
 
 def too_many_objects(here):
-    """A push of more than 100,000 objects is told so."""
+    """An atomic push of more than 100,000 objects is told so."""
     made = here.folder()
     here.git("ann", "init", cwd=made)
     import_blobs(here, made, (b"%d" % number for number in range(100_000)))
-    said = here.git("ann", "push", "here:t/many", "master", cwd=made, status=1)
-    expect(said, "remote unpack failed: the push has 101002 objects, and one may have 100000 at most: push it in slices (front/push-in-slices)")
+    said = here.git("ann", "push", "--atomic", "here:t/many", "master", cwd=made, status=1)
+    expect(said, "remote unpack failed: the push has 101002 objects, and one that is atomic, or goes to gitolite-admin, may have 100000 at most")
     expect(said, "[remote rejected]     master -> master (unpacker error)")
     assert "died of signal" not in said, said
 
@@ -63,8 +63,8 @@ def blob_name(body):
     return hashlib.sha1(b"blob %d\0" % len(body) + body).digest()
 
 
-def push_of(pack):
-    return packet(("%s %s refs/heads/x\0report-status" % (ZERO, "1" * 40)).encode()) + FLUSH + pack
+def push_of(pack, words="report-status"):
+    return packet(("%s %s refs/heads/x\0%s" % (ZERO, "1" * 40, words)).encode()) + FLUSH + pack
 
 
 def too_large_by_delta(here):
@@ -81,17 +81,18 @@ def copies(size):
 
 
 def too_many_bytes(here):
-    """A push of more than 256 MiB is told so."""
+    """An atomic push of more than 256 MiB is told so."""
     bodies = [bytes([number]) * (MB16 - 1) for number in range(17)]
-    said = here.ask("ann", "git-receive-pack 't/large'", push_of(pack_of([(3, b"", body) for body in bodies])), status=1)
-    expect(said, "unpack the push has more than 268435456 bytes of objects, which are the most of one: push it in slices")
+    said = here.ask("ann", "git-receive-pack 't/large'", push_of(pack_of([(3, b"", body) for body in bodies]), "report-status atomic"), status=1)
+    expect(said, "unpack the push has more than 268435456 bytes of objects, which are the most of one that is atomic, or goes to gitolite-admin,")
 
 
 def too_many_bytes_by_deltas(here):
     """So are small deltas that make many bytes."""
     base = bytes(MB16)
     delta = size_of(MB16) + size_of(MB16) + copies(MB16)
-    said = here.ask("ann", "git-receive-pack 't/large'", push_of(pack_of([(3, b"", base)] + [(7, blob_name(base), delta)] * 16)), status=1)
+    pack = pack_of([(3, b"", base)] + [(7, blob_name(base), delta)] * 16)
+    said = here.ask("ann", "git-receive-pack 't/large'", push_of(pack, "report-status atomic"), status=1)
     expect(said, "unpack the push has more than 268435456 bytes of objects")
 
 
@@ -127,7 +128,7 @@ def too_many_lines(here):
 
 
 def slices(here):
-    """push-in-slices pushes a history with merges, goes on where it was cut, and names what is too large for any push."""
+    """push-in-slices pushes a history with merges, goes on where it was cut, takes all branches, and names what is too large for any push."""
     made = here.repository()
     for number in range(20):
         here.commit(made, {"%d/%d" % (number, file): "%d %d\n" % (number, file) for file in range(5)})
@@ -140,12 +141,13 @@ def slices(here):
     program = str(FRONT / "push-in-slices")
     here.git("ann", "push", "here:t/slices", "HEAD~12:refs/heads/master", cwd=made)
     said = run([program, "--objects", "30", "here:t/slices", "master"], **how)
-    assert said.count("commits along the first parents") >= 4, said
+    expect(said, "refs/heads/master, push 1 of ")
+    assert said.count("refs/heads/master, push ") >= 3, said
     assert here.git("ann", "ls-remote", "here:t/slices", "master").split()[0] == here.head(made)
     expect(run([program, "here:t/slices", "master"], **how), "Everything up-to-date")
-    said = run([program, "--objects", "6", "here:t/slices2", "master"], status=1, **how)
-    second = here.git("ann", "rev-list", "--first-parent", "--reverse", "master", cwd=made).split()[1]
-    expect(said, "commit %s alone is too large for one push" % second)
+    here.git("ann", "tag", "-m", "a tag", "v1", cwd=made)
+    expect(run([program, "--all", "--objects", "30", "here:t/slices2"], **how), "refs/heads/master, push 2 of ", "v1 -> v1")
+    assert here.git("ann", "ls-remote", "here:t/slices2").count("refs/heads/") == 5
     here.commit(made, {"folder/large": bytes(MB16 + 1)})
     said = run([program, "here:t/slices", "master"], status=1, **how)
     expect(said, "nothing was pushed", "%s folder/large has 16777217 bytes" % here.head(made, "HEAD:folder/large"))

@@ -39,6 +39,11 @@ repo secrets
     option deny-rules = 1
     - = bob
     RW+ = @staff
+repo narrow
+    RW master = ann
+repo named
+    - VREF/NAME/bad = ann
+    RW+ = ann
 """
 GIT_CONFIG = """\
 [user]
@@ -90,7 +95,7 @@ class World:
 
     def front(self, user, *options):
         """The words by which a user comes to the server."""
-        return [str(FRONT / "cerolimau-ssh"), *options, user]
+        return [str(FRONT / "cerolimau-ssh"), "--spool", str(self.room / "spool"), "--patience", "1", *options, user]
 
     def git(self, user, *words, cwd=None, status=0, options=(), **environment):
         """Runs git with the front end as its ssh, and returns all that it said."""
