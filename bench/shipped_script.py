@@ -562,6 +562,38 @@ session(pushes(b"admin", b"gitolite-admin", [(None, refused, branch(b"x"))]))
 session(asks(b"a" * 64, b"info"))
 session(asks(b"a" * 65, b"info"))
 
+# VIII. a role that a conf declares
+
+UNDECLARED = b"""repo gitolite-admin
+    RW+  = admin
+repo CREATOR/[a-z]+
+    C    = alice
+    RW+  = CREATOR
+    RW   = TESTERS
+    R    = READERS
+"""
+DECLARED = UNDECLARED + b"    option role.TESTERS = 1\n"
+declared, declared_objects = conf(DECLARED, odd)
+undeclared, undeclared_objects = conf(UNDECLARED, declared)
+
+# 175 to 179: alice makes a repository, and gives the role to bob; a user whose name is that word isn't let in
+session(pushes(b"admin", b"gitolite-admin", [(odd, declared, MASTER)], raw_pack([declared] + declared_objects)))
+session(asks(b"alice", b"git-receive-pack 'alice/z'") + b"0000")
+session(asks(b"alice", b"perms alice/z + TESTERS bob"))
+session(asks(b"bob", b"git-receive-pack 'alice/z'") + b"0000")
+session(asks(b"TESTERS", b"git-receive-pack 'alice/z'"))
+
+# 180 to 184: without the option the word is a name; who holds the role is kept, and can't be changed
+session(pushes(b"admin", b"gitolite-admin", [(declared, undeclared, MASTER)], raw_pack([undeclared] + undeclared_objects)))
+session(asks(b"bob", b"git-receive-pack 'alice/z'"))
+session(asks(b"TESTERS", b"git-receive-pack 'alice/z'") + b"0000")
+session(asks(b"alice", b"perms -l 'alice/z'"))
+session(asks(b"alice", b"perms alice/z + TESTERS cal"))
+
+# 185 and 186: with the first conf again it is a role
+session(pushes(b"admin", b"gitolite-admin", [(undeclared, declared, MASTER)], NO_OBJECTS))
+session(asks(b"bob", b"git-receive-pack 'alice/z'") + b"0000")
+
 
 if __name__ == "__main__":
     for body in sessions:

@@ -1,16 +1,23 @@
 -- Roles that a user holds, and groups with words for users by what they are.
 use Rattle.std.proofs.Common.{◌≡◌, ℕ, List, [], ◌∷◌, get_or, Bool, true, false, not, ◌&&◌, ◌||◌, refl, sym, ap, ap₂, ◌∙◌, subst, Contains}
-use Rattle.std.specs.Prelude.{◌↔◌, IsTrue, codes, if◌then◌else◌}
+use Rattle.std.specs.Prelude.{◌↔◌, IsTrue, Option, codes, if◌then◌else◌}
 use Rattle.std.specs.List.{list_any, Any}
 use Rattle.std.specs.Str.{bytes_eq}
-use Rattle.std.proofs.lemmas.Bool.{and_parts, and_from, both_ways, not-true}
+use Rattle.std.proofs.lemmas.Bool.{and_parts, and_from, both_ways}
 use Rattle.std.proofs.lemmas.Bool.Decides.{same_from_decides}
 use Rattle.std.proofs.lemmas.List.Folds.{Any-from_list_any, list_any_at}
 use Rattle.std.proofs.lemmas.Slice.Eq.{bytes_eq-Decides}
 use Rattle.conf_lex.specs.Names.{is_user_name}
-use Rattle.conf_lex.specs.Names as words
 use Rattle.conf_groups.specs.Groups.{holds}
-use Rattle.wild_perms.specs.Roles.{is_role}
+use Rattle.rule_compile.proofs.RoleLemmas.{declared_is_mentioned}
+use Rattle.rule_compile.specs.Patterns.{Patterns}
+use Rattle.rule_compile.specs.Roles.{declares, is_common_role, is_mentioned}
+use Rattle.rule_compile.specs.declared.rule.OptionLine.{OptionLine}
+use Rattle.rule_compile.specs.declared.rule.UserWord.{UserWord}
+use Rattle.rule_compile.specs.declared.rule.UserWord.TheVariants as user
+use Rattle.access_check.specs.Laws.{OnlyDeclaredRolesCover}
+use Rattle.access_check.specs.Questions.{role_covers}
+use Rattle.access_check.specs.Users.{Asked, covers_user, holds_role, is_creator, word_covers}
 use Rattle.wild_perms.specs.declared.role.RoleEntry.{RoleEntry}
 
 -- ---- roles
@@ -42,175 +49,150 @@ role_is roles role user b held = same_from_decides b (list_any (is_entry role us
 
 -- ---- a group's members
 
--- what a word covers, by what the user is
-abbrev covers_as : Bool → (List ℕ → Bool) → List ℕ → List ℕ → Bool
-covers_as creator held user word = if bytes_eq word (codes "CREATOR") then creator else if is_role word then held word else bytes_eq word user
+first_of : (a b : Bool) → a ≡ true → (a || b) ≡ true
+first_of true b e = refl
+first_of false b e = absurd (both_ways false refl e)
 
--- the same, each kind of word by itself
-abbrev parts_of : Bool → Bool → Bool → Bool → Bool → Bool → Bool → Bool
-parts_of name creator is_creator reads is_reads writes is_writes = name || ((creator && is_creator) || ((reads && is_reads) || (writes && is_writes)))
+second_of : (a b : Bool) → b ≡ true → (a || b) ≡ true
+second_of true b e = refl
+second_of false b e = e
 
-differ : (a b : List ℕ) → bytes_eq a b ≡ false → bytes_eq b a ≡ false
-differ a b apart = by_case (bytes_eq b a) refl
+one_met : (test : List ℕ → Bool) (w : List ℕ) (ws : List (List ℕ)) (word : List ℕ) (b : Bool) → bytes_eq w word ≡ b → test word ≡ true → (holds ws word ≡ true → list_any test ws ≡ true) → (b || holds ws word) ≡ true
+    → (test w || list_any test ws) ≡ true
+one_met test w ws word true e met later there = first_of (test w) (list_any test ws) (ap test (same_bytes w word e) ∙ met)
+one_met test w ws word false e met later there = second_of (test w) (list_any test ws) (later there)
+
+-- a word that is there meets the test
+member_met : (test : List ℕ → Bool) (words : List (List ℕ)) (word : List ℕ) → holds words word ≡ true → test word ≡ true → list_any test words ≡ true
+member_met test [] word there met = there
+member_met test (w ∷ ws) word there met = one_met test w ws word (bytes_eq w word) refl met (λ held. member_met test ws word held met) there
+
+-- no word that is there does
+none_met : (test : List ℕ → Bool) (words : List (List ℕ)) → ((word : List ℕ) → holds words word ≡ true → test word ≡ false) → list_any test words ≡ false
+none_met test [] missed = refl
+none_met test (w ∷ ws) missed =
+    ap (λ (b : Bool). b || list_any test ws) (missed w (first_of (bytes_eq w w) (holds ws w) (equal_bytes w w refl)))
+    ∙ none_met test ws (λ word there. missed word (second_of (bytes_eq w word) (holds ws word) there))
+
+pub missed_all : (test : List ℕ → Bool) (words : List (List ℕ)) (word : List ℕ) → holds words word ≡ true → list_any test words ≡ false → test word ≡ false
+missed_all test words word there none = by_test (test word) refl
   where
-    by_case : (x : Bool) → bytes_eq b a ≡ x → bytes_eq b a ≡ false
-    by_case false e = e
-    by_case true e = absurd (both_ways (bytes_eq a b) apart (equal_bytes a b (sym (same_bytes b a e))))
+    by_test : (b : Bool) → test word ≡ b → test word ≡ false
+    by_test false e = e
+    by_test true e = absurd (both_ways (list_any test words) none (member_met test words word there e))
 
-first_false : (creator reads writes : Bool) → creator ≡ parts_of false creator true reads false writes false
-first_false true reads writes = refl
-first_false false true true = refl
-first_false false true false = refl
-first_false false false true = refl
-first_false false false false = refl
+pub covered_by : (a : Asked) (members : List (List ℕ)) (word : List ℕ) → holds members word ≡ true → word_covers a word ≡ true → true ≡ list_any (word_covers a) members
+covered_by a members word there covers = sym (member_met (word_covers a) members word there covers)
 
-first_true : (name creator reads writes : Bool) → name ≡ false → creator ≡ parts_of name creator true reads false writes false
-first_true name creator reads writes apart = first_false creator reads writes ∙ ap (λ (n : Bool). parts_of n creator true reads false writes false) (sym apart)
-
-second_false : (creator reads writes : Bool) → reads ≡ parts_of false creator false reads true writes false
-second_false true true writes = refl
-second_false true false true = refl
-second_false true false false = refl
-second_false false true writes = refl
-second_false false false true = refl
-second_false false false false = refl
-
-second_true : (name creator reads writes : Bool) → name ≡ false → reads ≡ parts_of name creator false reads true writes false
-second_true name creator reads writes apart = second_false creator reads writes ∙ ap (λ (n : Bool). parts_of n creator false reads true writes false) (sym apart)
-
-third_false : (creator reads writes : Bool) → writes ≡ parts_of false creator false reads false writes true
-third_false true true true = refl
-third_false true true false = refl
-third_false true false true = refl
-third_false true false false = refl
-third_false false true true = refl
-third_false false true false = refl
-third_false false false true = refl
-third_false false false false = refl
-
-third_true : (name creator reads writes : Bool) → name ≡ false → writes ≡ parts_of name creator false reads false writes true
-third_true name creator reads writes apart = third_false creator reads writes ∙ ap (λ (n : Bool). parts_of n creator false reads false writes true) (sym apart)
-
-none_true : (name creator reads writes : Bool) → name ≡ parts_of name creator false reads false writes false
-none_true true creator reads writes = refl
-none_true false true true true = refl
-none_true false true true false = refl
-none_true false true false true = refl
-none_true false true false false = refl
-none_true false false true true = refl
-none_true false false true false = refl
-none_true false false false true = refl
-none_true false false false false = refl
-
--- the parts of a word
-abbrev word_parts : Bool → (List ℕ → Bool) → List ℕ → List ℕ → Bool
-word_parts creator held user word =
-    parts_of (bytes_eq word user) creator (bytes_eq word (codes "CREATOR")) (held (codes "READERS")) (bytes_eq word (codes "READERS")) (held (codes "WRITERS")) (bytes_eq word (codes "WRITERS"))
-
--- the user's name is none of the words
-pub record IsName (user : List ℕ) : Type 0 where
-  pub creator : bytes_eq (codes "CREATOR") user ≡ false
-  pub readers : bytes_eq (codes "READERS") user ≡ false
-  pub writers : bytes_eq (codes "WRITERS") user ≡ false
-
-by_creator : (creator : Bool) (held : List ℕ → Bool) (user word : List ℕ) → IsName user → bytes_eq word (codes "CREATOR") ≡ true → covers_as creator held user word ≡ word_parts creator held user word
-by_creator creator held user word name is =
-    subst (λ (w : List ℕ). covers_as creator held user w ≡ word_parts creator held user w) (sym (same_bytes word (codes "CREATOR") is))
-    (first_true (bytes_eq (codes "CREATOR") user) creator (held (codes "READERS")) (held (codes "WRITERS")) name.creator)
-
-by_readers : (creator : Bool) (held : List ℕ → Bool) (user word : List ℕ) → IsName user → bytes_eq word (codes "READERS") ≡ true → covers_as creator held user word ≡ word_parts creator held user word
-by_readers creator held user word name is =
-    subst (λ (w : List ℕ). covers_as creator held user w ≡ word_parts creator held user w) (sym (same_bytes word (codes "READERS") is))
-    (second_true (bytes_eq (codes "READERS") user) creator (held (codes "READERS")) (held (codes "WRITERS")) name.readers)
-
-by_writers : (creator : Bool) (held : List ℕ → Bool) (user word : List ℕ) → IsName user → bytes_eq word (codes "WRITERS") ≡ true → covers_as creator held user word ≡ word_parts creator held user word
-by_writers creator held user word name is =
-    subst (λ (w : List ℕ). covers_as creator held user w ≡ word_parts creator held user w) (sym (same_bytes word (codes "WRITERS") is))
-    (third_true (bytes_eq (codes "WRITERS") user) creator (held (codes "READERS")) (held (codes "WRITERS")) name.writers)
-
-by_name : (creator held : Bool) (e0 e1 e2 name readers writers : Bool) → e0 ≡ false → e1 ≡ false → e2 ≡ false
-    → (if e0 then creator else if e1 || e2 then held else name) ≡ parts_of name creator e0 readers e1 writers e2
-by_name creator held true e1 e2 name readers writers f g h = absurd (both_ways true f refl)
-by_name creator held false true e2 name readers writers f g h = absurd (both_ways true g refl)
-by_name creator held false false true name readers writers f g h = absurd (both_ways true h refl)
-by_name creator held false false false name readers writers f g h = none_true name creator readers writers
-
-word_by_parts : (creator : Bool) (held : List ℕ → Bool) (user : List ℕ) → IsName user → (word : List ℕ) → covers_as creator held user word ≡ word_parts creator held user word
-word_by_parts creator held user name word = cases (bytes_eq word (codes "CREATOR")) (bytes_eq word (codes "READERS")) (bytes_eq word (codes "WRITERS")) refl refl refl
+-- a name that isn't declared as a role is for the user who bears it
+pub name_covers : (a : Asked) → is_user_name a.user ≡ true → a.declares a.user ≡ false → word_covers a a.user ≡ true
+name_covers a is undeclared =
+    ap (λ (b : Bool). if b then is_creator a else (if a.declares a.user then holds_role a a.user else bytes_eq a.user a.user)) (not_creator a.user is)
+    ∙ ap (λ (b : Bool). if b then holds_role a a.user else bytes_eq a.user a.user) undeclared
+    ∙ equal_bytes a.user a.user refl
   where
-    cases : (x y z : Bool) → bytes_eq word (codes "CREATOR") ≡ x → bytes_eq word (codes "READERS") ≡ y → bytes_eq word (codes "WRITERS") ≡ z
-        → covers_as creator held user word ≡ word_parts creator held user word
-    cases true y z e f g = by_creator creator held user word name e
-    cases false true z e f g = by_readers creator held user word name f
-    cases false false true e f g = by_writers creator held user word name g
-    cases false false false e f g = by_name creator (held word) (bytes_eq word (codes "CREATOR")) (bytes_eq word (codes "READERS")) (bytes_eq word (codes "WRITERS"))
-        (bytes_eq word user) (held (codes "READERS")) (held (codes "WRITERS")) e f g
+    not_creator : (user : List ℕ) → is_user_name user ≡ true → bytes_eq user (codes "CREATOR") ≡ false
+    not_creator user named = by_creator (bytes_eq user (codes "CREATOR")) refl
+      where
+        by_creator : (b : Bool) → bytes_eq user (codes "CREATOR") ≡ b → bytes_eq user (codes "CREATOR") ≡ false
+        by_creator false e = e
+        by_creator true e = absurd (let bad : is_user_name (codes "CREATOR") ≡ true = subst (λ (u : List ℕ). is_user_name u ≡ true) (same_bytes user (codes "CREATOR") e) named in both_ways (is_user_name (codes "CREATOR")) refl bad)
 
-or_pairs : (a b c d : Bool) → ((a || b) || (c || d)) ≡ ((a || c) || (b || d))
-or_pairs true b c d = refl
-or_pairs false true true d = refl
-or_pairs false true false d = refl
-or_pairs false false c d = refl
+other_word : (a : Asked) (word : List ℕ) → a.declares (codes "CREATOR") ≡ false → a.declares word ≡ true → bytes_eq word (codes "CREATOR") ≡ false
+other_word a word none declared = by_creator (bytes_eq word (codes "CREATOR")) refl
+  where
+    by_creator : (b : Bool) → bytes_eq word (codes "CREATOR") ≡ b → bytes_eq word (codes "CREATOR") ≡ false
+    by_creator false e = e
+    by_creator true e = absurd (both_ways (a.declares word) (ap a.declares (same_bytes word (codes "CREATOR") e) ∙ none) declared)
 
-and_or : (a b c : Bool) → ((a && b) || (a && c)) ≡ (a && (b || c))
-and_or true b c = refl
-and_or false b c = refl
+-- a declared role that the user holds is for the user
+pub role_found : (a : Asked) (members : List (List ℕ)) (word : List ℕ) → a.declares (codes "CREATOR") ≡ false → role_covers a members word ≡ true → true ≡ list_any (word_covers a) members
+role_found a members word none is =
+    let held : (holds_role a word ≡ true) × ((holds members word && a.declares word) ≡ true) = and_parts (holds_role a word) (holds members word && a.declares word) is in
+    let there : (holds members word ≡ true) × (a.declares word ≡ true) = and_parts (holds members word) (a.declares word) held.1 in
+    covered_by a members word there.0
+    (ap (λ (b : Bool). if b then is_creator a else (if a.declares word then holds_role a word else bytes_eq word a.user)) (other_word a word none there.1)
+    ∙ ap (λ (b : Bool). if b then holds_role a word else bytes_eq word a.user) there.1
+    ∙ held.0)
 
-parts_joined : (name names creator c cs reads r rs writes w ws : Bool)
-    → (parts_of name creator c reads r writes w || parts_of names creator cs reads rs writes ws) ≡ parts_of (name || names) creator (c || cs) reads (r || rs) writes (w || ws)
-parts_joined name names creator c cs reads r rs writes w ws =
-    or_pairs name ((creator && c) || ((reads && r) || (writes && w))) names ((creator && cs) || ((reads && rs) || (writes && ws)))
-    ∙ ap (λ (x : Bool). (name || names) || x)
-    (or_pairs (creator && c) ((reads && r) || (writes && w)) (creator && cs) ((reads && rs) || (writes && ws))
-    ∙ ap₂ (λ (x y : Bool). x || y) (and_or creator c cs)
-    (or_pairs (reads && r) (writes && w) (reads && rs) (writes && ws) ∙ ap₂ (λ (x y : Bool). x || y) (and_or reads r rs) (and_or writes w ws)))
+off_first : (a b : Bool) → b ≡ true → (a && b) ≡ false → a ≡ false
+off_first true b is off = absurd (both_ways b off is)
+off_first false b is off = refl
 
-no_parts : (creator reads writes : Bool) → false ≡ parts_of false creator false reads false writes false
-no_parts creator reads writes = none_true false creator reads writes
+-- where neither the name, nor the creator, nor a declared role is a member, no member covers the user
+pub none_covers : (a : Asked) (members : List (List ℕ)) → (holds members a.user && not (a.declares a.user)) ≡ false → (is_creator a && holds members (codes "CREATOR")) ≡ false
+    → ((word : List ℕ) → a.declares word ≡ true → role_covers a members word ≡ false) → false ≡ list_any (word_covers a) members
+none_covers a members name creator roles = sym (none_met (word_covers a) members missed)
+  where
+    by_name : (word : List ℕ) → holds members word ≡ true → a.declares word ≡ false → (b : Bool) → bytes_eq word a.user ≡ b → bytes_eq word a.user ≡ false
+    by_name word there other false e = e
+    by_name word there other true e =
+        let same : word ≡ a.user = same_bytes word a.user e in
+        absurd (both_ways (holds members a.user && not (a.declares a.user)) name (and_from (holds members a.user) (not (a.declares a.user)) (ap (holds members) (sym same) ∙ there) (ap not (ap a.declares (sym same) ∙ other))))
 
--- A group covers the user where his name is a member, or a word for what he is.
-pub group_by_parts : (creator : Bool) (held : List ℕ → Bool) (user : List ℕ) → IsName user → (members : List (List ℕ))
-    → list_any (covers_as creator held user) members
-    ≡ parts_of (holds members user) creator (holds members (codes "CREATOR")) (held (codes "READERS")) (holds members (codes "READERS")) (held (codes "WRITERS")) (holds members (codes "WRITERS"))
-group_by_parts creator held user name [] = no_parts creator (held (codes "READERS")) (held (codes "WRITERS"))
-group_by_parts creator held user name (m ∷ ms) =
-    ap₂ (λ (x y : Bool). x || y) (word_by_parts creator held user name m) (group_by_parts creator held user name ms)
-    ∙ parts_joined (bytes_eq m user) (holds ms user) creator (bytes_eq m (codes "CREATOR")) (holds ms (codes "CREATOR")) (held (codes "READERS")) (bytes_eq m (codes "READERS")) (holds ms (codes "READERS"))
-    (held (codes "WRITERS")) (bytes_eq m (codes "WRITERS")) (holds ms (codes "WRITERS"))
+    by_role : (word : List ℕ) → holds members word ≡ true → (b : Bool) → a.declares word ≡ b → (if b then holds_role a word else bytes_eq word a.user) ≡ false
+    by_role word there true e = off_first (holds_role a word) (holds members word && a.declares word) (and_from (holds members word) (a.declares word) there e) (roles word e)
+    by_role word there false e = by_name word there e (bytes_eq word a.user) refl
 
--- ---- what a look-up tells
+    by_creator : (word : List ℕ) → holds members word ≡ true → (b : Bool) → bytes_eq word (codes "CREATOR") ≡ b
+        → (if b then is_creator a else (if a.declares word then holds_role a word else bytes_eq word a.user)) ≡ false
+    by_creator word there true e = off_first (is_creator a) (holds members (codes "CREATOR")) (ap (holds members) (sym (same_bytes word (codes "CREATOR") e)) ∙ there) creator
+    by_creator word there false e = by_role word there (a.declares word) refl
 
-or_true : (x y : Bool) → y ≡ true → true ≡ (x || y)
-or_true true y e = refl
-or_true false y e = sym e
+    missed : (word : List ℕ) → holds members word ≡ true → word_covers a word ≡ false
+    missed word there = by_creator word there (bytes_eq word (codes "CREATOR")) refl
 
-or_off : (x y : Bool) → (x || y) ≡ false → (x ≡ false) × (y ≡ false)
-or_off true y e = absurd (both_ways true e refl)
-or_off false y e = (refl, e)
+-- ---- declared roles
 
-pub user_is_name : (user : List ℕ) → is_user_name user ≡ true → IsName user
-user_is_name user is =
-    let word : not (words.is_role user) ≡ true = (and_parts _ (not (words.is_role user)) is).1 in
-    let apart : ((bytes_eq user (codes "CREATOR") || bytes_eq user (codes "READERS")) || bytes_eq user (codes "WRITERS")) ≡ false = not-true (words.is_role user) word in
-    let last : ((bytes_eq user (codes "CREATOR") || bytes_eq user (codes "READERS")) ≡ false) × (bytes_eq user (codes "WRITERS") ≡ false) =
-    or_off (bytes_eq user (codes "CREATOR") || bytes_eq user (codes "READERS")) (bytes_eq user (codes "WRITERS")) apart in
-    let first : (bytes_eq user (codes "CREATOR") ≡ false) × (bytes_eq user (codes "READERS") ≡ false) = or_off (bytes_eq user (codes "CREATOR")) (bytes_eq user (codes "READERS")) last.0 in
-    record { creator = differ user (codes "CREATOR") first.0; readers = differ user (codes "READERS") first.1; writers = differ user (codes "WRITERS") last.1 }
+-- a role that is declared is one of the two, or some option line mentions it
+pub all_roles : (ps : Patterns) (lines : List OptionLine) (repo : List ℕ) (creator : Option (List ℕ)) (test : List ℕ → Bool) → test (codes "READERS") ≡ false → test (codes "WRITERS") ≡ false
+    → ((word : List ℕ) → is_mentioned lines word ≡ true → test word ≡ false) → (word : List ℕ) → declares ps lines word repo creator ≡ true → test word ≡ false
+all_roles ps lines repo creator test readers writers others word declared = by_common (is_common_role word) refl
+  where
+    by_two : (b : Bool) → bytes_eq word (codes "READERS") ≡ b → (b || bytes_eq word (codes "WRITERS")) ≡ true → test word ≡ false
+    by_two true e is = ap test (same_bytes word (codes "READERS") e) ∙ readers
+    by_two false e is = ap test (same_bytes word (codes "WRITERS") is) ∙ writers
 
-pub covered_by_name : (creator : Bool) (held : List ℕ → Bool) (user : List ℕ) → is_user_name user ≡ true → (members : List (List ℕ)) → holds members user ≡ true
-    → true ≡ list_any (covers_as creator held user) members
-covered_by_name creator held user is members there =
-    sym (group_by_parts creator held user (user_is_name user is) members
-    ∙ ap (λ (b : Bool). parts_of b creator (holds members (codes "CREATOR")) (held (codes "READERS")) (holds members (codes "READERS")) (held (codes "WRITERS")) (holds members (codes "WRITERS"))) there)
+    by_common : (b : Bool) → is_common_role word ≡ b → test word ≡ false
+    by_common true e = by_two (bytes_eq word (codes "READERS")) refl e
+    by_common false e = others word (declared_is_mentioned ps lines word repo creator declared e)
 
-pub covered_by_creator : (creator : Bool) (held : List ℕ → Bool) (user : List ℕ) → is_user_name user ≡ true → (members : List (List ℕ)) → creator ≡ true → holds members (codes "CREATOR") ≡ true
-    → true ≡ list_any (covers_as creator held user) members
-covered_by_creator creator held user is members made there =
-    or_true (holds members user) _ (ap₂ (λ (x y : Bool). (x && y) || ((held (codes "READERS") && holds members (codes "READERS")) || (held (codes "WRITERS") && holds members (codes "WRITERS")))) made there)
-    ∙ sym (group_by_parts creator held user (user_is_name user is) members)
+-- ---- the law
 
-pub covered_by_role : (creator : Bool) (held : List ℕ → Bool) (user : List ℕ) → is_user_name user ≡ true → (members : List (List ℕ)) → holds members user ≡ false → (creator && holds members (codes "CREATOR")) ≡ false
-    → ((held (codes "READERS") && holds members (codes "READERS")) || (held (codes "WRITERS") && holds members (codes "WRITERS"))) ≡ list_any (covers_as creator held user) members
-covered_by_role creator held user is members other apart =
-    sym (group_by_parts creator held user (user_is_name user is) members
-    ∙ ap₂ (λ (x y : Bool). x || (y || ((held (codes "READERS") && holds members (codes "READERS")) || (held (codes "WRITERS") && holds members (codes "WRITERS"))))) other apart)
+pub only_declared_cover : OnlyDeclaredRolesCover
+only_declared_cover = record {
+  word = λ a word undeclared not_creator not_user.
+      ap (λ (b : Bool). if b then is_creator a else (if a.declares word then holds_role a word else bytes_eq word a.user)) (unequal word (codes "CREATOR") not_creator)
+      ∙ ap (λ (b : Bool). if b then holds_role a word else bytes_eq word a.user) undeclared
+      ∙ unequal word a.user not_user;
+  entries = entries;
+} where
+  unequal : (x y : List ℕ) → (x ≡ y → ⊥) → bytes_eq x y ≡ false
+  unequal x y apart = by_same (bytes_eq x y) refl
+    where
+      by_same : (b : Bool) → bytes_eq x y ≡ b → bytes_eq x y ≡ false
+      by_same true e = absurd (apart (same_bytes x y e))
+      by_same false e = e
+
+  by_declared : (b : Bool) (x y z : Bool) → (b ≡ true → x ≡ y) → (if b then x else z) ≡ (if b then y else z)
+  by_declared true x y z same = same refl
+  by_declared false x y z same = refl
+
+  one_word : (a : Asked) (roles : List RoleEntry) → ((role : List ℕ) → a.declares role ≡ true → holds_role (record a { roles = roles }) role ≡ holds_role a role)
+      → (word : List ℕ) → word_covers (record a { roles = roles }) word ≡ word_covers a word
+  one_word a roles same word =
+      ap (λ (b : Bool). if bytes_eq word (codes "CREATOR") then is_creator a else b)
+      (by_declared (a.declares word) (holds_role (record a { roles = roles }) word) (holds_role a word) (bytes_eq word a.user) (same word))
+
+  some_word : (a : Asked) (roles : List RoleEntry) → ((role : List ℕ) → a.declares role ≡ true → holds_role (record a { roles = roles }) role ≡ holds_role a role)
+      → (words : List (List ℕ)) → list_any (word_covers (record a { roles = roles })) words ≡ list_any (word_covers a) words
+  some_word a roles same [] = refl
+  some_word a roles same (w ∷ ws) = ap₂ (λ (x y : Bool). x || y) (one_word a roles same w) (some_word a roles same ws)
+
+  entries : (a : Asked) (roles : List RoleEntry) → ((role : List ℕ) → a.declares role ≡ true → holds_role (record a { roles = roles }) role ≡ holds_role a role)
+      → (user : UserWord) → covers_user (record a { roles = roles }) user ≡ covers_user a user
+  entries a roles same (user.Name name) = one_word a roles same name
+  entries a roles same (user.Group name members) = some_word a roles same members
+  entries a roles same user.All = refl
+  entries a roles same user.Creator = refl
+  entries a roles same (user.Role role) = one_word a roles same role

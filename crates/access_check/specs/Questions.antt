@@ -1,5 +1,5 @@
 -- What a question asks, as the code keeps it.
-use Rattle.std.specs.Prelude.{◌≡◌, ℕ, List, [], Bool, ◌&&◌, ◌||◌, codes, Option, Some, if◌then◌else◌}
+use Rattle.std.specs.Prelude.{◌≡◌, ℕ, List, [], Bool, ◌&&◌, ◌||◌, Option, Some, if◌then◌else◌}
 use Rattle.std.specs.List.{AllByRecursion}
 use Rattle.std.specs.Option.{option_copied, option_map_or}
 use Rattle.conf_groups.specs.Groups.{holds}
@@ -7,24 +7,24 @@ use Rattle.conf_lex.specs.declared.perm.Perm.{Perm}
 use Rattle.rule_compile.specs.Covering.{covers_repo}
 use Rattle.rule_compile.specs.Flat.{numbered}
 use Rattle.rule_compile.specs.Patterns.{Patterns}
+use Rattle.rule_compile.specs.Roles.{declares}
 use Rattle.rule_compile.specs.declared.rule.Rule.{Rule}
 use Rattle.access_check.specs.Users.{Asked, holds_role}
 use Rattle.access_check.specs.declared.letters.Flags.{Flags}
 use Rattle.access_check.specs.declared.users.Question.{Question}
-use Rattle.wild_perms.specs.Roles.{is_role}
 
-abbrev pub asked_by : Question → Asked
-asked_by q = record {
+abbrev pub asked_by : Patterns → Question → Asked
+asked_by patterns q = record {
   repo = q.repo.now;
   creator = option_copied q.creator;
-  declares = is_role;
+  declares = λ word. declares patterns q.policy.now.options word q.repo.now (option_copied q.creator);
   roles = option_map_or (λ wild. wild.now.roles) q.wild [];
   user = q.user.now;
 }
 
--- a role that the user holds is one of the words
-abbrev pub some_role_covers : Asked → List (List ℕ) → Bool
-some_role_covers a words = (holds_role a (codes "READERS") && holds words (codes "READERS")) || (holds_role a (codes "WRITERS") && holds words (codes "WRITERS"))
+-- the word is one of these, is declared as a role, and the user holds it
+abbrev pub role_covers : Asked → List (List ℕ) → List ℕ → Bool
+role_covers a words word = holds_role a word && (holds words word && a.declares word)
 
 -- the number of a rule leads to it
 abbrev pub Leads : List Rule → Rule → Type 0

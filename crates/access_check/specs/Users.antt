@@ -3,9 +3,12 @@ use Rattle.std.specs.Prelude.{ℕ, List, [], Bool, true, false, ◌&&◌, codes,
 use Rattle.std.specs.List.{list_any}
 use Rattle.std.specs.Option.{option_map_or}
 use Rattle.std.specs.Str.{bytes_eq}
+use Rattle.rule_compile.specs.Flat.{Flat}
+use Rattle.rule_compile.specs.Patterns.{Patterns}
+use Rattle.rule_compile.specs.Roles.{declares, is_common_role}
 use Rattle.rule_compile.specs.declared.rule.UserWord.{UserWord}
 use Rattle.rule_compile.specs.declared.rule.UserWord.TheVariants.{Name, Group, All, Creator, Role}
-use Rattle.wild_perms.specs.Roles.{WildView, is_role}
+use Rattle.wild_perms.specs.Roles.{WildView}
 use Rattle.wild_perms.specs.declared.role.RoleEntry.{RoleEntry}
 
 -- Who asks of which repository: its name, who created it, if anybody did, which words are roles there, who holds which of them, and who asks.
@@ -16,13 +19,23 @@ pub record Asked : Type 0 where
   pub roles : List RoleEntry
   pub user : List ℕ
 
--- of a repository that is there; the roles are `READERS` and `WRITERS`
-abbrev pub asked : WildView → List ℕ → List ℕ → Asked
-asked wild repo user = record { repo = repo; creator = wild.creator; declares = is_role; roles = wild.roles; user = user }
+-- of a repository that is there; its roles are those that the options declare for it
+abbrev pub asked : Patterns → Flat → WildView → List ℕ → List ℕ → Asked
+asked patterns flat wild repo user = record {
+  repo = repo;
+  creator = wild.creator;
+  declares = λ word. declares patterns flat.options word repo wild.creator;
+  roles = wild.roles;
+  user = user;
+}
 
 -- Before a repository is there the asker counts as its creator, and nobody holds a role.
-abbrev pub asked_unborn : List ℕ → List ℕ → Asked
-asked_unborn repo asker = asked (record { creator = Some asker; roles = [] }) repo asker
+abbrev pub asked_unborn : Patterns → Flat → List ℕ → List ℕ → Asked
+asked_unborn patterns flat repo asker = asked patterns flat (record { creator = Some asker; roles = [] }) repo asker
+
+-- Where no repository is given, the asker counts as its creator too, and only the two roles that every repository has are declared.
+abbrev pub asked_anywhere : List ℕ → Asked
+asked_anywhere asker = record { repo = []; creator = Some asker; declares = is_common_role; roles = []; user = asker }
 
 abbrev pub is_creator : Asked → Bool
 is_creator a = option_map_or (λ creator. bytes_eq creator a.user) a.creator false
@@ -30,7 +43,7 @@ is_creator a = option_map_or (λ creator. bytes_eq creator a.user) a.creator fal
 abbrev pub holds_role : Asked → List ℕ → Bool
 holds_role a role = list_any (λ entry. bytes_eq entry.role role && bytes_eq entry.user a.user) a.roles
 
--- `CREATOR` is for the creator, a role for those who hold it in this repository, and every other word for the user of that name.
+-- `CREATOR` is for the creator, a word that is declared as a role for those who hold it in this repository, and every other word for the user of that name.
 abbrev pub word_covers : Asked → List ℕ → Bool
 word_covers a word =
     if bytes_eq word (codes "CREATOR") then is_creator a

@@ -61,7 +61,7 @@ first_stage patterns flat a want = verdict_of (find (opening_decides patterns a 
 
 -- the first stage of a repository that isn't there
 abbrev pub unborn_stage : Patterns → Flat → List ℕ → List ℕ → Want → Verdict
-unborn_stage patterns flat repo asker want = first_stage patterns flat (asked_unborn repo asker) want
+unborn_stage patterns flat repo asker want = first_stage patterns flat (asked_unborn patterns flat repo asker) want
 
 -- `C` alone lets repositories be created whose names a pattern matches
 abbrev pub creates : Rule → Bool
@@ -75,7 +75,7 @@ abbrev pub creating_stage : Patterns → Flat → Asked → Verdict
 creating_stage patterns flat a = verdict_of (find (creating_decides patterns a (deny_rules_count patterns flat a)) flat.rules)
 
 abbrev pub may_create : Patterns → Flat → List ℕ → List ℕ → Verdict
-may_create patterns flat repo asker = creating_stage patterns flat (asked_unborn repo asker)
+may_create patterns flat repo asker = creating_stage patterns flat (asked_unborn patterns flat repo asker)
 
 -- ---- virtual refs
 

@@ -25,13 +25,18 @@ pub fn decide(
     letter: Letter,
     name: &[u8],
 ) -> Verdict
-    ensures { (ps : Patterns) → AreTrue ps → result ≡ decide ps policy.now.rules (asked wild.now repo.now user.now) letter name.now }
+    ensures { (ps : Patterns) → AreTrue ps → result ≡ decide ps policy.now.rules (asked ps policy.now wild.now repo.now user.now) letter name.now }
 {
-    verdict_on_ref(policy, &Question::of(wild, repo, user), letter, name)
+    verdict_on_ref(
+        policy,
+        &Question::of(policy, wild, repo, user),
+        letter,
+        name,
+    )
 }
 
 fn verdict_on_ref(policy: &Policy, question: &Question<'_>, letter: Letter, name: &[u8]) -> Verdict
-    ensures { (ps : Patterns) → AreTrue ps → result ≡ decide ps policy.now.rules (asked_by question.now) letter name.now }
+    ensures { (ps : Patterns) → AreTrue ps → result ≡ decide ps policy.now.rules (asked_by ps question.now) letter name.now }
 {
     for rule in candidates(policy, question.repo) {
         if decides(policy, question, letter, name, rule) {
@@ -54,7 +59,7 @@ pub(crate) fn candidates<'a>(policy: &'a Policy, repo: &'a RepoName) -> RulesFor
 /// Whether a rule is for the repository and the user.
 pub(crate) fn covers(policy: &Policy, question: &Question<'_>, rule: &Rule) -> bool
     requires { Leads policy.now.rules rule.now }
-    ensures { (ps : Patterns) → AreTrue ps → result ≡ covers ps (asked_by question.now) rule.now }
+    ensures { (ps : Patterns) → AreTrue ps → result ≡ covers ps (asked_by ps question.now) rule.now }
 {
     if !question.covers_user(&rule.user) {
         return false;
@@ -71,7 +76,7 @@ fn decides(
     rule: &Rule,
 ) -> bool
     requires { Leads policy.now.rules rule.now }
-    ensures { (ps : Patterns) → AreTrue ps → result ≡ decides ps (asked_by question.now) letter name.now rule.now }
+    ensures { (ps : Patterns) → AreTrue ps → result ≡ decides ps (asked_by ps question.now) letter name.now rule.now }
 {
     if !rule.perm.deny && !grants(rule.perm, letter) {
         return false;

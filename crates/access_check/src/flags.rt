@@ -39,13 +39,13 @@ pub fn holds_vref(
     user: &UserName,
     which: Vref,
 ) -> bool
-    ensures { (ps : Patterns) → AreTrue ps → result ≡ holds_vref ps policy.now.rules (asked wild.now repo.now user.now) which }
+    ensures { (ps : Patterns) → AreTrue ps → result ≡ holds_vref ps policy.now.rules (asked ps policy.now wild.now repo.now user.now) which }
 {
-    some_rule_asks(policy, &Question::of(wild, repo, user), which)
+    some_rule_asks(policy, &Question::of(policy, wild, repo, user), which)
 }
 
 fn some_rule_asks(policy: &Policy, question: &Question<'_>, which: Vref) -> bool
-    ensures { (ps : Patterns) → AreTrue ps → result ≡ holds_vref ps policy.now.rules (asked_by question.now) which }
+    ensures { (ps : Patterns) → AreTrue ps → result ≡ holds_vref ps policy.now.rules (asked_by ps question.now) which }
 {
     for rule in candidates(policy, question.repo) {
         if asks(policy, question, which, rule) {
@@ -58,7 +58,7 @@ fn some_rule_asks(policy: &Policy, question: &Question<'_>, which: Vref) -> bool
 // Whether a rule for the repository and the user asks for the virtual ref.
 fn asks(policy: &Policy, question: &Question<'_>, which: Vref, rule: &Rule) -> bool
     requires { Leads policy.now.rules rule.now }
-    ensures { (ps : Patterns) → AreTrue ps → result ≡ asks_vref ps (asked_by question.now) which rule.now }
+    ensures { (ps : Patterns) → AreTrue ps → result ≡ asks_vref ps (asked_by ps question.now) which rule.now }
 {
     if !is_of_vref(which, rule.refex.bytes()) {
         return false;

@@ -1,8 +1,9 @@
 // What holds of the definitions themselves.
-ghost use Rattle.access_check.specs.Laws.{OnlyRulesForItDecide, VerdictsNameTheirRules};
+ghost use Rattle.access_check.specs.Laws.{OnlyDeclaredRolesCover, OnlyRulesForItDecide, VerdictsNameTheirRules};
 
-/// The laws of verdicts; a call does nothing.
+/// The laws of verdicts and of roles; a call does nothing.
 pub fn hold_laws()
     ensures some { OnlyRulesForItDecide }
     ensures named { VerdictsNameTheirRules }
+    ensures declared { OnlyDeclaredRolesCover }
 {}

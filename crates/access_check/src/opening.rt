@@ -21,27 +21,27 @@ pub fn first_stage(
     user: &UserName,
     want: Want,
 ) -> Verdict
-    ensures { (ps : Patterns) → AreTrue ps → result ≡ first_stage ps policy.now (asked wild.now repo.now user.now) want }
+    ensures { (ps : Patterns) → AreTrue ps → result ≡ first_stage ps policy.now (asked ps policy.now wild.now repo.now user.now) want }
 {
-    verdict_on_opening(policy, &Question::of(wild, repo, user), want)
+    verdict_on_opening(policy, &Question::of(policy, wild, repo, user), want)
 }
 
 /// The first stage of a repository that isn't there: the asker counts as its creator, and nobody holds a role.
 pub fn unborn_stage(policy: &Policy, repo: &RepoName, asker: &UserName, want: Want) -> Verdict
     ensures { (ps : Patterns) → AreTrue ps → result ≡ unborn_stage ps policy.now repo.now asker.now want }
 {
-    verdict_on_opening(policy, &Question::unborn(repo, asker), want)
+    verdict_on_opening(policy, &Question::unborn(policy, repo, asker), want)
 }
 
 /// Which rule decides whether the asker may create a repository that isn't there.
 pub fn may_create(policy: &Policy, repo: &RepoName, asker: &UserName) -> Verdict
     ensures { (ps : Patterns) → AreTrue ps → result ≡ may_create ps policy.now repo.now asker.now }
 {
-    verdict_on_creating(policy, &Question::unborn(repo, asker))
+    verdict_on_creating(policy, &Question::unborn(policy, repo, asker))
 }
 
 fn verdict_on_opening(policy: &Policy, question: &Question<'_>, want: Want) -> Verdict
-    ensures { (ps : Patterns) → AreTrue ps → result ≡ first_stage ps policy.now (asked_by question.now) want }
+    ensures { (ps : Patterns) → AreTrue ps → result ≡ first_stage ps policy.now (asked_by ps question.now) want }
 {
     let deny_counts = policy.deny_rules(question.repo, question.creator);
     for rule in candidates(policy, question.repo) {
@@ -53,7 +53,7 @@ fn verdict_on_opening(policy: &Policy, question: &Question<'_>, want: Want) -> V
 }
 
 fn verdict_on_creating(policy: &Policy, question: &Question<'_>) -> Verdict
-    ensures { (ps : Patterns) → AreTrue ps → result ≡ creating_stage ps policy.now (asked_by question.now) }
+    ensures { (ps : Patterns) → AreTrue ps → result ≡ creating_stage ps policy.now (asked_by ps question.now) }
 {
     let deny_counts = policy.deny_rules(question.repo, question.creator);
     for rule in candidates(policy, question.repo) {
@@ -73,7 +73,7 @@ fn opening_decides(
     rule: &Rule,
 ) -> bool
     requires { Leads policy.now.rules rule.now }
-    ensures { (ps : Patterns) → AreTrue ps → result ≡ opening_decides ps (asked_by question.now) deny_counts want rule.now }
+    ensures { (ps : Patterns) → AreTrue ps → result ≡ opening_decides ps (asked_by ps question.now) deny_counts want rule.now }
 {
     counts(rule, deny_counts, opens(rule.perm, want)) && covers(policy, question, rule)
 }
@@ -86,7 +86,7 @@ fn creating_decides(
     rule: &Rule,
 ) -> bool
     requires { Leads policy.now.rules rule.now }
-    ensures { (ps : Patterns) → AreTrue ps → result ≡ creating_decides ps (asked_by question.now) deny_counts rule.now }
+    ensures { (ps : Patterns) → AreTrue ps → result ≡ creating_decides ps (asked_by ps question.now) deny_counts rule.now }
 {
     counts(rule, deny_counts, creates(rule)) && covers(policy, question, rule)
 }

@@ -48,9 +48,11 @@ pub(crate) enum PolicyQuestion {
 
 /// A question about the rules of a repository.
 #[derive(Clone, Copy)]
-pub(crate) enum RepoQuestion {
+pub(crate) enum RepoQuestion<'a> {
     Numbers,
     DenyRules,
+    /// Whether this word is a role there.
+    Declares(&'a [u8]),
     Flags,
     Letter(Facts),
 }
@@ -68,7 +70,7 @@ pub(crate) enum UserQuestion<'a> {
 #[derive(Clone, Copy)]
 pub(crate) enum RuleQuestion<'a> {
     Policy(PolicyQuestion),
-    Repo(&'a [u8], RepoQuestion),
+    Repo(&'a [u8], RepoQuestion<'a>),
     User(Who<'a>, UserQuestion<'a>),
     /// By which patterns a user may create repositories.
     Creatable(&'a [u8]),
@@ -103,6 +105,9 @@ pub(crate) fn rule_question<'a>(words: &[&'a [u8]]) -> Option<RuleQuestion<'a>> 
         [word] => Some(RuleQuestion::Policy(policy_question(word)?)),
         [b"creatable", user] => Some(RuleQuestion::Creatable(user)),
         [word, repo] => Some(RuleQuestion::Repo(repo, repo_question(word)?)),
+        [b"declares", role, repo] => {
+            Some(RuleQuestion::Repo(repo, RepoQuestion::Declares(role)))
+        }
         [b"letter", repo, change, facts @ ..] => Some(RuleQuestion::Repo(
             repo,
             RepoQuestion::Letter(facts_of(change, facts)?),
@@ -124,7 +129,7 @@ fn policy_question(word: &[u8]) -> Option<PolicyQuestion> {
     }
 }
 
-fn repo_question(word: &[u8]) -> Option<RepoQuestion> {
+fn repo_question(word: &[u8]) -> Option<RepoQuestion<'static>> {
     match word {
         b"numbers" => Some(RepoQuestion::Numbers),
         b"deny-rules" => Some(RepoQuestion::DenyRules),

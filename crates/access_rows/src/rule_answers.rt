@@ -26,11 +26,12 @@ pub(crate) fn answer_on_repo(
     policy: &Policy,
     wild: &Wild,
     repo: &RepoName,
-    question: RepoQuestion,
+    question: RepoQuestion<'_>,
 ) -> Result<(), NoMemory> {
     match question {
         RepoQuestion::Numbers => push_numbers(alloc, out, policy, repo),
         RepoQuestion::DenyRules => push_deny_rules(out, policy, repo, wild.creator()),
+        RepoQuestion::Declares(role) => push_declares(out, policy, role, repo, wild.creator()),
         RepoQuestion::Flags => push_flags(out, flags_of(policy, wild, repo)),
         RepoQuestion::Letter(facts) => {
             push_line(out, letter_of(flags_of(policy, wild, repo), &facts).text())
@@ -123,6 +124,19 @@ fn push_deny_rules(
         return push_line(out, b"in force");
     }
     push_line(out, b"not in force")
+}
+
+fn push_declares(
+    out: &mut Vec<u8>,
+    policy: &Policy,
+    role: &[u8],
+    repo: &RepoName,
+    creator: Option<&UserName>,
+) -> Result<(), NoMemory> {
+    if policy.declares(role, repo, creator) {
+        return push_line(out, b"declared");
+    }
+    push_line(out, b"not declared")
 }
 
 // Which letters after `RW` are in force.

@@ -137,12 +137,12 @@ impl State {
         Ok(())
     }
 
-    /// Another user who holds a role. The creator gives it.
+    /// Another user who holds a role. The creator gives it, as where it was declared; whether it still is the conf says.
     pub(crate) fn give_role(&mut self, role: &[u8], user: &UserName) -> Result<(), Stop> {
         let Some(creator) = &self.creator else {
             return Err(Stop::NoForm);
         };
-        match self.wild.grant(creator, role, user) {
+        match self.wild.grant(creator, role, user, true) {
             PermsAnswer::Changed | PermsAnswer::AlreadySo => Ok(()),
             PermsAnswer::NoMemory => Err(Stop::OutOfMemory),
             _ => Err(Stop::NoForm),

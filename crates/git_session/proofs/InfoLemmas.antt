@@ -11,7 +11,8 @@ use Rattle.hub.specs.Answer.{lines_for}
 use Rattle.hub.specs.Desk.{DeskView, Looks}
 use Rattle.hub.specs.declared.answer.Looked.TheVariants.{Lines}
 use Rattle.interaction_tree.specs.Interaction.{Interaction, write, ask}
-use Rattle.interaction_tree.specs.Requests.{Look, OwnEntry}
+use Rattle.hub_history.specs.Requests.{Look}
+use Rattle.interaction_tree.specs.Requests.{OwnEntry}
 use Rattle.interaction_tree.specs.Traces.{Halt}
 use Rattle.interaction_tree.specs.Runs.{Runs}
 use Rattle.interaction_tree.proofs.StepLemmas.{runs_looked}

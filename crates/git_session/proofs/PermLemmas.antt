@@ -9,7 +9,7 @@ use Rattle.hub_history.specs.Roles.{kept_of}
 use Rattle.hub_history.specs.History.{replay}
 use Rattle.hub_history.specs.State.{repository_at}
 use Rattle.hub.specs.Desk.{DeskView, Permits}
-use Rattle.interaction_tree.specs.Requests.{Permit}
+use Rattle.hub_history.specs.Requests.{Permit}
 use Rattle.interaction_tree.specs.Interaction.{write, ask}
 use Rattle.interaction_tree.specs.Traces.{Halt}
 use Rattle.interaction_tree.specs.Runs.{Runs}

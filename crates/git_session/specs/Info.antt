@@ -7,7 +7,8 @@ use Rattle.repo_listing.specs.Lines.{line_text}
 use Rattle.repo_listing.specs.declared.lines.LookLine.{LookLine}
 use Rattle.hub_history.specs.History.{replay}
 use Rattle.hub.specs.Answer.{lines_for}
-use Rattle.interaction_tree.specs.Requests.{Look, OwnEntry}
+use Rattle.hub_history.specs.Requests.{Look}
+use Rattle.interaction_tree.specs.Requests.{OwnEntry}
 use Rattle.interaction_tree.specs.Interaction.{Interaction, ◌>>=◌, write, ask}
 use Rattle.session_core.specs.declared.end.SessionEnd.{SessionEnd}
 use Rattle.session_core.specs.Denials.{fitting}

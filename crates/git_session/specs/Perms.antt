@@ -11,7 +11,7 @@ use Rattle.hub_history.specs.declared.entry.PermsKept.{PermsKept}
 use Rattle.hub_history.specs.declared.entry.PermsKept.TheVariants as answer
 use Rattle.hub_history.specs.History.{replay}
 use Rattle.hub_history.specs.State.{repository_at}
-use Rattle.interaction_tree.specs.Requests.{Permit}
+use Rattle.hub_history.specs.Requests.{Permit}
 use Rattle.interaction_tree.specs.Interaction.{Interaction, ◌>>=◌, write, ask}
 use Rattle.session_core.specs.declared.end.SessionEnd.{SessionEnd}
 use Rattle.session_core.specs.Denials.{shown}

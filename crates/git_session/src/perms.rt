@@ -3,6 +3,7 @@ ghost use Rattle.std.specs.Prelude.{◌≡◌, ◌≤◌, ◌++◌, [], ◌∷�
 ghost use Rattle.std.specs.List.{flat_map};
 ghost use Rattle.pktline_core.specs.Packets.{spelling, Flush};
 ghost use Rattle.hub.specs.Desk.{DeskView};
+ghost use Rattle.hub_history.specs.History.{HasShortRole};
 ghost use Rattle.interaction_tree.specs.Interaction.{write};
 ghost use Rattle.interaction_tree.specs.Runs.{Runs};
 ghost use Rattle.session_core.specs.End.{TellsLink, outcome_of};
@@ -73,6 +74,7 @@ pub fn permit<L: Link, K: Desk>(
     repo: &RepoName,
     change: PermChange,
 ) -> Result<(), SessionEnd>
+    requires short { HasShortRole change }
     ensures runs { Runs (L.state link.old) (L.state link.new) (K.view desk.old) (K.view desk.new) (permitting ((K.view desk.old).admin) user.now repo.now change) (outcome_of result) }
     ensures tells { TellsLink (L.state link.old) (L.state link.new) result }
     ensures goes { K.goes_on desk.old desk.new }

@@ -5,6 +5,7 @@ ghost use Rattle.hub.specs.Desk.{IsSound};
 ghost use Rattle.interaction_tree.specs.Endings.{TakesTurn};
 ghost use Rattle.interaction_tree.specs.Growth.{GrowsBy, own_since};
 ghost use Rattle.session_core.specs.End.{HasCause, IsSure, TellsEnd, TellsLink, halt_of, outcome_of};
+ghost use Rattle.session_core.specs.FirstPacket.{HasShortChange};
 ghost use Rattle.session_core.specs.Readers.{IsReady};
 ghost use Rattle.session_core.specs.Rulebook.{ByRulebook, RunsByRulebook};
 ghost use Rattle.git_session.specs.Session.{fetched_outcome, fetching_from, pushing_into, served, serving, session};
@@ -81,6 +82,7 @@ fn serve_asked<L: Link, K: Desk, G: Gate>(
     asked: Asked,
 ) -> Result<(), SessionEnd>
     requires ready { IsReady reader.old (L.state link.old) }
+    requires short { HasShortChange asked.service }
     ensures runs { RunsByRulebook (L.state link.old) (L.state link.new) (K.view desk.old) (K.view desk.new) (λ book. serving book ((K.view desk.old).admin) asked.user asked.service reader.old.offset) (outcome_of result) }
     ensures tells { TellsLink (L.state link.old) (L.state link.new) result }
     ensures goes { K.goes_on desk.old desk.new }

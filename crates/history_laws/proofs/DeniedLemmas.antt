@@ -274,31 +274,31 @@ module _ (ps : Patterns) (ok : AreTrue ps) (admin : Name) (before : List Entry) 
 
   -- what the rules say against a command
   says_of : (o : Outcome) (r : Refusal) (objects : List Content) → ((x : Option Refusal) → Some o ≡ outcome_of x → x ≡ Some r) → ByRules ps pinned objects command (Some o)
-      → (rules : Flat) × AreInForce ps pinned.conf rules × RulesSay ps rules.rules (asked_by pinned) objects command (Some r)
-  says_of o r objects only by = (by.0, by.2, subst (λ (x : Option Refusal). RulesSay ps by.0.rules (asked_by pinned) objects command x) (only by.1 by.4) by.3)
+      → (rules : Flat) × AreInForce ps pinned.conf rules × RulesSay ps rules.rules (asked_by ps rules pinned) objects command (Some r)
+  says_of o r objects only by = (by.0, by.2, subst (λ (x : Option Refusal). RulesSay ps by.0.rules (asked_by ps by.0 pinned) objects command x) (only by.1 by.4) by.3)
 
   pub denied_not_let : Exactly → Denials → (v : Verdict) (letter : Letter) (name : List ℕ) (t : TellsCommand admin before entry pinned command (Denied v letter name))
-      → IsNotLet ps pinned (pinned.repository.objects ++ t.pack) command (λ rules facts. IsDenial ps rules (asked_by pinned) (pinned.repository.objects ++ t.pack) command facts v letter name)
+      → IsNotLet ps pinned (pinned.repository.objects ++ t.pack) command (λ rules facts. IsDenial ps rules.rules (asked_by ps rules pinned) (pinned.repository.objects ++ t.pack) command facts v letter name)
   denied_not_let exactly denials v letter name t =
       let objects : List Content = pinned.repository.objects ++ t.pack in
       let by = says_of (Denied v letter name) (refusal.Denied v letter name) objects (denied_refusal v letter name) (said_by_rules (Denied v letter name) refl refl t) in
       let says = by.2 in
-      let of = denials ps by.0.rules (asked_by pinned) objects command in
+      let of = denials ps by.0.rules (asked_by ps by.0 pinned) objects command in
       record {
         rules = by.0;
         in_force = by.1;
         facts = says.0;
         are_facts = says.1;
-        not_let = not_let_by exactly ps by.0.rules (asked_by pinned) objects command (refusal.Denied v letter name) says;
+        not_let = not_let_by exactly ps by.0.rules (asked_by ps by.0 pinned) objects command (refusal.Denied v letter name) says;
         why = record {
           letter_is = of.letter_is v letter name says.0 says.1 says;
           verdict_is = of.verdict_is v letter name says;
-          denies = denies_on ps by.0.rules (asked_by pinned) objects command says.0 v letter name says.2;
+          denies = denies_on ps by.0.rules (asked_by ps by.0 pinned) objects command says.0 v letter name says.2;
         };
       }
 
   pub many_not_let : Exactly → (t : TellsCommand admin before entry pinned command ManyPaths)
-      → IsNotLet ps pinned (pinned.repository.objects ++ t.pack) command (λ rules facts. AreMany ps rules (asked_by pinned) (pinned.repository.objects ++ t.pack) command facts)
+      → IsNotLet ps pinned (pinned.repository.objects ++ t.pack) command (λ rules facts. AreMany ps rules.rules (asked_by ps rules pinned) (pinned.repository.objects ++ t.pack) command facts)
   many_not_let exactly t =
       let objects : List Content = pinned.repository.objects ++ t.pack in
       let by = says_of ManyPaths refusal.ManyPaths objects many_refusal (said_by_rules ManyPaths refl refl t) in
@@ -308,8 +308,8 @@ module _ (ps : Patterns) (ok : AreTrue ps) (admin : Name) (before : List Entry) 
         in_force = by.1;
         facts = says.0;
         are_facts = says.1;
-        not_let = not_let_by exactly ps by.0.rules (asked_by pinned) objects command refusal.ManyPaths says;
-        why = are_many ps by.0.rules (asked_by pinned) objects command says.0 says.2;
+        not_let = not_let_by exactly ps by.0.rules (asked_by ps by.0 pinned) objects command refusal.ManyPaths says;
+        why = are_many ps by.0.rules (asked_by ps by.0 pinned) objects command says.0 says.2;
       }
 
 pub denied_is_not_let : Exactly → Denials → DeniedIsNotLet

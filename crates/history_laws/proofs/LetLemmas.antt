@@ -109,6 +109,6 @@ past_is_let exactly = λ admin before entry pinned command outcome legal past te
     let by = passed_of ps ok admin before entry legal pinned command outcome past tells in (
       by.0,
       by.2,
-      λ facts are. (exactly ps by.0.rules (asked_by pinned) (pinned.repository.objects ++ tells.pack) command).only facts are
-          (subst (λ (x : Option Refusal). RulesSay ps by.0.rules (asked_by pinned) (pinned.repository.objects ++ tells.pack) command x) (none_refused by.1 by.4) by.3),
+      λ facts are. (exactly ps by.0.rules (asked_by ps by.0 pinned) (pinned.repository.objects ++ tells.pack) command).only facts are
+          (subst (λ (x : Option Refusal). RulesSay ps by.0.rules (asked_by ps by.0 pinned) (pinned.repository.objects ++ tells.pack) command x) (none_refused by.1 by.4) by.3),
     )

@@ -1,5 +1,5 @@
 -- Along a legal log each repository, each creator and each holder of a role is named.
-use Rattle.std.proofs.Common.{◌≡◌, inl, inr, ℕ, Bool, true, false, cond, List, [], ◌∷◌, ◌++◌, filter, refl, sym, ◌∙◌, ap, subst, Contains}
+use Rattle.std.proofs.Common.{◌≡◌, inl, inr, ℕ, Bool, true, false, not, cond, List, [], ◌∷◌, ◌++◌, filter, refl, sym, ◌∙◌, ap, subst, Contains}
 use Rattle.std.specs.Prelude.{Option, Some, None, Result, Ok, Err, codes, if◌then◌else◌}
 use Rattle.std.specs.List.{AllByRecursion, list_any}
 use Rattle.std.specs.Option.{IfSome, unwrap_or}
@@ -19,9 +19,13 @@ use Rattle.ref_store.specs.Refs.{Name}
 use Rattle.ref_store.specs.declared.command.Command.{Command}
 use Rattle.rule_compile.specs.Flat.{Flat, after_splicing, flat}
 use Rattle.rule_compile.specs.Patterns.{AreTrue, Patterns}
+use Rattle.rule_compile.proofs.RoleLemmas.{declared_is_role_name}
+use Rattle.rule_compile.specs.Roles.{declares, is_role_name}
 use Rattle.rule_compile.specs.Words.{is_all, repo_of}
 use Rattle.rule_compile.specs.declared.rule.RepoWord.TheVariants as repo
 use Rattle.rule_laws.specs.Laws.{IsWorded, PlainAreWorded}
+use Rattle.wild_perms.specs.Answers.{refused_by}
+use Rattle.wild_perms.specs.declared.answer.PermsAnswer.TheVariants as perms
 use Rattle.wild_perms.specs.declared.role.RoleEntry.{RoleEntry}
 use Rattle.hub_history.specs.declared.outcome.Outcome.{Outcome}
 use Rattle.hub_history.specs.declared.entry.EnterKept.{EnterKept}
@@ -36,7 +40,7 @@ use Rattle.hub_history.specs.Conf.{ComesTo}
 use Rattle.hub_history.specs.History.{AreNames, History, IsDue, IsDueAfter, IsOfUser, after, after_push, made_empty, new_history, opening_at, pinned_by, push_change, step}
 use Rattle.hub_history.specs.Opening.{Pinned, made_by}
 use Rattle.hub_history.specs.Push.{Makes, conf_put, is_done, is_lacking, refs_left}
-use Rattle.hub_history.specs.Roles.{entry_of, given_by, roles_after}
+use Rattle.hub_history.specs.Roles.{IsDueChange, entry_of, given_by, has_entry, roles_after, unless_refused}
 use Rattle.hub_history.specs.State.{CommitAmong, Repository, State, changed, empty_repository, placed_in, put_in_place, repository_at, start}
 use Rattle.hub_history.proofs.HistoryLemmas.{history-keeps, some_same}
 use Rattle.hub_history.proofs.MovedLogs.{same_key}
@@ -85,7 +89,7 @@ PlacedNamed placed = IsNamed placed.0 placed.1
 
 -- an empty repository, made by somebody or by nobody
 new_named : (name : Name) (creator : Option Name) → is_repo_name name ≡ true → IfSome creator (λ user. is_user_name user ≡ true) → IsNamed name (empty_repository creator)
-new_named name creator good made = record { repo = good; creator = made; holders = λ held has. absurd (contains_none held has) }
+new_named name creator good made = record { repo = good; creator = made; holders = λ held has. absurd (contains_none held has); roles = λ held has. absurd (contains_none held has) }
 
 put_named : (known : ByName Repository) (name : Name) (repository : Repository) → IsNamed name repository → AllNamed known → AllNamed (insert known name repository)
 put_named known name repository here all q found is = by_name (eq_by_cmp (slice_cmp nat_cmp) q name) refl (sym (get-insert nat_list_cmp_total known name repository q) ∙ is)
@@ -149,16 +153,50 @@ roles_named roles (change.Grant role user) of_user good held has =
 roles_named roles (change.Revoke role user) of_user good held has = good held (without_has roles (entry_of role user) held has).0
 roles_named roles change.List of_user good held has = good held has
 
-given_named : (state : State) (user repo : Name) (asked : PermChange) (answer : PermsKept) → AreNames user repo → IsOfUser asked → AllNamed state.repositories → AllNamed (changed state (given_by state repo asked answer)).repositories
-given_named state user repo asked Changed names of_user all =
+-- what is given or taken is a role's name
+abbrev AsksRole : PermChange → Type 0
+AsksRole (change.Grant role user) = is_role_name role ≡ true
+AsksRole (change.Revoke role user) = is_role_name role ≡ true
+AsksRole change.List = Unit {0}
+
+words_named : (roles : List RoleEntry) (asked : PermChange) → AsksRole asked → ((held : RoleEntry) → Contains roles held → is_role_name held.role ≡ true)
+    → (held : RoleEntry) → Contains (roles_after roles asked) held → is_role_name held.role ≡ true
+words_named roles (change.Grant role user) is_role good held has =
+    elim (with_has roles (entry_of role user) held has) [
+      | inl same ↦ ap (λ (e : RoleEntry). is_role_name e.role) same ∙ is_role
+      | inr old ↦ good held old
+    ]
+words_named roles (change.Revoke role user) is_role good held has = good held (without_has roles (entry_of role user) held has).0
+words_named roles change.List is_role good held has = good held has
+
+-- what changes roles is of a word that is declared, and so of a role's name
+changed_named : (ps : Patterns) (state : State) (user repo : Name) (asked : PermChange) → IsDueChange ps state user repo asked Changed → AsksRole asked
+changed_named ps state user repo (change.Grant role whom) due =
+    by_declared (declares ps due.0.options role repo (repository_at state repo).creator) refl (has_entry (repository_at state repo).roles (entry_of role whom)) due.2
+  where
+    by_declared : (b : Bool) → declares ps due.0.options role repo (repository_at state repo).creator ≡ b → (so : Bool)
+        → Some Changed ≡ unless_refused (if not b then Some perms.NoSuchRole else refused_by (repository_at state repo).creator user) so → is_role_name role ≡ true
+    by_declared true is so told = declared_is_role_name ps due.0.options role repo (repository_at state repo).creator is
+    by_declared false is so told = absurd cc
+changed_named ps state user repo (change.Revoke role whom) due =
+    by_declared (declares ps due.0.options role repo (repository_at state repo).creator) refl (not (has_entry (repository_at state repo).roles (entry_of role whom))) due.2
+  where
+    by_declared : (b : Bool) → declares ps due.0.options role repo (repository_at state repo).creator ≡ b → (so : Bool)
+        → Some Changed ≡ unless_refused (if not b then Some perms.NoSuchRole else refused_by (repository_at state repo).creator user) so → is_role_name role ≡ true
+    by_declared true is so told = declared_is_role_name ps due.0.options role repo (repository_at state repo).creator is
+    by_declared false is so told = absurd cc
+changed_named ps state user repo change.List due = tt
+
+given_named : (ps : Patterns) (state : State) (user repo : Name) (asked : PermChange) (answer : PermsKept) → AreNames user repo → IsOfUser asked → IsDueChange ps state user repo asked answer → AllNamed state.repositories → AllNamed (changed state (given_by state repo asked answer)).repositories
+given_named ps state user repo asked Changed names of_user due all =
     let old = named_at state repo names.asked_for all in
     put_named state.repositories repo (record (repository_at state repo) { roles = roles_after (repository_at state repo).roles asked })
-    (record { repo = old.repo; creator = old.creator; holders = roles_named (repository_at state repo).roles asked of_user old.holders }) all
-given_named state user repo asked AlreadySo names of_user all = all
-given_named state user repo asked NotWild names of_user all = all
-given_named state user repo asked NotCreator names of_user all = all
-given_named state user repo asked NoSuchRole names of_user all = all
-given_named state user repo asked Listed names of_user all = all
+    (record { repo = old.repo; creator = old.creator; holders = roles_named (repository_at state repo).roles asked of_user old.holders; roles = words_named (repository_at state repo).roles asked (changed_named ps state user repo asked due) old.roles }) all
+given_named ps state user repo asked AlreadySo names of_user due all = all
+given_named ps state user repo asked NotWild names of_user due all = all
+given_named ps state user repo asked NotCreator names of_user due all = all
+given_named ps state user repo asked NoSuchRole names of_user due all = all
+given_named ps state user repo asked Listed names of_user due all = all
 
 push_named : (state : State) (pinned : Pinned) (pack : List Content) (commands : List Command) (outcomes : List Outcome) (made : List Name) → is_repo_name pinned.repo ≡ true → AllByRecursion PlacedNamed (made_empty made)
     → AllNamed state.repositories → AllNamed (changed state (push_change state pinned pack commands outcomes made)).repositories
@@ -171,7 +209,7 @@ push_named state pinned pack commands outcomes made good news all = by_done (lis
     by_done : (b : Bool) → AllNamed (placed_in state.repositories (put_in_place pinned.repo (if b then Some next else None) ++ made_empty made))
     by_done true =
         let old = named_at state pinned.repo good all in
-        put_named (placed_in state.repositories (made_empty made)) pinned.repo next (record { repo = old.repo; creator = old.creator; holders = old.holders }) (placed_named state.repositories (made_empty made) news all)
+        put_named (placed_in state.repositories (made_empty made)) pinned.repo next (record { repo = old.repo; creator = old.creator; holders = old.holders; roles = old.roles }) (placed_named state.repositories (made_empty made) news all)
     by_done false = placed_named state.repositories (made_empty made) news all
 
 module _ (worded : PlainAreWorded) (ps : Patterns) (ok : AreTrue ps) where
@@ -182,7 +220,7 @@ module _ (worded : PlainAreWorded) (ps : Patterns) (ok : AreTrue ps) where
       by_opening : (o : Option Pinned) → opening_at h place ≡ o → IsDueAfter ps h.state o pack commands atomic outcomes made → AllNamed (after_push h.state o pack commands outcomes made).repositories
       by_opening None at due = absurd due
       by_opening (Some pinned) at due = push_named h.state pinned pack commands outcomes made (held.pins place pinned at) (made_named worded ps ok h.state (conf_put pinned pack commands outcomes) made due.makes) held.all
-  step_named h (Permitted user repo asked answer) due held = given_named h.state user repo asked answer due.0 due.1 held.all
+  step_named h (Permitted user repo asked answer) due held = given_named ps h.state user repo asked answer due.0 due.1 due.3 held.all
   step_named h (Looked user) due held = held.all
 
   -- what an event pins

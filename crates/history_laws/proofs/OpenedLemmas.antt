@@ -57,27 +57,27 @@ granted_unmade Fallthru is = cc
 
 module _ (ps : Patterns) (rules : Flat) (user repo : Name) (want : Want) where
   granted_is : (there : Option Repository) → Granted ≡ answer_by ps rules there user repo want
-      → (repository : Repository) × (there ≡ Some repository) × IsAllowed (first_stage ps rules (asked (wild_of repository) repo user) want)
-  granted_is (Some repository) is = (repository, refl, (undenied (first_stage ps rules (asked (wild_of repository) repo user) want) Granted Granted (λ w same. cc) is).0)
+      → (repository : Repository) × (there ≡ Some repository) × IsAllowed (first_stage ps rules (asked ps rules (wild_of repository) repo user) want)
+  granted_is (Some repository) is = (repository, refl, (undenied (first_stage ps rules (asked ps rules (wild_of repository) repo user) want) Granted Granted (λ w same. cc) is).0)
   granted_is None is = absurd (granted_unmade (may_create ps rules repo user) (undenied (unborn_stage ps rules repo user want) (by_creation (may_create ps rules repo user)) Granted (λ w same. cc) is).1)
 
   created_is : (there : Option Repository) → Created ≡ answer_by ps rules there user repo want
       → (there ≡ None) × IsAllowed (unborn_stage ps rules repo user want) × IsAllowed (may_create ps rules repo user)
   created_is (Some repository) is =
-      let clash : Created ≡ Granted = (undenied (first_stage ps rules (asked (wild_of repository) repo user) want) Granted Created (λ w same. cc) is).1 in
+      let clash : Created ≡ Granted = (undenied (first_stage ps rules (asked ps rules (wild_of repository) repo user) want) Granted Created (λ w same. cc) is).1 in
       absurd cc
   created_is None is =
       let by = undenied (unborn_stage ps rules repo user want) (by_creation (may_create ps rules repo user)) Created (λ w same. cc) is in
       (refl, by.0, made (may_create ps rules repo user) by.1)
 
   denied_is : (v : Verdict) (there : Option Repository) → Denied v ≡ answer_by ps rules there user repo want → (v ≡ stage_of ps rules there user repo want) × ¬ IsAllowed v
-  denied_is v (Some repository) is = denied (first_stage ps rules (asked (wild_of repository) repo user) want) v Granted (λ u same. cc) is
+  denied_is v (Some repository) is = denied (first_stage ps rules (asked ps rules (wild_of repository) repo user) want) v Granted (λ u same. cc) is
   denied_is v None is = denied (unborn_stage ps rules repo user want) v (by_creation (may_create ps rules repo user)) (creation_undenied (may_create ps rules repo user)) is
 
   lacking_is : (there : Option Repository) → NoRepo ≡ answer_by ps rules there user repo want
       → (there ≡ None) × IsAllowed (unborn_stage ps rules repo user want) × ¬ IsAllowed (may_create ps rules repo user)
   lacking_is (Some repository) is =
-      let clash : NoRepo ≡ Granted = (undenied (first_stage ps rules (asked (wild_of repository) repo user) want) Granted NoRepo (λ w same. cc) is).1 in
+      let clash : NoRepo ≡ Granted = (undenied (first_stage ps rules (asked ps rules (wild_of repository) repo user) want) Granted NoRepo (λ w same. cc) is).1 in
       absurd cc
   lacking_is None is =
       let by = undenied (unborn_stage ps rules repo user want) (by_creation (may_create ps rules repo user)) NoRepo (λ w same. cc) is in

@@ -47,14 +47,14 @@ OfEachOpening answer Holds =
 
 -- the first stage's verdict: for a repository that is there by its creator and its roles, and for one that isn't as if the asker were its creator
 abbrev pub stage_of : Patterns → Flat → Option Repository → Name → Name → Want → Verdict
-stage_of patterns rules (Some repository) user repo want = first_stage patterns rules (asked (wild_of repository) repo user) want
+stage_of patterns rules (Some repository) user repo want = first_stage patterns rules (asked patterns rules (wild_of repository) repo user) want
 stage_of patterns rules None user repo want = unborn_stage patterns rules repo user want
 
 -- An opening that was granted or created was let.
 pub record OpenedIsLet : Type 0 where
   -- where it was granted the repository was there, and the first stage allowed it
   pub granted : OfEachOpening opened.Granted (λ patterns rules there user repo want.
-      (repository : Repository) × (there ≡ Some repository) × IsAllowed (first_stage patterns rules (asked (wild_of repository) repo user) want))
+      (repository : Repository) × (there ≡ Some repository) × IsAllowed (first_stage patterns rules (asked patterns rules (wild_of repository) repo user) want))
   -- where it was created there was none, the first stage allowed it with the asker as the creator, and the asker was allowed to make the repository
   pub created : OfEachOpening opened.Created (λ patterns rules there user repo want.
       (there ≡ None) × IsAllowed (unborn_stage patterns rules repo user want) × IsAllowed (may_create patterns rules repo user))
@@ -70,18 +70,18 @@ pub record RefusedIsNotLet : Type 0 where
 
 -- ---- commands of pushes
 
--- what is asked of the rules for who opened a repository
-abbrev pub asked_by : Pinned → Asked
-asked_by pinned = asked (wild_of pinned.repository) pinned.repo pinned.user
+-- what is asked of rules for who opened a repository
+abbrev pub asked_by : Patterns → Flat → Pinned → Asked
+asked_by patterns rules pinned = asked patterns rules (wild_of pinned.repository) pinned.repo pinned.user
 
 -- The rules that were in force at an opening don't let a change be made for who opened the repository; and by these rules and the facts of the change this holds.
-pub record IsNotLet (patterns : Patterns) (pinned : Pinned) (objects : List Content) (change : Command) (Holds : List Rule → Facts → Type 0) : Type 0 where
+pub record IsNotLet (patterns : Patterns) (pinned : Pinned) (objects : List Content) (change : Command) (Holds : Flat → Facts → Type 0) : Type 0 where
   pub rules : Flat
   pub in_force : AreInForce patterns pinned.conf rules
   pub facts : Facts
   pub are_facts : AreFacts objects change.name change.old change.new facts
-  pub not_let : ¬ LetsBeMade patterns rules.rules (asked_by pinned) objects change facts
-  pub why : Holds rules.rules facts
+  pub not_let : ¬ LetsBeMade patterns rules.rules (asked_by patterns rules pinned) objects change facts
+  pub why : Holds rules facts
 
 -- a rule denies
 abbrev pub IsDenied : Verdict → Type 0
@@ -120,14 +120,14 @@ abbrev pub DeniedIsNotLet : Type 0
 DeniedIsNotLet =
     (admin : Name) (before : List Entry) (entry : Entry) (pinned : Pinned) (command : Command) (verdict : Verdict) (letter : Letter) (name : List ℕ) → IsLegal admin (before ++ entry ∷ [])
     → (tells : TellsCommand admin before entry pinned command (Denied verdict letter name)) → (patterns : Patterns) → AreTrue patterns
-    → IsNotLet patterns pinned (objects_of tells) command (λ rules facts. IsDenial patterns rules (asked_by pinned) (objects_of tells) command facts verdict letter name)
+    → IsNotLet patterns pinned (objects_of tells) command (λ rules facts. IsDenial patterns rules.rules (asked_by patterns rules pinned) (objects_of tells) command facts verdict letter name)
 
 -- Nor was one that is told of too many paths, and they are.
 abbrev pub ManyPathsIsNotLet : Type 0
 ManyPathsIsNotLet =
     (admin : Name) (before : List Entry) (entry : Entry) (pinned : Pinned) (command : Command) → IsLegal admin (before ++ entry ∷ [])
     → (tells : TellsCommand admin before entry pinned command ManyPaths) → (patterns : Patterns) → AreTrue patterns
-    → IsNotLet patterns pinned (objects_of tells) command (λ rules facts. HasManyPaths patterns rules (asked_by pinned) (objects_of tells) command)
+    → IsNotLet patterns pinned (objects_of tells) command (λ rules facts. HasManyPaths patterns rules.rules (asked_by patterns rules pinned) (objects_of tells) command)
 
 -- a command is past the rules: it is done, or another of its atomic push is refused; it is stale, a ref is in its way, or its conf is refused
 abbrev pub IsPastTheRules : Outcome → Type 0
@@ -140,7 +140,7 @@ PastTheRulesIsLet =
     (admin : Name) (before : List Entry) (entry : Entry) (pinned : Pinned) (command : Command) (outcome : Outcome) → IsLegal admin (before ++ entry ∷ []) → IsPastTheRules outcome
     → (tells : TellsCommand admin before entry pinned command outcome) → (patterns : Patterns) → AreTrue patterns
     → (rules : Flat) × AreInForce patterns pinned.conf rules × ((facts : Facts) → AreFacts (objects_of tells) command.name command.old command.new facts
-    → LetsBeMade patterns rules.rules (asked_by pinned) (objects_of tells) command facts)
+    → LetsBeMade patterns rules.rules (asked_by patterns rules pinned) (objects_of tells) command facts)
 
 -- ---- atomic pushes
 

@@ -1,7 +1,7 @@
 // A hub as one caller has it.
 ghost use Rattle.std.specs.Prelude.{◌≡◌, ◌≤◌, length};
 ghost use Rattle.access_check.specs.declared.verdicts.Want.TheVariants as want;
-ghost use Rattle.hub_history.specs.History.{Stands};
+ghost use Rattle.hub_history.specs.History.{HasShortRole, Stands};
 ghost use Rattle.git_object.specs.Object.{FitOnePack};
 ghost use Rattle.hub_history.specs.Push.{AreWithinLimits};
 ghost use Rattle.push_judging.specs.Judged.{IsJudgement};
@@ -60,6 +60,7 @@ pub trait Desk {
         repo: &RepoName,
         change: PermChange,
     ) -> Permitted
+        requires short { HasShortRole change }
         ensures answers { Permits (view self.old) (view self.new) user.now repo.now change result }
         ensures keeps { KeepsPins (view self.old) (view self.new) }
         ensures goes { goes_on self.old self.new };

@@ -25,7 +25,7 @@ use Rattle.hub_history.specs.History.{IsDuePush}
 use Rattle.hub_history.specs.Laws.{OneAnswer}
 use Rattle.hub_history.specs.Opening.{IsDueOpening, Pinned, answer_by}
 use Rattle.hub_history.specs.Push.{ByConfIf, ByRules, Judges, Makes, by_command, by_conf, by_new_value, conf_put, is_lacking, is_named_twice, is_of_conf, outcome_of, outcomes_in}
-use Rattle.hub_history.specs.Roles.{IsDueChange}
+use Rattle.hub_history.specs.Roles.{IsDueChange, answer_by_rules}
 use Rattle.hub_history.specs.State.{CommitAmong, Conf, State, repository_at, wild_of}
 use Rattle.hub_history.specs.declared.entry.PermChange.{PermChange}
 use Rattle.hub_history.specs.declared.entry.PermsKept.{PermsKept}
@@ -69,9 +69,9 @@ module _ (files_once : swap.OneAnswer) (said_once : (ps : Patterns) (rules : Lis
 
   by_rules_one : (pinned : Pinned) (objects : List Content) (c : Command) (a b : Option Outcome) → ByRules ps pinned objects c a → ByRules ps pinned objects c b → a ≡ b
   by_rules_one pinned objects c a b p q =
-      let who = asked (wild_of pinned.repository) pinned.repo pinned.user in
-      let says : RulesSay ps p.0.rules who objects c q.1 = subst (λ (rules : Flat). RulesSay ps rules.rules who objects c q.1) (sym (rules_one pinned.conf p.0 q.0 p.2 q.2)) q.3 in
-      p.4 ∙ ap outcome_of ((said_once ps p.0.rules who objects c).one p.1 q.1 p.3 says) ∙ sym q.4
+      let who : Flat → Asked = λ rules. asked ps rules (wild_of pinned.repository) pinned.repo pinned.user in
+      let says : RulesSay ps p.0.rules (who p.0) objects c q.1 = subst (λ (rules : Flat). RulesSay ps rules.rules (who rules) objects c q.1) (sym (rules_one pinned.conf p.0 q.0 p.2 q.2)) q.3 in
+      p.4 ∙ ap outcome_of ((said_once ps p.0.rules (who p.0) objects c).one p.1 q.1 p.3 says) ∙ sym q.4
 
   by_conf_one : (b : Bool) (objects : List Content) (c : Command) (f g : Option Outcome) → ByConfIf b ps objects c f → ByConfIf b ps objects c g → f ≡ g
   by_conf_one false objects c f g p q = p ∙ sym q
@@ -108,11 +108,12 @@ module _ (files_once : swap.OneAnswer) (said_once : (ps : Patterns) (rules : Lis
         made_one state (conf_put pinned pack cs other) made others (subst (λ (os : List Outcome). Makes ps state (conf_put pinned pack cs os) made) same p.makes) q.makes,
       )
 
-change_one : (state : State) (user repo : Name) (asked : PermChange) (a b : PermsKept) → IsDueChange state user repo asked a → IsDueChange state user repo asked b → a ≡ b
-change_one state user repo asked a b p q = kept_same (p ∙ sym q)
-  where
-    kept_same : Some a ≡ Some b → a ≡ b
-    kept_same same = cc
+  change_one : (state : State) (user repo : Name) (change : PermChange) (a b : PermsKept) → IsDueChange ps state user repo change a → IsDueChange ps state user repo change b → a ≡ b
+  change_one state user repo change a b p q =
+      kept_same (p.2 ∙ ap (λ (rules : Flat). answer_by_rules ps rules (wild_of (repository_at state repo)) user repo change) (rules_one state.conf p.0 q.0 p.1 q.1) ∙ sym q.2)
+    where
+      kept_same : Some a ≡ Some b → a ≡ b
+      kept_same same = cc
 
 pub one_answer : swap.OneAnswer → ((ps : Patterns) (rules : List Rule) (a : Asked) (objects : List Content) (change : Command) → OneIsSaid ps rules a objects change) → OneAnswer
 one_answer files_once said_once = record {
@@ -120,5 +121,5 @@ one_answer files_once said_once = record {
   opening = opening_one files_once said_once;
   judgement = judgement_one files_once said_once;
   push = push_one files_once said_once;
-  change = change_one;
+  change = change_one files_once said_once;
 }

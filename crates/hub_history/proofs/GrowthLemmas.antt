@@ -109,7 +109,7 @@ made_anew ps state user repo want due = by_get (get state.repositories repo) ref
   where
     by_get : (o : Option Repository) → get state.repositories repo ≡ o → Created ≡ answer_by ps due.0 o user repo want → o ≡ None
     by_get None is answer = refl
-    by_get (Some r) is answer = absurd (never_created (first_stage ps due.0 (asked (wild_of r) repo user) want) answer)
+    by_get (Some r) is answer = absurd (never_created (first_stage ps due.0 (asked ps due.0 (wild_of r) repo user) want) answer)
 
 grows-opening : (ps : Patterns) (state : State) (user repo : Name) (want : Want) (answer : EnterKept) → IsDueOpening ps state user repo want answer → Grows state (changed state (made_by user repo answer))
 grows-opening ps state user repo want Granted due q = follows_itself (get state.repositories q)

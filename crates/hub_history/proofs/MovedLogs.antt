@@ -287,14 +287,14 @@ module _ (ps : Patterns) (ok : AreTrue ps) (admin : Name) (before : List Entry) 
 pub done_let : ((ps : Patterns) (rules : List _) (a : _) (objects : List Content) (change : Command) → ExactlyWhereLet ps rules a objects change)
     → (ps : Patterns) (ok : AreTrue ps) (admin : Name) (before : List Entry) (entry : Entry) (legal : IsLegal admin (before ++ entry ∷ [])) (pinned : Pinned) (command : Command) (t : TellsCommand admin before entry pinned command Done)
     → (rules : Flat) × AreInForce ps pinned.conf rules × ((facts : Facts) → AreFacts (pinned.repository.objects ++ t.pack) command.name command.old command.new facts
-    → LetsBeMade ps rules.rules (asked (wild_of pinned.repository) pinned.repo pinned.user) (pinned.repository.objects ++ t.pack) command facts)
+    → LetsBeMade ps rules.rules (asked ps rules (wild_of pinned.repository) pinned.repo pinned.user) (pinned.repository.objects ++ t.pack) command facts)
 done_let exactly ps ok admin before entry legal pinned command t =
     let none = untold ps pinned t.pack t.commands command (untold_here ps ok admin before entry legal t.place t.pack t.commands t.atomic t.outcomes t.made pinned t.is_push t.opening t.index command t.command_is t.outcome_is) in
     let rules = none.rules in (
       rules.0,
       rules.2,
-      λ facts are. (exactly ps rules.0.rules (asked (wild_of pinned.repository) pinned.repo pinned.user) (pinned.repository.objects ++ t.pack) command).only facts are
-          (subst (λ (o : Option Refusal). RulesSay ps rules.0.rules (asked (wild_of pinned.repository) pinned.repo pinned.user) (pinned.repository.objects ++ t.pack) command o) (none_refused rules.1 rules.4) rules.3),
+      λ facts are. (exactly ps rules.0.rules (asked ps rules.0 (wild_of pinned.repository) pinned.repo pinned.user) (pinned.repository.objects ++ t.pack) command).only facts are
+          (subst (λ (o : Option Refusal). RulesSay ps rules.0.rules (asked ps rules.0 (wild_of pinned.repository) pinned.repo pinned.user) (pinned.repository.objects ++ t.pack) command o) (none_refused rules.1 rules.4) rules.3),
     )
   where
     none_refused : (o : Option Refusal) → None ≡ outcome_of o → o ≡ None

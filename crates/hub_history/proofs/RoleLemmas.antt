@@ -14,12 +14,13 @@ use Rattle.ref_store.specs.Objects.{with_pack}
 use Rattle.ref_store.specs.Refs.{Name, Refs}
 use Rattle.ref_store.specs.declared.command.Command.{Command}
 use Rattle.rule_compile.specs.Patterns.{AreTrue, Patterns}
+use Rattle.rule_compile.specs.Roles.{declares}
 use Rattle.access_check.specs.Verdicts.{may_create, unborn_stage}
 use Rattle.access_check.specs.declared.verdicts.Verdict.{Verdict}
 use Rattle.access_check.specs.declared.verdicts.Verdict.TheVariants.{Allowed, DeniedBy, Fallthru}
 use Rattle.access_check.specs.declared.verdicts.Want.{Want}
 use Rattle.wild_perms.specs.Answers.{refused_by}
-use Rattle.wild_perms.specs.Roles.{IsRoleSet, is_role}
+use Rattle.wild_perms.specs.Roles.{IsRoleSet}
 use Rattle.wild_perms.specs.declared.answer.PermsAnswer.{PermsAnswer}
 use Rattle.wild_perms.specs.declared.answer.PermsAnswer.TheVariants as perms
 use Rattle.wild_perms.specs.declared.role.RoleEntry.{RoleEntry}
@@ -37,8 +38,8 @@ use Rattle.hub_history.specs.History.{IsDue, IsDueAfter, IsLegal, after_push, hi
 use Rattle.hub_history.specs.Laws.{OfEachRepository}
 use Rattle.hub_history.specs.Opening.{IsDueOpening, Pinned, answer_by, by_creation, by_verdict, made_by}
 use Rattle.hub_history.specs.Push.{conf_put, is_done, refs_left}
-use Rattle.hub_history.specs.RoleLaws.{HoldsBehind, IsNotSo, IsOfNoRole, IsSo, TellsOfRoles, creator_in}
-use Rattle.hub_history.specs.Roles.{IsDueChange, entry_of, given_by, has_entry, kept_of, roles_after, unless_kept, unless_refused}
+use Rattle.hub_history.specs.RoleLaws.{HoldsBehind, IsDeclaredAs, IsNotSo, IsSo, IsUndeclared, TellsOfRoles, creator_in, is_of_role}
+use Rattle.hub_history.specs.Roles.{IsDueChange, entry_of, given_by, is_declared, has_entry, kept_of, roles_after, unless_kept, unless_refused}
 use Rattle.hub_history.specs.State.{Repository, State, changed, empty_repository, placed_in, put_in_place, repository_at}
 use Rattle.hub_history.proofs.EachRepository.{Each, each_pinned, each_replayed}
 use Rattle.hub_history.proofs.GrowthLemmas.{AreLacking, log_grows, made_anew, makes_lacking, stays_there}
@@ -157,11 +158,11 @@ module _ (state : State) (asker repo : Name) where
       subst (TellsOfRoles state asker repo asked) (some_same (sym (kept ∙ ap kept_of other.0))) (other.1, other.2, other.3)
 
   -- the answer to a change of one role, by what refuses it
-  module _ (role user : Name) (asked : PermChange) (no_role : is_role role ≡ false → IsOfNoRole asked) where
-    by_role : (b : Bool) → is_role role ≡ b → (so : Bool) (answer : PermsKept) → Some answer ≡ unless_refused (if not b then Some perms.NoSuchRole else refused_by now.creator asker) so
+  module _ (asked : PermChange) where
+    by_role : (declared : Bool) (so : Bool) (answer : PermsKept) → Some answer ≡ unless_refused (if not declared then Some perms.NoSuchRole else refused_by now.creator asker) so
         → (now.creator ≡ Some asker → (so ≡ true → IsSo state repo asked) × (so ≡ false → IsNotSo state repo asked)) → TellsOfRoles state asker repo asked answer
-    by_role false is so answer told means = subst (TellsOfRoles state asker repo asked) (some_same (sym told)) (no_role is)
-    by_role true is so answer told means = by_refusal (refused_by now.creator asker) refl told
+    by_role false so answer told means = subst (TellsOfRoles state asker repo asked) (some_same (sym told)) tt
+    by_role true so answer told means = by_refusal (refused_by now.creator asker) refl told
       where
         by_so : (s : Bool) → so ≡ s → now.creator ≡ Some asker → Some answer ≡ Some (if s then AlreadySo else Changed) → TellsOfRoles state asker repo asked answer
         by_so true so_is creator told = subst (TellsOfRoles state asker repo asked) (some_same (sym told)) (creator, (means creator).0 so_is)
@@ -171,12 +172,53 @@ module _ (state : State) (asker repo : Name) where
         by_refusal (Some found) is told = tells_refused asked answer found told (by_creator now.creator refl found is)
         by_refusal None is told = by_so so refl (is_creator now.creator refl is) told
 
-  pub answer_tells : (asked : PermChange) (answer : PermsKept) → IsDueChange state asker repo asked answer → TellsOfRoles state asker repo asked answer
-  answer_tells (change.Grant role user) answer due =
-      by_role role user (change.Grant role user) (λ none. none) (is_role role) refl (has_entry now.roles (entry_of role user)) answer due
+  -- whether the word is declared, by the answer
+  declared_is : (declared so : Bool) (answer : PermsKept) → Some answer ≡ unless_refused (if not declared then Some perms.NoSuchRole else refused_by now.creator asker) so → declared ≡ is_of_role answer
+  declared_is false so answer told = sym (ap is_of_role (some_same told))
+  declared_is true so answer told = by_refusal (refused_by now.creator asker) refl told
+    where
+      by_found : (found : PermsAnswer) → Some answer ≡ kept_of found
+          → ((found ≡ perms.NotWild) × (now.creator ≡ None)) ⊎ ((found ≡ perms.NotCreator) × (creator : Name) × (now.creator ≡ Some creator) × ¬ (creator ≡ asker)) → true ≡ is_of_role answer
+      by_found found kept (inl none) = sym (ap is_of_role (some_same (kept ∙ ap kept_of none.0)))
+      by_found found kept (inr other) = sym (ap is_of_role (some_same (kept ∙ ap kept_of other.0)))
+
+      by_so : (s : Bool) → Some answer ≡ Some (if s then AlreadySo else Changed) → true ≡ is_of_role answer
+      by_so true is = sym (ap is_of_role (some_same is))
+      by_so false is = sym (ap is_of_role (some_same is))
+
+      by_refusal : (o : Option PermsAnswer) → refused_by now.creator asker ≡ o → Some answer ≡ unless_refused o so → true ≡ is_of_role answer
+      by_refusal (Some found) is told = by_found found told (by_creator now.creator refl found is)
+      by_refusal None is told = by_so so told
+
+  listed_is : (answer : PermsKept) → Some answer ≡ unless_kept (refused_by now.creator asker) → true ≡ is_of_role answer
+  listed_is answer told = by_refusal (refused_by now.creator asker) refl told
+    where
+      by_found : (found : PermsAnswer) → Some answer ≡ kept_of found
+          → ((found ≡ perms.NotWild) × (now.creator ≡ None)) ⊎ ((found ≡ perms.NotCreator) × (creator : Name) × (now.creator ≡ Some creator) × ¬ (creator ≡ asker)) → true ≡ is_of_role answer
+      by_found found kept (inl none) = sym (ap is_of_role (some_same (kept ∙ ap kept_of none.0)))
+      by_found found kept (inr other) = sym (ap is_of_role (some_same (kept ∙ ap kept_of other.0)))
+
+      by_refusal : (o : Option PermsAnswer) → refused_by now.creator asker ≡ o → Some answer ≡ unless_kept o → true ≡ is_of_role answer
+      by_refusal (Some found) is told = by_found found told (by_creator now.creator refl found is)
+      by_refusal None is told = sym (ap is_of_role (some_same told))
+
+  pub is_declared_as : (asked : PermChange) (answer : PermsKept) → ((ps : Patterns) → AreTrue ps → IsDueChange ps state asker repo asked answer) → IsDeclaredAs (is_of_role answer) state repo asked
+  is_declared_as (change.Grant role user) answer due = λ ps ok.
+      let d = due ps ok in
+      (d.0, d.1, declared_is (is_declared ps d.0 repo now.creator (change.Grant role user)) (has_entry now.roles (entry_of role user)) answer d.2)
+  is_declared_as (change.Revoke role user) answer due = λ ps ok.
+      let d = due ps ok in
+      (d.0, d.1, declared_is (is_declared ps d.0 repo now.creator (change.Revoke role user)) (not (has_entry now.roles (entry_of role user))) answer d.2)
+  is_declared_as change.List answer due = λ ps ok.
+      let d = due ps ok in
+      (d.0, d.1, listed_is answer d.2)
+
+  pub answer_tells : (ps : Patterns) (asked : PermChange) (answer : PermsKept) → IsDueChange ps state asker repo asked answer → TellsOfRoles state asker repo asked answer
+  answer_tells ps (change.Grant role user) answer due =
+      by_role (change.Grant role user) (is_declared ps due.0 repo now.creator (change.Grant role user)) (has_entry now.roles (entry_of role user)) answer due.2
       (λ creator. (λ so. entry_contained now.roles (entry_of role user) so, λ other held. let clash : true ≡ false = sym (contained_entry now.roles (entry_of role user) held) ∙ other in cc clash))
-  answer_tells (change.Revoke role user) answer due =
-      by_role role user (change.Revoke role user) (λ none. none) (is_role role) refl (not (has_entry now.roles (entry_of role user))) answer due
+  answer_tells ps (change.Revoke role user) answer due =
+      by_role (change.Revoke role user) (is_declared ps due.0 repo now.creator (change.Revoke role user)) (not (has_entry now.roles (entry_of role user))) answer due.2
       (λ creator. (
         λ so held. let clash : false ≡ true = ap not (sym (contained_entry now.roles (entry_of role user) held)) ∙ so in cc clash,
         λ other. entry_contained now.roles (entry_of role user) (not_false (has_entry now.roles (entry_of role user)) other),
@@ -185,7 +227,7 @@ module _ (state : State) (asker repo : Name) where
       not_false : (b : Bool) → not b ≡ false → b ≡ true
       not_false true is = refl
       not_false false is = absurd cc
-  answer_tells change.List answer due = by_refusal (refused_by now.creator asker) refl due
+  answer_tells ps change.List answer due = by_refusal (refused_by now.creator asker) refl due.2
     where
       by_refusal : (o : Option PermsAnswer) → refused_by now.creator asker ≡ o → Some answer ≡ unless_kept o → TellsOfRoles state asker repo change.List answer
       by_refusal (Some found) is told = tells_refused change.List answer found told (by_creator now.creator refl found is)
@@ -292,8 +334,15 @@ module _ (ps : Patterns) (ok : AreTrue ps) (admin : Name) (before : List Entry) 
   later_by : (event : Event) → entry.event ≡ event → later ≡ step (history admin before) event
   later_by event is = behind admin before entry ∙ ap (step (history admin before)) is
 
-  pub answers_tell : (asker repo : Name) (asked : PermChange) (answer : PermsKept) → entry.event ≡ Permitted asker repo asked answer → TellsOfRoles state asker repo asked answer
-  answers_tell asker repo asked answer is = answer_tells state asker repo asked answer (due_of (Permitted asker repo asked answer) is).2
+  due_by : (qs : Patterns) → AreTrue qs → (event : Event) → entry.event ≡ event → IsDue qs (history admin before) event
+  due_by qs are event is = subst (IsDue qs (history admin before)) is (due_last admin before entry legal qs are)
+
+  pub answers_tell : (asker repo : Name) (asked : PermChange) (answer : PermsKept) → entry.event ≡ Permitted asker repo asked answer
+      → TellsOfRoles state asker repo asked answer × IsDeclaredAs (is_of_role answer) state repo asked
+  answers_tell asker repo asked answer is = (
+    answer_tells state asker repo ps asked answer (due_of (Permitted asker repo asked answer) is).3,
+    is_declared_as state asker repo asked answer (λ qs are. (due_by qs are (Permitted asker repo asked answer) is).3),
+  )
 
   roles_given : (asker repo : Name) (asked : PermChange) → entry.event ≡ Permitted asker repo asked Changed → (repository_at later repo).roles ≡ roles_after (repository_at state repo).roles asked
   roles_given asker repo asked is =
@@ -357,6 +406,34 @@ module _ (ps : Patterns) (ok : AreTrue ps) (admin : Name) (before : List Entry) 
       by_event (Pushed place pack cs atomic os made) is = absurd (differs (same_pushed (λ (r : Repository). r.roles) repo (λ r objects refs. refl) place pack cs atomic os made is))
       by_event (Permitted asker to asked answer) is = by_name asker to asked answer is (eq_by_cmp (slice_cmp nat_cmp) repo to) refl
       by_event (Looked user) is = same_by (Looked user) is refl
+
+  -- a role that is held stays while it isn't declared
+  pub undeclared_stay : (repo : Name) (held : RoleEntry) → Contains (repository_at state repo).roles held → IsUndeclared state repo held.role → Contains (repository_at later repo).roles held
+  undeclared_stay repo held has undeclared = by_test (has_entry (repository_at later repo).roles held) refl
+    where
+      lost : (asker : Name) (asked : PermChange) → entry.event ≡ Permitted asker repo asked Changed → ¬ Contains (repository_at later repo).roles held → ⊥
+      lost asker (change.Grant role user) is gone = gone ((change_of_one asker repo (change.Grant role user) is held).1 (inr has))
+      lost asker change.List is gone = gone ((change_of_one asker repo change.List is held).1 has)
+      lost asker (change.Revoke role user) is gone =
+          gone ((change_of_one asker repo (change.Revoke role user) is held).1 (
+            has,
+            λ same.
+                let by = (answers_tell asker repo (change.Revoke role user) Changed is).1 ps ok in
+                let taken : declares ps by.0.options role repo (repository_at state repo).creator ≡ true = by.2 in
+                let none : declares ps by.0.options role repo (repository_at state repo).creator ≡ false =
+                ap (λ (e : RoleEntry). declares ps by.0.options e.role repo (repository_at state repo).creator) (sym same) ∙ undeclared ps ok by.0 by.1 in
+                let clash : true ≡ false = sym taken ∙ none in
+                cc clash,
+          ))
+
+      gone_by : ¬ Contains (repository_at later repo).roles held → ⊥
+      gone_by gone =
+          let changed = roles_change_there repo (λ same. gone (subst (λ (roles : List RoleEntry). Contains roles held) (sym same) has)) in
+          lost changed.0 changed.1 changed.2 gone
+
+      by_test : (b : Bool) → has_entry (repository_at later repo).roles held ≡ b → Contains (repository_at later repo).roles held
+      by_test true is = entry_contained (repository_at later repo).roles held is
+      by_test false is = absurd (gone_by (λ held_later. let clash : true ≡ false = sym (contained_entry (repository_at later repo).roles held held_later) ∙ is in cc clash))
 
   pub created_is_new : (user repo : Name) (want : Want) → entry.event ≡ Entered user repo want Created → (get state.repositories repo ≡ None) × (get later.repositories repo ≡ Some (empty_repository (Some user)))
   created_is_new user repo want is = (
@@ -450,7 +527,7 @@ module _ (ps : Patterns) (ok : AreTrue ps) (admin : Name) (before : List Entry) 
           by_name false apart = same_by (Permitted asker to asked Changed) event_is (get_apart state.repositories to repo (record (repository_at state to) { roles = roles_after (repository_at state to).roles asked }) apart)
           by_name true same =
               let clash : None ≡ Some asker =
-              ap (λ (o : Option Repository). (unwrap_or o (empty_repository None)).creator) (sym lacks) ∙ ap (creator_in state) (same_key repo to same) ∙ (answers_tell asker to asked Changed event_is).0 in cc
+              ap (λ (o : Option Repository). (unwrap_or o (empty_repository None)).creator) (sym lacks) ∙ ap (creator_in state) (same_key repo to same) ∙ (answers_tell asker to asked Changed event_is).0.0 in cc
 
       by_event : (event : Event) → entry.event ≡ event → is ≡ empty_repository is.creator
       by_event (Entered user to want answer) event_is = opened user to want answer event_is

@@ -1,5 +1,5 @@
 -- Logs: the state that a log leads to, and which logs are legal.
-use Rattle.std.specs.Prelude.{◌≡◌, ℕ, Bool, true, List, [], ◌∷◌, ◌++◌, map, Option, None, Some}
+use Rattle.std.specs.Prelude.{◌≡◌, ℕ, ◌≤◌, Bool, true, List, [], ◌∷◌, ◌++◌, length, map, Option, None, Some}
 use Rattle.std.specs.List.{slice_get}
 use Rattle.conf_lex.specs.Names.{is_repo_name, is_user_name}
 use Rattle.git_object.specs.Content.{Content}
@@ -109,11 +109,21 @@ IsOfUser (change.Grant role user) = is_user_name user ≡ true
 IsOfUser (change.Revoke role user) = is_user_name user ≡ true
 IsOfUser change.List = Unit {0}
 
--- the names are names, and the answer that an event records is the one that is due by what stands before it
+-- the text of the role that is asked for; a listing asks for none
+abbrev pub role_text : PermChange → List ℕ
+role_text (change.Grant role user) = role
+role_text (change.Revoke role user) = role
+role_text change.List = []
+
+-- it has at most 65,516 bytes
+abbrev pub HasShortRole : PermChange → Type 0
+HasShortRole asked = length (role_text asked) ≤ 65516
+
+-- the names are names, what is asked for is short enough, and the answer that an event records is the one that is due by what stands before it
 abbrev pub IsDue : Patterns → History → Event → Type 0
 IsDue patterns h (Entered user repo want answer) = AreNames user repo × IsDueOpening patterns h.state user repo want answer
 IsDue patterns h (Pushed place pack commands atomic outcomes made) = IsDueAfter patterns h.state (opening_at h place) pack commands atomic outcomes made
-IsDue patterns h (Permitted user repo asked answer) = AreNames user repo × IsOfUser asked × IsDueChange h.state user repo asked answer
+IsDue patterns h (Permitted user repo asked answer) = AreNames user repo × IsOfUser asked × HasShortRole asked × IsDueChange patterns h.state user repo asked answer
 IsDue patterns h (Looked user) = is_user_name user ≡ true
 
 abbrev pub IsLegalFrom : Patterns → History → List Entry → Type 0

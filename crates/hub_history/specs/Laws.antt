@@ -132,7 +132,7 @@ DoneIsLet =
     (admin : Name) (before : List Entry) (entry : Entry) (pinned : Pinned) (command : Command) → IsLegal admin (before ++ entry ∷ [])
     → (tells : TellsCommand admin before entry pinned command Done) → (patterns : Patterns) → AreTrue patterns
     → (rules : Flat) × AreInForce patterns pinned.conf rules × ((facts : Facts) → AreFacts (pinned.repository.objects ++ tells.pack) command.name command.old command.new facts
-    → LetsBeMade patterns rules.rules (asked (wild_of pinned.repository) pinned.repo pinned.user) (pinned.repository.objects ++ tells.pack) command facts)
+    → LetsBeMade patterns rules.rules (asked patterns rules (wild_of pinned.repository) pinned.repo pinned.user) (pinned.repository.objects ++ tells.pack) command facts)
 
 -- a command that is done moves its ref from the old value, which that had just before the push, to the new one
 abbrev pub DoneMoves : Type 0
@@ -258,4 +258,5 @@ pub record OneAnswer : Type 0 where
       → Judges patterns pinned pack commands command one → Judges patterns pinned pack commands command other → one ≡ other
   pub push : (patterns : Patterns) (state : State) (pinned : Pinned) (pack : List Content) (commands : List Command) (atomic : Bool) (one other : List Outcome) (made others : List Name)
       → IsDuePush patterns state pinned pack commands atomic one made → IsDuePush patterns state pinned pack commands atomic other others → (one ≡ other) × (made ≡ others)
-  pub change : (state : State) (user repo : Name) (asked : PermChange) (one other : PermsKept) → IsDueChange state user repo asked one → IsDueChange state user repo asked other → one ≡ other
+  pub change : (patterns : Patterns) (state : State) (user repo : Name) (asked : PermChange) (one other : PermsKept)
+      → IsDueChange patterns state user repo asked one → IsDueChange patterns state user repo asked other → one ≡ other

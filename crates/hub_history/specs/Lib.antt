@@ -5,5 +5,6 @@ pub mod Roles
 pub mod Collision
 pub mod Push
 pub mod History
+pub mod Requests
 pub mod Laws
 pub mod RoleLaws

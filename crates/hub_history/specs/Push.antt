@@ -80,7 +80,7 @@ outcome_of (Some refusal.ManyPaths) = Some ManyPaths
 abbrev pub ByRules : Patterns → Pinned → List Content → Command → Option Outcome → Type 0
 ByRules patterns pinned objects command said =
     (rules : Flat) × (refused : Option Refusal) × AreInForce patterns pinned.conf rules
-    × RulesSay patterns rules.rules (asked (wild_of pinned.repository) pinned.repo pinned.user) objects command refused × (said ≡ outcome_of refused)
+    × RulesSay patterns rules.rules (asked patterns rules (wild_of pinned.repository) pinned.repo pinned.user) objects command refused × (said ≡ outcome_of refused)
 
 -- I. 4. What the conf at its new value says, where that is to be in force. A delete leaves none.
 

@@ -1,10 +1,13 @@
 -- Laws of creators and of roles.
-use Rattle.std.specs.Prelude.{◌≡◌, ◌↔◌, ◌⊎◌, false, List, [], ◌∷◌, ◌++◌, Option, None, Some}
+use Rattle.std.specs.Prelude.{◌≡◌, ◌↔◌, ◌⊎◌, Bool, true, false, List, [], ◌∷◌, ◌++◌, Option, None, Some}
 use Rattle.std.specs.List.{Contains}
 use Rattle.std.specs.FinMap.{get}
 use Rattle.ref_store.specs.Refs.{Name}
+use Rattle.rule_compile.specs.Flat.{Flat}
+use Rattle.rule_compile.specs.Patterns.{AreTrue, Patterns}
+use Rattle.rule_compile.specs.Roles.{declares}
 use Rattle.access_check.specs.declared.verdicts.Want.{Want}
-use Rattle.wild_perms.specs.Roles.{IsRoleSet, is_role}
+use Rattle.wild_perms.specs.Roles.{IsRoleSet}
 use Rattle.wild_perms.specs.declared.role.RoleEntry.{RoleEntry}
 use Rattle.hub_history.specs.declared.entry.Entry.{Entry}
 use Rattle.hub_history.specs.declared.entry.EnterKept.TheVariants.{Created}
@@ -13,9 +16,10 @@ use Rattle.hub_history.specs.declared.entry.PermChange.{PermChange}
 use Rattle.hub_history.specs.declared.entry.PermChange.TheVariants as change
 use Rattle.hub_history.specs.declared.entry.PermsKept.{PermsKept}
 use Rattle.hub_history.specs.declared.entry.PermsKept.TheVariants.{Changed, AlreadySo, NotWild, NotCreator, NoSuchRole, Listed}
+use Rattle.hub_history.specs.Conf.{AreInForce}
 use Rattle.hub_history.specs.History.{IsLegal, replay}
 use Rattle.hub_history.specs.Laws.{OfEachRepository}
-use Rattle.hub_history.specs.Roles.{entry_of}
+use Rattle.hub_history.specs.Roles.{entry_of, is_declared}
 use Rattle.hub_history.specs.State.{Repository, State, empty_repository, repository_at}
 
 -- who created a repository, if anybody did
@@ -64,12 +68,6 @@ IsNotSo state repo (change.Grant role user) = ¬ Holds state repo (entry_of role
 IsNotSo state repo (change.Revoke role user) = Holds state repo (entry_of role user)
 IsNotSo state repo change.List = ⊥
 
--- what is asked is of a role that there isn't
-abbrev pub IsOfNoRole : PermChange → Type 0
-IsOfNoRole (change.Grant role user) = is_role role ≡ false
-IsOfNoRole (change.Revoke role user) = is_role role ≡ false
-IsOfNoRole change.List = ⊥
-
 -- what an answer to an asker tells of a repository
 abbrev pub TellsOfRoles : State → Name → Name → PermChange → PermsKept → Type 0
 TellsOfRoles state asker repo asked Changed = (creator_in state repo ≡ Some asker) × IsNotSo state repo asked
@@ -77,13 +75,27 @@ TellsOfRoles state asker repo asked AlreadySo = (creator_in state repo ≡ Some 
 TellsOfRoles state asker repo asked Listed = (creator_in state repo ≡ Some asker) × (asked ≡ change.List)
 TellsOfRoles state asker repo asked NotWild = creator_in state repo ≡ None
 TellsOfRoles state asker repo asked NotCreator = (creator : Name) × (creator_in state repo ≡ Some creator) × ¬ (creator ≡ asker)
-TellsOfRoles state asker repo asked NoSuchRole = IsOfNoRole asked
+TellsOfRoles state asker repo asked NoSuchRole = Unit {0}
 
--- each answer tells what is so just before it
+-- every answer but that there is no such role
+abbrev pub is_of_role : PermsKept → Bool
+is_of_role NoSuchRole = false
+is_of_role Changed = true
+is_of_role AlreadySo = true
+is_of_role NotWild = true
+is_of_role NotCreator = true
+is_of_role Listed = true
+
+-- whether the rules in force declare the word that is asked for as a role for the repository
+abbrev pub IsDeclaredAs : Bool → State → Name → PermChange → Type 0
+IsDeclaredAs declared state repo asked =
+    (patterns : Patterns) → AreTrue patterns → (rules : Flat) × AreInForce patterns state.conf rules × (is_declared patterns rules repo (creator_in state repo) asked ≡ declared)
+
+-- Each answer tells what is so just before it. That there is no such role is told exactly where the rules in force don't declare the word.
 abbrev pub AnswersTellOfRoles : Type 0
 AnswersTellOfRoles =
     (admin : Name) (before : List Entry) (entry : Entry) (asker repo : Name) (asked : PermChange) (answer : PermsKept) → IsLegal admin (before ++ entry ∷ []) → entry.event ≡ Permitted asker repo asked answer
-    → TellsOfRoles (replay admin before) asker repo asked answer
+    → TellsOfRoles (replay admin before) asker repo asked answer × IsDeclaredAs (is_of_role answer) (replay admin before) repo asked
 
 -- who holds which role behind a change that is done
 abbrev pub HoldsBehind : State → Name → PermChange → RoleEntry → Type 0
@@ -103,3 +115,16 @@ RolesChangeThere =
     (admin : Name) (before : List Entry) (entry : Entry) (repo : Name) → IsLegal admin (before ++ entry ∷ [])
     → ¬ ((repository_at (replay admin (before ++ entry ∷ [])) repo).roles ≡ (repository_at (replay admin before) repo).roles)
     → (asker : Name) × (asked : PermChange) × (entry.event ≡ Permitted asker repo asked Changed)
+
+-- ---- roles that aren't declared
+
+-- no rules in force declare the word as a role for the repository
+abbrev pub IsUndeclared : State → Name → Name → Type 0
+IsUndeclared state repo role =
+    (patterns : Patterns) → AreTrue patterns → (rules : Flat) → AreInForce patterns state.conf rules → declares patterns rules.options role repo (creator_in state repo) ≡ false
+
+-- A role that is held stays while it isn't declared, whatever happens. A change of the conf gives and takes none.
+abbrev pub UndeclaredStay : Type 0
+UndeclaredStay =
+    (admin : Name) (before : List Entry) (entry : Entry) (repo : Name) (held : RoleEntry) → IsLegal admin (before ++ entry ∷ []) → Holds (replay admin before) repo held
+    → IsUndeclared (replay admin before) repo held.role → Holds (replay admin (before ++ entry ∷ [])) repo held

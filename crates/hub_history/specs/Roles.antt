@@ -1,8 +1,11 @@
 -- Changes of roles: their answers, and what they change.
-use Rattle.std.specs.Prelude.{◌≡◌, List, Option, None, Some, Bool, ◌&&◌, not, if◌then◌else◌}
+use Rattle.std.specs.Prelude.{◌≡◌, List, Option, None, Some, Bool, true, ◌&&◌, not, if◌then◌else◌}
 use Rattle.std.specs.List.{list_any}
 use Rattle.std.specs.Str.{bytes_eq}
 use Rattle.ref_store.specs.Refs.{Name}
+use Rattle.rule_compile.specs.Flat.{Flat}
+use Rattle.rule_compile.specs.Patterns.{Patterns}
+use Rattle.rule_compile.specs.Roles.{declares}
 use Rattle.wild_perms.specs.Answers.{refusal, refused_by}
 use Rattle.wild_perms.specs.Roles.{WildView, with_entry, without_entry}
 use Rattle.wild_perms.specs.declared.role.RoleEntry.{RoleEntry}
@@ -12,6 +15,7 @@ use Rattle.hub_history.specs.declared.entry.PermChange.{PermChange}
 use Rattle.hub_history.specs.declared.entry.PermChange.TheVariants as change
 use Rattle.hub_history.specs.declared.entry.PermsKept.{PermsKept}
 use Rattle.hub_history.specs.declared.entry.PermsKept.TheVariants.{Changed, AlreadySo, NotWild, NotCreator, NoSuchRole, Listed}
+use Rattle.hub_history.specs.Conf.{AreInForce}
 use Rattle.hub_history.specs.State.{Change, State, no_change, put_in_place, repository_at, wild_of}
 
 abbrev pub entry_of : Name → Name → RoleEntry
@@ -39,15 +43,26 @@ abbrev pub unless_kept : Option PermsAnswer → Option PermsKept
 unless_kept (Some refused) = kept_of refused
 unless_kept None = Some Listed
 
--- A role is given where the user doesn't hold it, taken where the user does, and all are shown, to the creator alone. A repository that isn't there answers as one without creator.
-abbrev pub answer_to_change : WildView → Name → PermChange → Option PermsKept
-answer_to_change wild asker (change.Grant role user) = unless_refused (refusal wild asker role) (has_entry wild.roles (entry_of role user))
-answer_to_change wild asker (change.Revoke role user) = unless_refused (refusal wild asker role) (not (has_entry wild.roles (entry_of role user)))
-answer_to_change wild asker change.List = unless_kept (refused_by wild.creator asker)
+-- Whether rules declare the word that is asked for as a role for the repository. A listing asks for none.
+abbrev pub is_declared : Patterns → Flat → Name → Option Name → PermChange → Bool
+is_declared patterns rules repo creator (change.Grant role user) = declares patterns rules.options role repo creator
+is_declared patterns rules repo creator (change.Revoke role user) = declares patterns rules.options role repo creator
+is_declared patterns rules repo creator change.List = true
 
--- the answer to a change of roles is the one that the repository's creator and roles give
-abbrev pub IsDueChange : State → Name → Name → PermChange → PermsKept → Type 0
-IsDueChange state user repo asked answer = Some answer ≡ answer_to_change (wild_of (repository_at state repo)) user asked
+-- A role that is declared is given where the user doesn't hold it, taken where the user does, and all are shown, to the creator alone. A repository that isn't there answers as one without creator.
+abbrev pub answer_to_change : WildView → Name → Bool → PermChange → Option PermsKept
+answer_to_change wild asker declared (change.Grant role user) = unless_refused (refusal wild asker declared) (has_entry wild.roles (entry_of role user))
+answer_to_change wild asker declared (change.Revoke role user) = unless_refused (refusal wild asker declared) (not (has_entry wild.roles (entry_of role user)))
+answer_to_change wild asker declared change.List = unless_kept (refused_by wild.creator asker)
+
+-- the same of a repository, by rules
+abbrev pub answer_by_rules : Patterns → Flat → WildView → Name → Name → PermChange → Option PermsKept
+answer_by_rules patterns rules wild user repo asked = answer_to_change wild user (is_declared patterns rules repo wild.creator asked) asked
+
+-- the answer to a change of roles is the one that the rules in force, and the repository's creator and roles, give
+abbrev pub IsDueChange : Patterns → State → Name → Name → PermChange → PermsKept → Type 0
+IsDueChange patterns state user repo asked answer =
+    (rules : Flat) × AreInForce patterns state.conf rules × (Some answer ≡ answer_by_rules patterns rules (wild_of (repository_at state repo)) user repo asked)
 
 abbrev pub roles_after : List RoleEntry → PermChange → List RoleEntry
 roles_after roles (change.Grant role user) = with_entry roles (entry_of role user)

@@ -1,6 +1,6 @@
 // What holds of the definitions themselves.
 ghost use Rattle.hub_history.specs.Laws.{BeginningIsLegal, ChangesAreDone, ConfChangesAreDone, ConfStaysGood, DirFileIsInTheWay, DoneHasNoneInTheWay, DoneIsLet, DoneMoves, LegalByPlaces, NamesStayOnce, NamesStayShort, ObjectsAreFormed, ObjectsOnlyGrow, OneAnswer, OpeningStays, PinsAreOfOpenings, PinsOfItsPlace, RefsStayApart, RefsStayNonzero, RefsStayWhole, RefusedAtomicChangesNothing, RepositoriesStay, StaleIsStale, StateStays};
-ghost use Rattle.hub_history.specs.RoleLaws.{AnswersTellOfRoles, ChangesAreOfOneRole, CreatedIsNew, CreatorsOpened, NewIsEmpty, RolesChangeThere, RolesStaySets};
+ghost use Rattle.hub_history.specs.RoleLaws.{AnswersTellOfRoles, ChangesAreOfOneRole, CreatedIsNew, CreatorsOpened, NewIsEmpty, RolesChangeThere, RolesStaySets, UndeclaredStay};
 
 use rule_compile::some_patterns_are_true;
 
@@ -36,6 +36,7 @@ pub fn hold_laws()
     ensures roles { AnswersTellOfRoles }
     ensures role { ChangesAreOfOneRole }
     ensures elsewhere { RolesChangeThere }
+    ensures undeclared { UndeclaredStay }
     ensures one { OneAnswer }
 {
     // called for its clause that some answers about patterns are true, which the proof cites

@@ -6,7 +6,8 @@ use Rattle.hub_history.specs.declared.entry.EnterKept.TheVariants.{NoRepo}
 use Rattle.hub_history.specs.declared.entry.Event.{Event}
 use Rattle.hub_history.specs.declared.entry.Event.TheVariants.{Entered, Pushed, Permitted, Looked}
 use Rattle.hub_history.specs.declared.entry.PermsKept.TheVariants.{NotWild}
-use Rattle.interaction_tree.specs.Requests.{Request, Enter, Push, Permit, Look, request_of, Answers, Agrees}
+use Rattle.hub_history.specs.Requests.{Request, Enter, Push, Permit, Look, request_of}
+use Rattle.interaction_tree.specs.Requests.{Answers, Agrees}
 
 -- a beginning of a log
 pub agrees_front : (answers : Answers) (log more : List Entry) → Agrees answers (log ++ more) → Agrees answers log

@@ -3,7 +3,8 @@ use Rattle.std.proofs.Common.{◌≡◌, ℕ, zero, suc, List, [], ◌∷◌, �
 use Rattle.std.proofs.lemmas.List.{append-nil}
 use Rattle.base_types.specs.Fronts.{Front, Whole, Broken, Partial}
 use Rattle.interaction_tree.specs.Wanted.{front_of, by_front}
-use Rattle.interaction_tree.specs.Requests.{Request, OwnEntry}
+use Rattle.hub_history.specs.Requests.{Request}
+use Rattle.interaction_tree.specs.Requests.{OwnEntry}
 use Rattle.interaction_tree.specs.Interaction.{CutOff, Interaction, gives, ends, writes, reads, asks, ◌>>=◌}
 use Rattle.interaction_tree.specs.Turns.{Extent, Closed, Open, Ended, Waiting, Turn, after_writing, after_reading, after_asking, cut_off, turn_over, by_stop, behind, and_then}
 

@@ -12,7 +12,8 @@ use Rattle.hub_history.specs.declared.entry.EnterKept.TheVariants.{Granted, NoRe
 use Rattle.hub_history.specs.declared.entry.Event.{Event}
 use Rattle.hub_history.specs.declared.entry.Event.TheVariants.{Entered}
 use Rattle.interaction_tree.specs.Wanted.{Packet, front_of}
-use Rattle.interaction_tree.specs.Requests.{OwnEntry, Request, Enter}
+use Rattle.hub_history.specs.Requests.{Request, Enter}
+use Rattle.interaction_tree.specs.Requests.{OwnEntry}
 use Rattle.interaction_tree.specs.Interaction.{Interaction, gives, ends, writes, ◌>>=◌, write, read, ask}
 use Rattle.interaction_tree.specs.Turns.{Stop, Gave, Ended, Unanswered, Waiting, turn_over, turn, due}
 use Rattle.interaction_tree.specs.Order.{EntriesFirst, IsOrdered}

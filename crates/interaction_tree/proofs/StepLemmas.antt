@@ -32,7 +32,7 @@ use Rattle.hub_history.specs.Opening.{Opening}
 use Rattle.hub.specs.Answer.{kept}
 use Rattle.hub.specs.Desk.{DeskView, MakesEntry, Enters, Looks, Permits, Pushes}
 use Rattle.interaction_tree.specs.Wanted.{Packet, Pack, front_of, Reply}
-use Rattle.interaction_tree.specs.Requests.{Enter, Push, Permit, Look, request_of}
+use Rattle.hub_history.specs.Requests.{Enter, Push, Permit, Look, request_of}
 use Rattle.interaction_tree.specs.Interaction.{CutOff, Interaction, gives, ends, writes, ◌>>=◌, read, ask}
 use Rattle.interaction_tree.specs.Traces.{Reading, Memory, Halt, Ended, Failed}
 use Rattle.interaction_tree.specs.Runs.{Runs, TakesOnly}

@@ -5,7 +5,8 @@ use Rattle.std.specs.Io.KnownBytes.{IsAtEnd}
 use Rattle.base_types.specs.Fronts.{Front, Whole, Broken, Partial}
 use Rattle.raw_pack.specs.Reading.{IsNoMore}
 use Rattle.interaction_tree.specs.Wanted.{Wanted, Value, Fault, front_of, Reply, by_front}
-use Rattle.interaction_tree.specs.Requests.{Request, OwnEntry, asked}
+use Rattle.hub_history.specs.Requests.{Request}
+use Rattle.interaction_tree.specs.Requests.{OwnEntry, asked}
 use Rattle.interaction_tree.specs.Interaction.{CutOff, Interaction, gives, ends, writes, reads, asks}
 use Rattle.interaction_tree.specs.Turns.{Extent, Closed, Open, Turn, Waiting, after_writing, after_reading, after_asking, cut_off, turn_over, turn, due}
 use Rattle.interaction_tree.specs.Turns as stop

@@ -2,7 +2,8 @@
 use Rattle.std.specs.Prelude.{◌≡◌, ℕ, List, [], ◌∷◌, ◌++◌, drop}
 use Rattle.hub_history.specs.declared.entry.Entry.{Entry}
 use Rattle.interaction_tree.specs.Wanted.{front_of, by_front}
-use Rattle.interaction_tree.specs.Requests.{Request, Answers, OwnEntry, asked}
+use Rattle.hub_history.specs.Requests.{Request}
+use Rattle.interaction_tree.specs.Requests.{Answers, OwnEntry, asked}
 use Rattle.interaction_tree.specs.Interaction.{Interaction, gives, ends, writes, reads, asks}
 use Rattle.interaction_tree.specs.Turns.{Stop, Gave, Ended}
 

@@ -1,7 +1,8 @@
 -- What a session does, as an interaction tree: what it writes, reads and asks, one step after the other, each by the replies before it.
 use Rattle.std.specs.Prelude.{ℕ, List}
 use Rattle.interaction_tree.specs.Wanted.{Wanted, Fault, Reply}
-use Rattle.interaction_tree.specs.Requests.{Request, OwnEntry}
+use Rattle.hub_history.specs.Requests.{Request}
+use Rattle.interaction_tree.specs.Requests.{OwnEntry}
 
 -- how an input is taken that ends inside what is wanted: these bytes are still due, and this is the end
 pub record CutOff (E : Type 0) : Type 0 where

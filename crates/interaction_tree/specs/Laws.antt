@@ -18,7 +18,8 @@ use Rattle.raw_pack.specs.declared.fault.PackFault.{PackFault}
 use Rattle.hub_history.specs.declared.entry.Entry.{Entry}
 use Rattle.hub.specs.Desk.{DeskView, IsOfAnother, IsSound, MakesEntry}
 use Rattle.interaction_tree.specs.Wanted.{Wanted, Packet, Pack, Value, Fault, front_of, Reply, shown}
-use Rattle.interaction_tree.specs.Requests.{Request, request_of, Answers, Agrees, AsLogged, OwnEntry, asked, own_in}
+use Rattle.hub_history.specs.Requests.{Request, request_of}
+use Rattle.interaction_tree.specs.Requests.{Answers, Agrees, AsLogged, OwnEntry, asked, own_in}
 use Rattle.interaction_tree.specs.Interaction.{CutOff, Interaction, gives, ends, writes, reads, ◌>>=◌, write, read, ask, ending_as}
 use Rattle.interaction_tree.specs.Turns.{Extent, Ended, turn_over, turn, and_then, turn_as}
 use Rattle.interaction_tree.specs.Alone.{turn_alone, IsAlone}

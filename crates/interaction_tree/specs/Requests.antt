@@ -1,30 +1,8 @@
--- Entries of the log, as a session asks for them and a hub answers.
-use Rattle.std.specs.Prelude.{◌≡◌, ℕ, nat_eq, Bool, List, [], ◌∷◌, ◌++◌, take, drop, if◌then◌else◌}
-use Rattle.git_object.specs.Content.{Content}
-use Rattle.ref_store.specs.declared.command.Command.{Command}
-use Rattle.access_check.specs.declared.verdicts.Want.{Want}
+-- Entries of the log, as a session makes them and a hub answers.
+use Rattle.std.specs.Prelude.{◌≡◌, ℕ, nat_eq, List, [], ◌∷◌, ◌++◌, take, drop, if◌then◌else◌}
 use Rattle.hub_history.specs.declared.entry.Entry.{Entry}
 use Rattle.hub_history.specs.declared.entry.Event.{Event}
-use Rattle.hub_history.specs.declared.entry.Event.TheVariants.{Entered, Pushed, Permitted, Looked}
-use Rattle.hub_history.specs.declared.entry.PermChange.{PermChange}
-use Rattle.ref_store.specs.Refs.{Name}
-
--- an event without its answer
-pub data Request : Type 0 where
-  -- a user opens a repository
-  Enter : (user repo : Name) (want : Want) → Request
-  -- a push is settled, after the opening at this place
-  Push : (place : ℕ) (pack : List Content) (commands : List Command) (atomic : Bool) → Request
-  -- a user changes the roles of a repository, or lists them
-  Permit : (user repo : Name) (change : PermChange) → Request
-  -- a user lists what there is to see
-  Look : (user : Name) → Request
-
-abbrev pub request_of : Event → Request
-request_of (Entered user repo want answer) = Enter user repo want
-request_of (Pushed place pack commands atomic outcomes made) = Push place pack commands atomic
-request_of (Permitted user repo change answer) = Permit user repo change
-request_of (Looked user) = Look user
+use Rattle.hub_history.specs.Requests.{Request, request_of}
 
 -- what a hub answers: the event that a request brings about behind a log
 abbrev pub Answers : Type 0

@@ -1,7 +1,8 @@
 -- A session's turn: what is due of an interaction, by its input and by the session's own entries.
 use Rattle.std.specs.Prelude.{ℕ, List, [], ◌∷◌, ◌++◌, take, drop}
 use Rattle.interaction_tree.specs.Wanted.{front_of, by_front}
-use Rattle.interaction_tree.specs.Requests.{Request, OwnEntry}
+use Rattle.hub_history.specs.Requests.{Request}
+use Rattle.interaction_tree.specs.Requests.{OwnEntry}
 use Rattle.interaction_tree.specs.Interaction.{CutOff, Interaction, gives, ends, writes, reads, asks}
 
 -- whether an input ends with its last byte, or may go on

@@ -92,8 +92,7 @@ conf_there pinned pack c there = ap (λ (b : Bool). if b && true then Some (conf
 -- what a check says is what the rules say that were in force
 pub by_check : (ps : Patterns) (ok : AreTrue ps) (pinned : Pinned) (check : CheckView) (objects : List Content) (c : Command) (said : Option Outcome) → IsCheckOf pinned check → SaysByRules ps check objects c said → ByRules ps pinned objects c said
 by_check ps ok pinned check objects c said is says =
-    let rules = is.rules ps ok in
-    (rules.0, says.0, rules.1, subst (λ (a : Asked). RulesSay ps rules.0.rules a objects c says.0) is.asks (subst (λ (rs : List Rule). RulesSay ps rs (asked_by check) objects c says.0) rules.2 says.1), says.2)
+    (check.flat, says.0, is.rules ps ok, subst (λ (a : Asked). RulesSay ps check.flat.rules a objects c says.0) (is.asks ps) says.1, says.2)
 
 -- the last row of a table
 pub last_row : (Row : Option Outcome → Type 0) (found : Option Outcome) → Row found → First Row End found

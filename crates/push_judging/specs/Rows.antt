@@ -4,7 +4,6 @@ use Rattle.git_object.specs.Content.{Content}
 use Rattle.conf_groups.specs.declared.fault.ConfKind.{ConfKind}
 use Rattle.conf_groups.specs.declared.fault.ConfKind.TheVariants as kind
 use Rattle.ref_store.specs.declared.command.Command.{Command}
-use Rattle.rule_compile.specs.Flat.{Flat}
 use Rattle.rule_compile.specs.Patterns.{AreTrue, Patterns}
 use Rattle.rule_compile.specs.declared.fault.PolicyFault.{PolicyFault}
 use Rattle.rule_compile.specs.declared.fault.PolicyFault.TheVariants.{Splicing, Rules}
@@ -21,12 +20,13 @@ use Rattle.hub_history.specs.State.{wild_of}
 
 -- a check by the rules that were in force at an opening, for who opened the repository
 pub record IsCheckOf (pinned : Pinned) (check : CheckView) : Type 0 where
-  pub rules : (patterns : Patterns) → AreTrue patterns → (rules : Flat) × AreInForce patterns pinned.conf rules × (check.rules ≡ rules.rules)
-  pub asks : asked_by check ≡ asked (wild_of pinned.repository) pinned.repo pinned.user
+  pub rules : (patterns : Patterns) → AreTrue patterns → AreInForce patterns pinned.conf check.flat
+  pub asks : (patterns : Patterns) → asked_by patterns check ≡ asked patterns check.flat (wild_of pinned.repository) pinned.repo pinned.user
 
 -- what a check says of a command, as an outcome
 abbrev pub SaysByRules : Patterns → CheckView → List Content → Command → Option Outcome → Type 0
-SaysByRules patterns check objects command said = (refused : Option Refusal) × RulesSay patterns check.rules (asked_by check) objects command refused × (said ≡ outcome_of refused)
+SaysByRules patterns check objects command said =
+    (refused : Option Refusal) × RulesSay patterns check.flat.rules (asked_by patterns check) objects command refused × (said ≡ outcome_of refused)
 
 -- the rows in their order, where it is known whether several commands are for the ref
 abbrev pub Tells : Patterns → Pinned → List Content → Bool → Command → Option Outcome → Type 0

@@ -14,7 +14,7 @@ use Rattle.hub.specs.declared.answer.Pushed.TheVariants.{Settled}
 use Rattle.hub_history.specs.Opening.{Opening}
 use Rattle.hub.specs.Desk.{DeskView, Pushes}
 use Rattle.interaction_tree.specs.Interaction.{Interaction, write, ask}
-use Rattle.interaction_tree.specs.Requests.{Push}
+use Rattle.hub_history.specs.Requests.{Push}
 use Rattle.interaction_tree.specs.Traces.{Halt}
 use Rattle.interaction_tree.specs.Runs.{Runs}
 use Rattle.interaction_tree.proofs.StepLemmas.{runs_pushed}

@@ -9,7 +9,7 @@ use Rattle.hub_history.specs.declared.entry.Event.TheVariants.{Entered, Pushed, 
 use Rattle.hub_history.specs.declared.outcome.Outcome.{Outcome}
 use Rattle.hub_history.specs.Opening.{Opening}
 use Rattle.interaction_tree.specs.Wanted.{Pack}
-use Rattle.interaction_tree.specs.Requests.{Push}
+use Rattle.hub_history.specs.Requests.{Push}
 use Rattle.interaction_tree.specs.Interaction.{CutOff, Interaction, gives, ends, ◌>>=◌, write, read, ask}
 use Rattle.session_core.specs.declared.end.SessionEnd.{SessionEnd}
 use Rattle.session_core.specs.declared.end.SessionEnd.TheVariants as end

@@ -1,20 +1,22 @@
 -- The laws of listings.
 use Rattle.std.proofs.Common.{◌≡◌, ℕ, List, [], ◌∷◌, Bool, true, false, cond, Option, Some, None, Contains, inl, inr, refl, sym, ◌∙◌, ap, subst}
-use Rattle.std.specs.Prelude.{◌&&◌, if◌then◌else◌}
-use Rattle.std.specs.List.{find, flat_map}
+use Rattle.std.specs.Prelude.{◌&&◌, ◌||◌, codes, if◌then◌else◌}
+use Rattle.std.specs.List.{find, flat_map, list_any}
+use Rattle.std.specs.Str.{bytes_eq}
 use Rattle.std.proofs.lemmas.Bool.{and_from, and_parts}
 use Rattle.std.proofs.lemmas.List.Concat.{flat_map-append}
 use Rattle.std.proofs.lemmas.List.Elements.{Contains-append_cases, Contains-append_left, Contains-append_right}
 use Rattle.conf_groups.specs.Groups.{with_items}
-use Rattle.rule_compile.specs.Covering.{covers_repo, is_pattern_word}
+use Rattle.rule_compile.specs.Covering.{covers_repo, is_in_force, is_pattern_word}
 use Rattle.rule_compile.specs.Flat.{Flat}
 use Rattle.rule_compile.specs.Patterns.{Patterns}
+use Rattle.rule_compile.specs.Roles.{is_common_role, is_role_name, role_key}
 use Rattle.rule_compile.specs.declared.rule.RepoWord.{RepoWord}
 use Rattle.rule_compile.specs.declared.rule.RepoWord.TheVariants as repo
 use Rattle.rule_compile.specs.declared.rule.Rule.{Rule}
 use Rattle.rule_compile.specs.declared.rule.UserWord.{UserWord}
 use Rattle.rule_compile.specs.declared.rule.UserWord.TheVariants as word
-use Rattle.access_check.specs.Users.{asked_unborn, covers_user}
+use Rattle.access_check.specs.Users.{asked_anywhere, asked_unborn, covers_user, word_covers}
 use Rattle.access_check.specs.Verdicts.{covers, creates, creating_decides, deny_rules_count, verdict_of}
 use Rattle.access_check.specs.declared.verdicts.Verdict.TheVariants.{Allowed, DeniedBy}
 use Rattle.access_check.specs.declared.verdicts.Want.TheVariants.{Read, Write}
@@ -66,13 +68,35 @@ repos_listed patterns flat repos user name write = (forth, back)
 
 -- ---- patterns
 
--- the name of a repository that isn't there plays no part
-same_user : (name user : List ℕ) (w : UserWord) → covers_user (asked_unborn [] user) w ≡ covers_user (asked_unborn name user) w
-same_user name user (word.Name n) = refl
-same_user name user (word.Group g members) = refl
-same_user name user word.All = refl
-same_user name user word.Creator = refl
-same_user name user (word.Role role) = refl
+-- whom a rule covers before a repository is there it covers where none is given: fewer words are declared as roles
+either : (a b x y : Bool) → (a ≡ true → x ≡ true) → (b ≡ true → y ≡ true) → (a || b) ≡ true → (x || y) ≡ true
+either true b x y first second is = ap (λ (c : Bool). c || y) (first refl)
+either false b true y first second is = refl
+either false b false y first second is = second is
+
+role_less : (creator common declared made named : Bool) → (if creator then made else (if common || declared then false else named)) ≡ true → (if creator then made else (if common then false else named)) ≡ true
+role_less true common declared made named is = is
+role_less false true declared made named is = is
+role_less false false true made named is = absurd (cc is)
+role_less false false false made named is = is
+
+module _ (patterns : Patterns) (flat : Flat) (name user : List ℕ) where
+  word_anywhere : (w : List ℕ) → word_covers (asked_unborn patterns flat name user) w ≡ true → word_covers (asked_anywhere user) w ≡ true
+  word_anywhere w is =
+      role_less (bytes_eq w (codes "CREATOR")) (is_common_role w) (is_role_name w && is_in_force patterns flat.options (role_key w) name (Some user)) (bytes_eq user user) (bytes_eq w user) is
+
+  any_anywhere : (ws : List (List ℕ)) → list_any (word_covers (asked_unborn patterns flat name user)) ws ≡ true → list_any (word_covers (asked_anywhere user)) ws ≡ true
+  any_anywhere [] is = is
+  any_anywhere (w ∷ ws) is =
+      either (word_covers (asked_unborn patterns flat name user) w) (list_any (word_covers (asked_unborn patterns flat name user)) ws) (word_covers (asked_anywhere user) w) (list_any (word_covers (asked_anywhere user)) ws)
+      (word_anywhere w) (any_anywhere ws) is
+
+  anywhere : (w : UserWord) → covers_user (asked_unborn patterns flat name user) w ≡ true → covers_user (asked_anywhere user) w ≡ true
+  anywhere (word.Name n) is = word_anywhere n is
+  anywhere (word.Group g members) is = any_anywhere members is
+  anywhere word.All is = is
+  anywhere word.Creator is = is
+  anywhere (word.Role role) is = word_anywhere role is
 
 pattern_is : (w : RepoWord) (text : List ℕ) → Contains (pattern_texts w) text → w ≡ repo.Pattern text
 pattern_is (repo.Plain name) text c = absurd (in_none text c)
@@ -109,13 +133,13 @@ module _ (patterns : Patterns) (flat : Flat) (repos : List Repository) (user tex
     where
       by_rule : (rule : Rule) → Contains flat.rules rule → (lets_create user rule ≡ true) × (rule.repo ≡ repo.Pattern text) → IsCreatable flat.rules user text
       by_rule rule in_rules is =
-          let parts = and_parts (creates rule) (covers_user (asked_unborn [] user) rule.user) is.0 in
-          (rule, in_rules, (and_parts rule.perm.lone_create (is_pattern_word rule.repo) parts.0).0, is.1, λ name. sym (same_user name user rule.user) ∙ parts.1)
+          let parts = and_parts (creates rule) (covers_user (asked_anywhere user) rule.user) is.0 in
+          (rule, in_rules, (and_parts rule.perm.lone_create (is_pattern_word rule.repo) parts.0).0, is.1, parts.1)
 
   has_pattern : IsCreatable flat.rules user text → Contains (listing patterns flat repos user) (Pattern text)
   has_pattern is =
       let made : creates is.0 ≡ true = and_from is.0.perm.lone_create (is_pattern_word is.0.repo) is.2 (ap is_pattern_word is.3) in
-      let lets : lets_create user is.0 ≡ true = and_from (creates is.0) (covers_user (asked_unborn [] user) is.0.user) made (is.4 []) in
+      let lets : lets_create user is.0 ≡ true = and_from (creates is.0) (covers_user (asked_anywhere user) is.0.user) made is.4 in
       Contains-append_right (flat_map (repo_lines patterns flat user) repos) (pattern_lines flat.rules user) (Pattern text)
       (map_has Pattern (patterns_for flat.rules user) text
       (once_has (flat_map (patterns_by user) flat.rules) text
@@ -146,26 +170,26 @@ pub created_listed : CreatedAreListed
 created_listed patterns flat repos name user allowed = by_found (find test flat.rules) refl allowed
   where
     counts : Bool
-    counts = deny_rules_count patterns flat (asked_unborn name user)
+    counts = deny_rules_count patterns flat (asked_unborn patterns flat name user)
 
     test : Rule → Bool
-    test = creating_decides patterns (asked_unborn name user) counts
+    test = creating_decides patterns (asked_unborn patterns flat name user) counts
 
-    by_word : (rule : Rule) → Contains flat.rules rule → rule.perm.lone_create ≡ true → covers_user (asked_unborn name user) rule.user ≡ true
+    by_word : (rule : Rule) → Contains flat.rules rule → rule.perm.lone_create ≡ true → covers_user (asked_unborn patterns flat name user) rule.user ≡ true
         → (w : RepoWord) → rule.repo ≡ w → is_pattern_word w ≡ true → covers_repo patterns w name (Some user) ≡ true
         → (text : List ℕ) × (patterns.takes text user name ≡ true) × Contains (listing patterns flat repos user) (Pattern text)
     by_word rule in_rules lone for_user (repo.Plain plain) at is there = absurd cc
     by_word rule in_rules lone for_user repo.All at is there = absurd cc
     by_word rule in_rules lone for_user (repo.Pattern text) at is there =
-        (text, there, has_pattern patterns flat repos user text (rule, in_rules, lone, at, λ other. sym (same_user other user rule.user) ∙ same_user name user rule.user ∙ for_user))
+        (text, there, has_pattern patterns flat repos user text (rule, in_rules, lone, at, anywhere patterns flat name user rule.user for_user))
 
     by_deny : (rule : Rule) → Contains flat.rules rule → (deny : Bool) → is_allowed (verdict_of (Some rule)) ≡ true → rule.perm.deny ≡ deny
-        → (covers patterns (asked_unborn name user) rule && cond deny counts (creates rule)) ≡ true
+        → (covers patterns (asked_unborn patterns flat name user) rule && cond deny counts (creates rule)) ≡ true
         → (text : List ℕ) × (patterns.takes text user name ≡ true) × Contains (listing patterns flat repos user) (Pattern text)
     by_deny rule in_rules true ok is passes = let no : false ≡ true = subst (λ (b : Bool). is_allowed (if b then DeniedBy rule.seq else Allowed rule.seq) ≡ true) is ok in cc no
     by_deny rule in_rules false ok is passes =
-        let parts = and_parts (covers patterns (asked_unborn name user) rule) (creates rule) passes in
-        let covered = and_parts (covers_repo patterns rule.repo name (Some user)) (covers_user (asked_unborn name user) rule.user) parts.0 in
+        let parts = and_parts (covers patterns (asked_unborn patterns flat name user) rule) (creates rule) passes in
+        let covered = and_parts (covers_repo patterns rule.repo name (Some user)) (covers_user (asked_unborn patterns flat name user) rule.user) parts.0 in
         let made = and_parts rule.perm.lone_create (is_pattern_word rule.repo) parts.1 in
         by_word rule in_rules made.0 covered.1 rule.repo refl made.1 covered.0
 

@@ -6,7 +6,7 @@ use Rattle.rule_compile.specs.Flat.{Flat}
 use Rattle.rule_compile.specs.Patterns.{Patterns}
 use Rattle.rule_compile.specs.declared.rule.RepoWord.TheVariants as repo
 use Rattle.rule_compile.specs.declared.rule.Rule.{Rule}
-use Rattle.access_check.specs.Users.{asked_unborn, covers_user}
+use Rattle.access_check.specs.Users.{asked_anywhere, covers_user}
 use Rattle.access_check.specs.Verdicts.{may_create}
 use Rattle.access_check.specs.declared.verdicts.Want.{Want}
 use Rattle.access_check.specs.declared.verdicts.Want.TheVariants.{Read, Write}
@@ -22,10 +22,10 @@ abbrev pub ReposAreListed : Type 0
 ReposAreListed = (patterns : Patterns) (flat : Flat) (repos : List Repository) (user name : List ℕ) (write : Bool)
     → Contains (listing patterns flat repos user) (Repo name write) ↔ IsSeen (may patterns flat user) repos name write
 
--- one of the rules is a lone `C` for this pattern, and is for the user, whatever the name of the repository will be
+-- one of the rules is a lone `C` for this pattern, and is for the user where no repository is given
 abbrev pub IsCreatable : List Rule → List ℕ → List ℕ → Type 0
 IsCreatable rules user text =
-    (rule : Rule) × Contains rules rule × (rule.perm.lone_create ≡ true) × (rule.repo ≡ repo.Pattern text) × ((name : List ℕ) → covers_user (asked_unborn name user) rule.user ≡ true)
+    (rule : Rule) × Contains rules rule × (rule.perm.lone_create ≡ true) × (rule.repo ≡ repo.Pattern text) × (covers_user (asked_anywhere user) rule.user ≡ true)
 
 -- a pattern is listed exactly where a rule lets the user create repositories by it
 abbrev pub PatternsAreListed : Type 0

@@ -8,7 +8,7 @@ use Rattle.rule_compile.specs.Patterns.{Patterns}
 use Rattle.rule_compile.specs.declared.rule.RepoWord.{RepoWord}
 use Rattle.rule_compile.specs.declared.rule.RepoWord.TheVariants as repo
 use Rattle.rule_compile.specs.declared.rule.Rule.{Rule}
-use Rattle.access_check.specs.Users.{asked, asked_unborn, covers_user}
+use Rattle.access_check.specs.Users.{asked, asked_anywhere, covers_user}
 use Rattle.access_check.specs.Verdicts.{creates, first_stage}
 use Rattle.access_check.specs.declared.verdicts.Verdict.{Verdict}
 use Rattle.access_check.specs.declared.verdicts.Verdict.TheVariants.{Allowed, DeniedBy, Fallthru}
@@ -31,7 +31,7 @@ is_allowed Fallthru = false
 
 -- the first stage allows the user to read the repository, or to write it
 abbrev pub may : Patterns → Flat → List ℕ → Repository → Want → Bool
-may patterns flat user r want = is_allowed (first_stage patterns flat (asked r.wild r.name user) want)
+may patterns flat user r want = is_allowed (first_stage patterns flat (asked patterns flat r.wild r.name user) want)
 
 -- A repository that the user may read has a line, which says whether the user may write it too. Every other has none.
 abbrev pub repo_lines : Patterns → Flat → List ℕ → Repository → List LookLine
@@ -39,10 +39,10 @@ repo_lines patterns flat user r = if may patterns flat user r Read then Repo r.n
 
 -- ---- patterns
 
--- A rule lets the user create repositories where it is a lone `C` for a pattern, and is for the user before a repository is there: the user
--- counts as its creator then, and nobody holds a role. The name of that repository plays no part, and is left empty.
+-- A rule lets the user create repositories where it is a lone `C` for a pattern, and is for the user where no repository is given: the user counts
+-- as the creator then, nobody holds a role, and only the two roles that every repository has are declared.
 abbrev pub lets_create : List ℕ → Rule → Bool
-lets_create user rule = creates rule && covers_user (asked_unborn [] user) rule.user
+lets_create user rule = creates rule && covers_user (asked_anywhere user) rule.user
 
 -- the text of a word that is a pattern
 abbrev pub pattern_texts : RepoWord → List (List ℕ)

@@ -13,8 +13,8 @@ use Rattle.std.proofs.lemmas.Option.{get_or_from_slice_get, slice_get-map, slice
 use Rattle.std.specs.List.{AllByRecursion, drop-map, last_or}
 use Rattle.rule_compile.specs.Flat.{numbered}
 use Rattle.rule_compile.specs.Patterns.{Patterns}
-use Rattle.rule_compile.specs.Covering.{covers_repo, pattern_covers, deny_rules, is_all_word, is_on, is_pattern_word, is_plain_word, may_cover, numbers_of, rules_for, sets, some_covers}
-use Rattle.rule_compile.specs.Index.{AreNumberedFrom, DenyWord, deny_word, set_by, on_of_deny, ons_of, word_of_deny, words_of_deny, deny_words, deny_words_of, last_on, numbers, numbers_at, numbers_from, or_nothing, pattern_text, with_number, word_of, words_of_rules}
+use Rattle.rule_compile.specs.Covering.{covers_repo, pattern_covers, is_all_word, is_in_force, is_on, is_pattern_word, is_plain_word, may_cover, numbers_of, rules_for, sets, some_covers}
+use Rattle.rule_compile.specs.Index.{AreNumberedFrom, OptionWord, option_word, set_by, on_of_option, ons_of, word_of_option, words_of_option, option_words, option_words_of, last_on, numbers, numbers_at, numbers_from, or_nothing, pattern_text, with_number, word_of, words_of_rules}
 use Rattle.rule_compile.specs.WordIndex.{Indexes}
 use Rattle.rule_compile.specs.declared.rule.OptionLine.{OptionLine}
 use Rattle.rule_compile.specs.declared.rule.RepoWord.{RepoWord}
@@ -43,18 +43,18 @@ skips_rule name r rs e = ap (λ (b : Bool). cond b (r ∷ rules_for rs name) (ru
 pub has_rule : (name : List ℕ) (r : Rule) (rs : List Rule) → may_cover name (word_of r) ≡ true → rules_for (r ∷ rs) name ≡ r ∷ rules_for rs name
 has_rule name r rs e = ap (λ (b : Bool). cond b (r ∷ rules_for rs name) (rules_for rs name)) e
 
--- ---- the option `deny-rules`
+-- ---- an option
 
 pub uncovered : (ps : Patterns) (w : RepoWord) (name : List ℕ) (creator : Option (List ℕ)) → may_cover name w ≡ false → covers_repo ps w name creator ≡ false
 uncovered ps (repo.Plain plain) name creator e = e
 uncovered ps repo.All name creator e = e
 uncovered ps (repo.Pattern text) name creator e = absurd (let bad : true ≡ false = e in cc)
 
-pub skips_deny : (ps : Patterns) (name : List ℕ) (creator : Option (List ℕ)) (so_far : Bool) (d : DenyWord) (ds : List DenyWord) → may_cover name d.word ≡ false
+pub skips_word : (ps : Patterns) (name : List ℕ) (creator : Option (List ℕ)) (so_far : Bool) (d : OptionWord) (ds : List OptionWord) → may_cover name d.word ≡ false
     → last_on ps name creator so_far (d ∷ ds) ≡ last_on ps name creator so_far ds
-skips_deny ps name creator so_far d ds e = ap (λ (b : Bool). last_on ps name creator (cond b d.on so_far) ds) (uncovered ps d.word name creator e)
+skips_word ps name creator so_far d ds e = ap (λ (b : Bool). last_on ps name creator (cond b d.on so_far) ds) (uncovered ps d.word name creator e)
 
-last_on-append : (ps : Patterns) (name : List ℕ) (creator : Option (List ℕ)) (xs ys : List DenyWord) (so_far : Bool)
+last_on-append : (ps : Patterns) (name : List ℕ) (creator : Option (List ℕ)) (xs ys : List OptionWord) (so_far : Bool)
     → last_on ps name creator so_far (xs ++ ys) ≡ last_on ps name creator (last_on ps name creator so_far xs) ys
 last_on-append ps name creator [] ys so_far = refl
 last_on-append ps name creator (x ∷ xs) ys so_far = last_on-append ps name creator xs ys (cond (covers_repo ps x.word name creator) x.on so_far)
@@ -67,39 +67,39 @@ one_or_more false false on so_far = refl
 
 -- the words of one line
 of_words : (ps : Patterns) (name : List ℕ) (creator : Option (List ℕ)) (on : Bool) (ws : List RepoWord) (so_far : Bool)
-    → last_on ps name creator so_far (map (deny_word on) ws) ≡ cond (some_covers ps ws name creator) on so_far
+    → last_on ps name creator so_far (map (option_word on) ws) ≡ cond (some_covers ps ws name creator) on so_far
 of_words ps name creator on [] so_far = refl
 of_words ps name creator on (w ∷ ws) so_far =
     of_words ps name creator on ws (cond (covers_repo ps w name creator) on so_far)
     ∙ one_or_more (covers_repo ps w name creator) (some_covers ps ws name creator) on so_far
 
 of_line : (ps : Patterns) (name : List ℕ) (creator : Option (List ℕ)) (so_far b on : Bool) (ws : List RepoWord)
-    → last_on ps name creator so_far (cond b (map (deny_word on) ws) []) ≡ cond (b && some_covers ps ws name creator) on so_far
+    → last_on ps name creator so_far (cond b (map (option_word on) ws) []) ≡ cond (b && some_covers ps ws name creator) on so_far
 of_line ps name creator so_far true on ws = of_words ps name creator on ws so_far
 of_line ps name creator so_far false on ws = refl
 
 -- the last of some lines that set the option
-abbrev last_set : Patterns → List ℕ → Option (List ℕ) → Option OptionLine → List OptionLine → Option OptionLine
-last_set ps name creator before lines = last_or before (filter (sets ps (codes "deny-rules") name creator) lines)
+abbrev last_set : Patterns → List ℕ → List ℕ → Option (List ℕ) → Option OptionLine → List OptionLine → Option OptionLine
+last_set ps key name creator before lines = last_or before (filter (sets ps key name creator) lines)
 
-one_line : (ps : Patterns) (name : List ℕ) (creator : Option (List ℕ)) (l : OptionLine) (ls : List OptionLine) (before : Option OptionLine) (b : Bool)
-    → ((o : Option OptionLine) → last_on ps name creator (is_on o) (deny_words ls) ≡ is_on (last_set ps name creator o ls))
-    → last_on ps name creator (cond b (bytes_eq l.value (codes "1")) (is_on before)) (deny_words ls)
-    ≡ is_on (last_or before (cond b (l ∷ filter (sets ps (codes "deny-rules") name creator) ls) (filter (sets ps (codes "deny-rules") name creator) ls)))
-one_line ps name creator l ls before true rest = rest (Some l)
-one_line ps name creator l ls before false rest = rest before
+one_line : (ps : Patterns) (key name : List ℕ) (creator : Option (List ℕ)) (l : OptionLine) (ls : List OptionLine) (before : Option OptionLine) (b : Bool)
+    → ((o : Option OptionLine) → last_on ps name creator (is_on o) (option_words key ls) ≡ is_on (last_set ps key name creator o ls))
+    → last_on ps name creator (cond b (bytes_eq l.value (codes "1")) (is_on before)) (option_words key ls)
+    ≡ is_on (last_or before (cond b (l ∷ filter (sets ps key name creator) ls) (filter (sets ps key name creator) ls)))
+one_line ps key name creator l ls before true rest = rest (Some l)
+one_line ps key name creator l ls before false rest = rest before
 
-of_lines : (ps : Patterns) (name : List ℕ) (creator : Option (List ℕ)) (lines : List OptionLine) (before : Option OptionLine)
-    → last_on ps name creator (is_on before) (deny_words lines) ≡ is_on (last_set ps name creator before lines)
-of_lines ps name creator [] before = refl
-of_lines ps name creator (l ∷ ls) before =
-    last_on-append ps name creator (deny_words_of l) (deny_words ls) (is_on before)
-    ∙ ap (λ (b : Bool). last_on ps name creator b (deny_words ls)) (of_line ps name creator (is_on before) (bytes_eq l.key (codes "deny-rules")) (bytes_eq l.value (codes "1")) l.repos)
-    ∙ one_line ps name creator l ls before (sets ps (codes "deny-rules") name creator l) (of_lines ps name creator ls)
+of_lines : (ps : Patterns) (key name : List ℕ) (creator : Option (List ℕ)) (lines : List OptionLine) (before : Option OptionLine)
+    → last_on ps name creator (is_on before) (option_words key lines) ≡ is_on (last_set ps key name creator before lines)
+of_lines ps key name creator [] before = refl
+of_lines ps key name creator (l ∷ ls) before =
+    last_on-append ps name creator (option_words_of key l) (option_words key ls) (is_on before)
+    ∙ ap (λ (b : Bool). last_on ps name creator b (option_words key ls)) (of_line ps name creator (is_on before) (bytes_eq l.key key) (bytes_eq l.value (codes "1")) l.repos)
+    ∙ one_line ps key name creator l ls before (sets ps key name creator l) (of_lines ps key name creator ls)
 
 -- what the words of all lines say is what the lines say
-pub deny_of_lines : (ps : Patterns) (lines : List OptionLine) (name : List ℕ) (creator : Option (List ℕ)) → last_on ps name creator false (deny_words lines) ≡ deny_rules ps lines name creator
-deny_of_lines ps lines name creator = of_lines ps name creator lines None
+pub option_of_lines : (ps : Patterns) (key : List ℕ) (lines : List OptionLine) (name : List ℕ) (creator : Option (List ℕ)) → last_on ps name creator false (option_words key lines) ≡ is_in_force ps lines key name creator
+option_of_lines ps key lines name creator = of_lines ps key name creator lines None
 
 -- ---- one word more
 
@@ -183,20 +183,20 @@ unwrapped : (b on so_far : Bool) → unwrap_or (cond b (Some on) None) so_far �
 unwrapped true on so_far = refl
 unwrapped false on so_far = refl
 
-pub deny_goes : (ps : Patterns) (ds : List DenyWord) (name : List ℕ) (creator : Option (List ℕ)) (so_far next : Bool) (place n : ℕ) (rest : List ℕ) (set : Option Bool)
-    → numbers_from (may_cover name) (suc place) (drop place (words_of_deny ds)) ≡ n ∷ rest
-    → ((p : ℕ) → n ≡ suc p → (d : DenyWord) → slice_get ds p ≡ Some d → may_cover name d.word ≡ true → set ≡ set_by ps name creator d)
+pub option_goes : (ps : Patterns) (ds : List OptionWord) (name : List ℕ) (creator : Option (List ℕ)) (so_far next : Bool) (place n : ℕ) (rest : List ℕ) (set : Option Bool)
+    → numbers_from (may_cover name) (suc place) (drop place (words_of_option ds)) ≡ n ∷ rest
+    → ((p : ℕ) → n ≡ suc p → (d : OptionWord) → slice_get ds p ≡ Some d → may_cover name d.word ≡ true → set ≡ set_by ps name creator d)
     → next ≡ unwrap_or set so_far → last_on ps name creator so_far (drop place ds) ≡ last_on ps name creator next (drop n ds)
-deny_goes ps ds name creator so_far next place n rest set e is result =
-    let e_items : numbers_from (may_cover name) (suc place) (map word_of_deny (drop place ds)) ≡ n ∷ rest = ap (λ (ws : List RepoWord). numbers_from (may_cover name) (suc place) ws) (sym (drop-map word_of_deny place ds)) ∙ e in
-    let item = next_item word_of_deny (λ (xs : List DenyWord). last_on ps name creator so_far xs) name (λ d xs no. skips_deny ps name creator so_far d xs no) (suc place) n (drop place ds) rest e_items in
+option_goes ps ds name creator so_far next place n rest set e is result =
+    let e_items : numbers_from (may_cover name) (suc place) (map word_of_option (drop place ds)) ≡ n ∷ rest = ap (λ (ws : List RepoWord). numbers_from (may_cover name) (suc place) ws) (sym (drop-map word_of_option place ds)) ∙ e in
+    let item = next_item word_of_option (λ (xs : List OptionWord). last_on ps name creator so_far xs) name (λ d xs no. skips_word ps name creator so_far d xs no) (suc place) n (drop place ds) rest e_items in
     let value : next ≡ cond (covers_repo ps item.item.word name creator) item.item.on so_far =
     result
     ∙ ap (λ (o : Option Bool). unwrap_or o so_far) (is (place + item.far) (behind place item.far n item.place) item.item (drop_at place item.far ds item.item item.at) item.may)
     ∙ unwrapped (covers_repo ps item.item.word name creator) item.item.on so_far
     in
     let come : drop (suc item.far) (drop place ds) ≡ drop n ds = drop-drop (suc item.far) place ds ∙ ap (λ (m : ℕ). drop m ds) (further place item.far n item.place) in
-    item.same ∙ ap (λ (xs : List DenyWord). last_on ps name creator (cond (covers_repo ps item.item.word name creator) item.item.on so_far) xs) come
+    item.same ∙ ap (λ (xs : List OptionWord). last_on ps name creator (cond (covers_repo ps item.item.word name creator) item.item.on so_far) xs) come
     ∙ ap (λ (b : Bool). last_on ps name creator b (drop n ds)) (sym value)
   where
     behind : (place far n : ℕ) → n ≡ suc place + far → n ≡ suc (place + far)
@@ -205,11 +205,11 @@ deny_goes ps ds name creator so_far next place n rest set e is result =
     further : (place far n : ℕ) → n ≡ suc place + far → place + suc far ≡ n
     further place far n e = omega (arith, e)
 
-pub deny_done : (ps : Patterns) (ds : List DenyWord) (name : List ℕ) (creator : Option (List ℕ)) (so_far : Bool) (place : ℕ)
-    → numbers_from (may_cover name) (suc place) (drop place (words_of_deny ds)) ≡ [] → last_on ps name creator so_far (drop place ds) ≡ so_far
-deny_done ps ds name creator so_far place e =
-    no_item word_of_deny (λ (xs : List DenyWord). last_on ps name creator so_far xs) name (λ d xs no. skips_deny ps name creator so_far d xs no) (suc place) (drop place ds)
-    (ap (λ (ws : List RepoWord). numbers_from (may_cover name) (suc place) ws) (sym (drop-map word_of_deny place ds)) ∙ e)
+pub option_done : (ps : Patterns) (ds : List OptionWord) (name : List ℕ) (creator : Option (List ℕ)) (so_far : Bool) (place : ℕ)
+    → numbers_from (may_cover name) (suc place) (drop place (words_of_option ds)) ≡ [] → last_on ps name creator so_far (drop place ds) ≡ so_far
+option_done ps ds name creator so_far place e =
+    no_item word_of_option (λ (xs : List OptionWord). last_on ps name creator so_far xs) name (λ d xs no. skips_word ps name creator so_far d xs no) (suc place) (drop place ds)
+    (ap (λ (ws : List RepoWord). numbers_from (may_cover name) (suc place) ws) (sym (drop-map word_of_option place ds)) ∙ e)
 
 -- the next rule that may cover a name is that of the next number
 pub rules_go : (rules : List Rule) (name : List ℕ) (place n : ℕ) (rest : List ℕ) → numbers_from (may_cover name) (suc place) (drop place (words_of_rules rules)) ≡ n ∷ rest
@@ -240,12 +240,12 @@ rules_done rules name place e =
 
 -- ---- words that grow
 
-pub deny_with : (index more : WordIndex) (on on_more : List Bool) (ds : List DenyWord) (d : DenyWord) → Indexes index (words_of_deny ds) → on ≡ ons_of ds
+pub option_with : (index more : WordIndex) (on on_more : List Bool) (ds : List OptionWord) (d : OptionWord) → Indexes index (words_of_option ds) → on ≡ ons_of ds
     → ((words : List RepoWord) → Indexes index words → Indexes more (words ++ d.word ∷ [])) → on_more ≡ on ++ d.on ∷ []
-    → Indexes more (words_of_deny (ds ++ d ∷ [])) × (on_more ≡ ons_of (ds ++ d ∷ []))
-deny_with index more on on_more ds d h same grown pushed = (
-  subst (λ (ws : List RepoWord). Indexes more ws) (sym (map-append word_of_deny ds (d ∷ []))) (grown (words_of_deny ds) h),
-  pushed ∙ ap (λ (bs : List Bool). bs ++ d.on ∷ []) same ∙ sym (map-append on_of_deny ds (d ∷ [])),
+    → Indexes more (words_of_option (ds ++ d ∷ [])) × (on_more ≡ ons_of (ds ++ d ∷ []))
+option_with index more on on_more ds d h same grown pushed = (
+  subst (λ (ws : List RepoWord). Indexes more ws) (sym (map-append word_of_option ds (d ∷ []))) (grown (words_of_option ds) h),
+  pushed ∙ ap (λ (bs : List Bool). bs ++ d.on ∷ []) same ∙ sym (map-append on_of_option ds (d ∷ [])),
 )
 
 pub all_at : {X : Type 0} (P : X → Type 0) (xs : List X) (i : ℕ) (d : X) → AllByRecursion P xs → i < length xs → P (get_or xs i d)
@@ -267,11 +267,12 @@ pub no_rule : (r : Rule) → None ≡ Some r → ⊥
 no_rule r e = cc
 
 -- one option line more
-pub deny_words_taken : (lines : List OptionLine) (i : ℕ) (x : OptionLine) → i < length lines → x ≡ get_or lines i x → deny_words (take i lines) ++ deny_words_of x ≡ deny_words (take (i + 1) lines)
-deny_words_taken lines i x lt is =
-    ap (λ (ds : List DenyWord). deny_words (take i lines) ++ ds) (sym (append-nil (deny_words_of x)))
-    ∙ sym (flat_map-append deny_words_of (take i lines) (x ∷ []))
-    ∙ ap deny_words (sym (taken lines i x lt is))
+pub option_words_behind : (key : List ℕ) (lines : List OptionLine) (line : OptionLine) → option_words key (lines ++ line ∷ []) ≡ option_words key lines ++ option_words_of key line
+option_words_behind key lines line = flat_map-append (option_words_of key) lines (line ∷ []) ∙ ap (λ (ds : List OptionWord). option_words key lines ++ ds) (append-nil (option_words_of key line))
+
+pub option_words_taken : (key : List ℕ) (lines : List OptionLine) (i : ℕ) (x : OptionLine) → i < length lines → x ≡ get_or lines i x
+    → option_words key (take i lines) ++ option_words_of key x ≡ option_words key (take (i + 1) lines)
+option_words_taken key lines i x lt is = sym (option_words_behind key (take i lines) x) ∙ ap (option_words key) (sym (taken lines i x lt is))
 
 -- ---- rules that bear their numbers
 

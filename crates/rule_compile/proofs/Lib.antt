@@ -6,6 +6,7 @@ pub mod NumberLemmas
 pub mod PatternLemmas
 pub mod PolicyCrosses
 pub mod PushLemmas
+pub mod RoleLemmas
 pub mod SharedLemmas
 pub mod SoundLemmas
 pub mod StepLemmas

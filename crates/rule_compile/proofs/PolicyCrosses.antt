@@ -9,7 +9,8 @@ use Rattle.rule_compile.specs.contracts.warning.Warning as Warning
 use Rattle.rule_compile.specs.contracts.name_list.NameList as NameList
 use Rattle.rule_compile.specs.contracts.known.KnownRefex as KnownRefex
 use Rattle.rule_compile.specs.contracts.word_index.WordIndex as WordIndex
-use Rattle.rule_compile.specs.contracts.deny.DenyRules as DenyRules
+use Rattle.rule_compile.specs.contracts.option_words.OptionWords as OptionWords
+use Rattle.rule_compile.specs.contracts.role_options.RoleOptions as RoleOptions
 use Rattle.rule_compile.specs.contracts.policy.Policy as Policy
 use Rattle.rule_compile.specs.contracts.policy.Policy.TheInside as Inside
 
@@ -49,11 +50,17 @@ index_send = search (heap.crosses, maps.crosses, sendable) depth 100 fits 50000
 index_sync : IsSync (WordIndex.the_field).row
 index_sync = search (heap.crosses, maps.crosses, sendable) depth 100 fits 50000
 
-deny_send : IsSend (DenyRules.the_field).row
-deny_send = search (heap.crosses, maps.crosses, sendable, index_send) depth 30
+option_words_send : IsSend (OptionWords.the_field).row
+option_words_send = search (heap.crosses, maps.crosses, sendable, index_send) depth 30
 
-deny_sync : IsSync (DenyRules.the_field).row
-deny_sync = search (heap.crosses, maps.crosses, sendable, index_sync) depth 30
+option_words_sync : IsSync (OptionWords.the_field).row
+option_words_sync = search (heap.crosses, maps.crosses, sendable, index_sync) depth 30
+
+roles_send : IsSend (RoleOptions.the_field).row
+roles_send = search (heap.crosses, maps.crosses, sendable, option_words_send) depth 100 fits 50000
+
+roles_sync : IsSync (RoleOptions.the_field).row
+roles_sync = search (heap.crosses, maps.crosses, sendable, option_words_sync) depth 100 fits 50000
 
 pub policy_send : IsSend Policy.the_row
 policy_send =
@@ -65,7 +72,7 @@ policy_send =
           search (option_send, heap.crosses, sendable) depth 30,
           (
             names_send,
-            (search (refex_send, heap.crosses, sendable) depth 30, (index_send, (deny_send, tt))),
+            (search (refex_send, heap.crosses, sendable) depth 30, (index_send, (option_words_send, (roles_send, tt)))),
           ),
         ),
       ),
@@ -83,7 +90,7 @@ policy_sync =
           search (option_sync, heap.crosses, sendable) depth 30,
           (
             names_sync,
-            (search (refex_sync, heap.crosses, sendable) depth 30, (index_sync, (deny_sync, tt))),
+            (search (refex_sync, heap.crosses, sendable) depth 30, (index_sync, (option_words_sync, (roles_sync, tt)))),
           ),
         ),
       ),

@@ -61,39 +61,44 @@ AreNumberedFrom n (r ∷ rs) = (r.seq ≡ n) × AreNumberedFrom (suc n) rs
 abbrev pub AreNumbered : List Rule → Type 0
 AreNumbered rules = AreNumberedFrom 1 rules
 
--- ---- the option `deny-rules`, word by word
+-- ---- an option, word by word
 
-pub record DenyWord : Type 0 where
+-- a word of a line that sets it, with what the line sets it to
+pub record OptionWord : Type 0 where
   pub word : RepoWord
   pub on : Bool
 
-abbrev pub deny_word : Bool → RepoWord → DenyWord
-deny_word on word = record { word = word; on = on }
+abbrev pub option_word : Bool → RepoWord → OptionWord
+option_word on word = record { word = word; on = on }
 
-abbrev pub deny_words_of : OptionLine → List DenyWord
-deny_words_of line = if bytes_eq line.key (codes "deny-rules") then map (deny_word (bytes_eq line.value (codes "1"))) line.repos else []
+-- the words of a line, each with whether the line sets its option to `1`
+abbrev pub words_of_line : OptionLine → List OptionWord
+words_of_line line = map (option_word (bytes_eq line.value (codes "1"))) line.repos
 
--- the words of all lines that set the option, in order, each with what it sets it to
-abbrev pub deny_words : List OptionLine → List DenyWord
-deny_words lines = flat_map deny_words_of lines
+abbrev pub option_words_of : List ℕ → OptionLine → List OptionWord
+option_words_of key line = if bytes_eq line.key key then words_of_line line else []
 
-abbrev pub word_of_deny : DenyWord → RepoWord
-word_of_deny d = d.word
+-- the words of all lines that set the option of a key, in order
+abbrev pub option_words : List ℕ → List OptionLine → List OptionWord
+option_words key lines = flat_map (option_words_of key) lines
 
-abbrev pub words_of_deny : List DenyWord → List RepoWord
-words_of_deny ds = map word_of_deny ds
+abbrev pub word_of_option : OptionWord → RepoWord
+word_of_option d = d.word
 
-abbrev pub on_of_deny : DenyWord → Bool
-on_of_deny d = d.on
+abbrev pub words_of_option : List OptionWord → List RepoWord
+words_of_option ds = map word_of_option ds
 
-abbrev pub ons_of : List DenyWord → List Bool
-ons_of ds = map on_of_deny ds
+abbrev pub on_of_option : OptionWord → Bool
+on_of_option d = d.on
+
+abbrev pub ons_of : List OptionWord → List Bool
+ons_of ds = map on_of_option ds
 
 -- what the word sets the option to, where it covers the repository
-abbrev pub set_by : Patterns → List ℕ → Option (List ℕ) → DenyWord → Option Bool
+abbrev pub set_by : Patterns → List ℕ → Option (List ℕ) → OptionWord → Option Bool
 set_by patterns name creator d = if covers_repo patterns d.word name creator then Some d.on else None
 
 -- what the last of the words that covers the repository sets
-abbrev pub last_on : Patterns → List ℕ → Option (List ℕ) → Bool → List DenyWord → Bool
+abbrev pub last_on : Patterns → List ℕ → Option (List ℕ) → Bool → List OptionWord → Bool
 last_on patterns name creator so_far [] = so_far
 last_on patterns name creator so_far (d ∷ ds) = last_on patterns name creator (if covers_repo patterns d.word name creator then d.on else so_far) ds

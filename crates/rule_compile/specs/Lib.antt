@@ -1,6 +1,7 @@
 pub mod Faults
 pub mod Patterns
 pub mod Covering
+pub mod Roles
 pub mod Words
 pub mod Flat
 pub mod Answers
@@ -8,7 +9,8 @@ pub mod Tables
 pub mod Numbers
 pub mod Index
 pub mod WordIndex
-pub mod Deny
+pub mod OptionWords
+pub mod RoleOptions
 pub mod Sound
 pub mod Members
 pub mod Shared

@@ -1,6 +1,6 @@
 //! The rules of a conf: a flat list in which the first rule that decides is found, or why the conf has none.
 //!
-//! - `limits`: how many rules and patterns a conf has at most;
+//! - `limits`: how many rules and patterns a conf has at most, and how long a role's name is;
 //! - `fault`: why a conf is refused;
 //! - `members`, `rule`, `warning`: what a conf is compiled to;
 //! - `words`: what the words of a line stand for;
@@ -8,7 +8,8 @@
 //! - `name_list`, `known`, `patterns`: names and patterns, each once;
 //! - `stop`, `draft`: what the lines come to, one after another;
 //! - `salt`, `word_index`, `cursor`, `rules_for`: which rules may cover a repository;
-//! - `deny`: where the option `deny-rules` is in force;
+//! - `option_words`: where an option is in force;
+//! - `roles`, `role_options`: which words are declared as roles, and for which repositories;
 //! - `policy`: the rules in force;
 //! - `laws`: that there are answers to all questions on texts.
 //!
@@ -16,7 +17,6 @@
 #![tactic(auto)]
 
 mod cursor;
-mod deny;
 mod draft;
 mod fault;
 mod groups;
@@ -25,8 +25,11 @@ mod laws;
 mod limits;
 mod members;
 mod name_list;
+mod option_words;
 mod patterns;
 mod policy;
+mod role_options;
+mod roles;
 mod rule;
 mod rules_for;
 mod salt;
@@ -41,7 +44,7 @@ pub use conf_groups::{ConfFault, ConfFile, FileList, FileName, Scope};
 pub use conf_lex::{Perm, RepoName, TextList, UserName};
 pub use fault::{PolicyFault, RuleFault, RuleKind};
 pub use laws::some_patterns_are_true;
-pub use limits::{MAX_PATTERNS, MAX_RULES};
+pub use limits::{MAX_PATTERNS, MAX_ROLE_NAME, MAX_RULES};
 pub use members::Members;
 pub use policy::Policy;
 pub use refex::RefexFault;

@@ -1,27 +1,31 @@
 // The rules in force.
-ghost use Rattle.std.specs.Prelude.{◌≡◌, ◌≤◌, ◌<◌, [], length, IfOk, Option, Some};
+ghost use Rattle.std.specs.Prelude.{◌≡◌, ◌++◌, ◌≤◌, ◌<◌, ℕ, [], length, codes, IfOk, List, Option, Some};
 ghost use Rattle.std.specs.List.{AllByRecursion};
 ghost use Rattle.std.specs.Option.{option_copied};
+ghost use Rattle.conf_groups.specs.Groups.{holds};
 ghost use Rattle.conf_groups.specs.Tables.{groups_of};
 ghost use Rattle.refex.specs.declared.limits.TheConstants.{MAX_NAME};
 ghost use Rattle.rule_compile.specs.Answers.{Gives, GivesDraft, IsNoMemory, PlacedSteps, StopsAt, flat_of, state_of};
 ghost use Rattle.rule_compile.specs.Covering.{covers_repo, deny_rules, is_all_word, is_pattern_word, is_plain_word, numbers_of, rules_for};
-ghost use Rattle.rule_compile.specs.Deny.{IsDeny};
+ghost use Rattle.rule_compile.specs.OptionWords.{IsOption};
 ghost use Rattle.rule_compile.specs.Flat.{IsNumber, compiled_all, flat, numbered, placed_step};
-ghost use Rattle.rule_compile.specs.Index.{AreNumbered, deny_words, refexes_of_rules, words_of_rules};
+ghost use Rattle.rule_compile.specs.Index.{AreNumbered, OptionWord, option_words, option_words_of, refexes_of_rules, words_of_rules};
 ghost use Rattle.rule_compile.specs.Patterns.{AreTrue, Patterns};
+ghost use Rattle.rule_compile.specs.RoleOptions.{AreRoles};
+ghost use Rattle.rule_compile.specs.Roles.{declares, is_mentioned};
 ghost use Rattle.rule_compile.specs.Shared.{AreShared};
 ghost use Rattle.rule_compile.specs.Sound.{IsSound, IsSoundOption, IsSoundRule};
 ghost use Rattle.rule_compile.specs.WordIndex.{Indexes};
 ghost use Rattle.rule_compile.specs.declared.rule.Rule as flat_rule;
 
-use crate::deny::DenyRules;
 use crate::draft::Draft;
 use crate::groups::Conf;
 use crate::known::KnownRefex;
 use crate::laws::some_patterns_are_true;
 use crate::name_list::NameList;
+use crate::option_words::OptionWords;
 use crate::patterns::PatternTable;
+use crate::role_options::RoleOptions;
 use crate::rules_for::RulesFor;
 use crate::salt::Salt;
 use crate::shared::SharedMembers;
@@ -45,21 +49,23 @@ pub struct Policy {
     plain: NameList,
     refexes: ItemList<KnownRefex>,
     index: WordIndex,
-    deny: DenyRules,
+    deny: OptionWords,
+    roles: RoleOptions,
 }
 
 impl Model for Policy {
-    ghost use Rattle.std.specs.Prelude.{◌≡◌, map};
-    ghost use Rattle.rule_compile.specs.Deny.{IsDeny};
+    ghost use Rattle.std.specs.Prelude.{◌≡◌, codes, map};
+    ghost use Rattle.rule_compile.specs.OptionWords.{IsOption};
     ghost use Rattle.rule_compile.specs.Flat.{Flat};
-    ghost use Rattle.rule_compile.specs.Index.{AreNumbered, deny_words, refexes_of_rules, words_of_rules};
+    ghost use Rattle.rule_compile.specs.Index.{AreNumbered, option_words, refexes_of_rules, words_of_rules};
+    ghost use Rattle.rule_compile.specs.RoleOptions.{AreRoles};
     ghost use Rattle.rule_compile.specs.WordIndex.{Indexes};
 
     ghost Value = { Flat };
 
     ghost view = { λ p. record { rules = p.rules; warnings = p.warnings; options = p.options; plain = p.plain } };
 
-    ghost invariant = { λ p. AreNumbered p.rules × (p.refexes ≡ refexes_of_rules p.rules) × Indexes p.index (words_of_rules p.rules) × IsDeny p.deny (deny_words p.options) };
+    ghost invariant = { λ p. AreNumbered p.rules × (p.refexes ≡ refexes_of_rules p.rules) × Indexes p.index (words_of_rules p.rules) × IsOption p.deny (option_words (codes "deny-rules") p.options) × AreRoles p.roles p.options };
 }
 
 impl Policy {
@@ -99,6 +105,7 @@ impl Policy {
         let salt = Salt::of(plain.as_slice());
         let index = index_of(alloc, salt, &patterns, rules.as_slice())?;
         let deny = deny_of(alloc, salt, &patterns, options.as_slice())?;
+        let roles = roles_of(alloc, salt, &patterns, options.as_slice())?;
         Ok(Policy {
             rules,
             warnings,
@@ -107,6 +114,7 @@ impl Policy {
             refexes,
             index,
             deny,
+            roles,
         })
     }
 
@@ -203,6 +211,21 @@ impl Policy {
     {
         self.deny.is_in_force(repo, creator)
     }
+
+    /// Whether a word is a role for a repository. A word that no option line mentions costs a look-up; for one that lines do it looks at those that set its
+    /// option for the repository's name, for `@all` and for patterns.
+    pub fn declares(&self, role: &[u8], repo: &RepoName, creator: Option<&UserName>) -> bool
+        ensures { (ps : Patterns) → AreTrue ps → result ≡ declares ps self.now.options role.now repo.now (option_copied creator.entry) }
+    {
+        self.roles.declares(role, repo, creator)
+    }
+
+    /// The names of roles that option lines mention, each once. Beside the two that every repository has, no other word is a role anywhere.
+    pub fn mentioned_roles(&self) -> &[Text]
+        ensures { (word : List ℕ) → holds result.now word ≡ is_mentioned self.now.options word }
+    {
+        self.roles.names.as_slice()
+    }
 }
 
 // The refexes of the rules, in order.
@@ -244,15 +267,48 @@ fn deny_of(
     salt: Salt,
     patterns: &PatternTable,
     options: &[OptionLine],
-) -> Result<DenyRules, NoMemory>
+) -> Result<OptionWords, NoMemory>
     requires { AllByRecursion IsSoundOption options.now }
-    ensures { IfOk result (λ deny. IsDeny deny (deny_words options.now)) }
+    ensures { IfOk result (λ deny. IsOption deny (option_words (codes "deny-rules") options.now)) }
 {
-    let mut deny = DenyRules::new(alloc, salt);
+    let mut deny = OptionWords::new(alloc, salt);
     for line in options {
-        deny = deny.with_line(alloc, patterns, line)?;
+        deny = with_deny_line(alloc, patterns, deny, line)?;
     }
     Ok(deny)
+}
+
+// With the words of a line, where it sets `deny-rules`.
+fn with_deny_line(
+    alloc: Global,
+    patterns: &PatternTable,
+    deny: OptionWords,
+    line: &OptionLine,
+) -> Result<OptionWords, NoMemory>
+    requires { IsSoundOption line.now }
+    ensures { (words : List OptionWord) → IsOption deny words → IfOk result (λ more. IsOption more (words ++ option_words_of (codes "deny-rules") line.now)) }
+{
+    if line.key.bytes() != b"deny-rules".as_slice() {
+        return Ok(deny);
+    }
+    deny.with_line(alloc, patterns, line)
+}
+
+// What the option lines say of roles.
+fn roles_of(
+    alloc: Global,
+    salt: Salt,
+    patterns: &PatternTable,
+    options: &[OptionLine],
+) -> Result<RoleOptions, NoMemory>
+    requires { AllByRecursion IsSoundOption options.now }
+    ensures { IfOk result (λ roles. AreRoles roles options.now) }
+{
+    let mut roles = RoleOptions::new(alloc, salt);
+    for line in options {
+        roles = roles.with_line(alloc, patterns, line)?;
+    }
+    Ok(roles)
 }
 
 /// The rules of a conf that was spliced.

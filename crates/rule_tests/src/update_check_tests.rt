@@ -295,7 +295,7 @@ fn wild_of(rt: &impl Abort, alloc: Global, name: &str) -> Wild {
     }
     let creator = user(rt, alloc, "al");
     let mut wild = Wild::born(alloc, user(rt, alloc, "al"));
-    let _answer = wild.grant(&creator, b"WRITERS", &user(rt, alloc, "bob"));
+    let _answer = wild.grant(&creator, b"WRITERS", &user(rt, alloc, "bob"), true);
     wild
 }
 

@@ -17,7 +17,7 @@ type Row = (
 );
 
 // In a repository that alice created, one behind the other.
-static OF_ALICE: [Row; 16] = [
+static OF_ALICE: [Row; 18] = [
     ("alice", "-l", "", "bob", 6, ""),
     ("alice", "+", "READERS", "bob", 1, ""),
     ("alice", "+", "READERS", "bob", 2, ""),
@@ -40,6 +40,8 @@ static OF_ALICE: [Row; 16] = [
     ("alice", "-", "READERS", "bob", 1, ""),
     ("alice", "-", "READERS", "bob", 2, ""),
     ("alice", "-", "READER", "al", 5, ""),
+    ("alice", "+", "TESTERS", "bob", 1, ""),
+    ("alice", "-", "TESTERS", "bob", 1, ""),
     (
         "alice",
         "-l",
@@ -65,10 +67,16 @@ fn user(alloc: Global, name: &str) -> Option<UserName> {
     }
 }
 
+// The roles that are declared for both repositories.
+fn is_declared(role: &str) -> bool {
+    role == "READERS" || role == "WRITERS" || role == "TESTERS"
+}
+
 fn ask(wild: &mut Wild, row: &Row, asker: &UserName, user: &UserName) -> PermsAnswer {
+    let declared = is_declared(row.2);
     match row.1 {
-        "+" => wild.grant(asker, row.2.as_bytes(), user),
-        "-" => wild.revoke(asker, row.2.as_bytes(), user),
+        "+" => wild.grant(asker, row.2.as_bytes(), user, declared),
+        "-" => wild.revoke(asker, row.2.as_bytes(), user, declared),
         _ => wild.list(asker),
     }
 }

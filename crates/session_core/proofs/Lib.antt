@@ -1,4 +1,5 @@
 mod FirstLemmas
+mod ShortLemmas
 pub mod LinkLemmas
 pub mod StepLemmas
 pub mod LineLemmas

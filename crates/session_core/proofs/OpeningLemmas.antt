@@ -20,7 +20,8 @@ use Rattle.hub.specs.Answer.{kept}
 use Rattle.hub.specs.Desk.{DeskView, Enters, MakesEntry}
 use Rattle.hub_history.proofs.HistoryLemmas.{opening_at-place}
 use Rattle.interaction_tree.specs.Interaction.{Interaction, gives, ask}
-use Rattle.interaction_tree.specs.Requests.{Enter, OwnEntry}
+use Rattle.hub_history.specs.Requests.{Enter}
+use Rattle.interaction_tree.specs.Requests.{OwnEntry}
 use Rattle.interaction_tree.specs.Traces.{Halt}
 use Rattle.interaction_tree.specs.Runs.{Runs}
 use Rattle.interaction_tree.proofs.RunLemmas.{runs_gives}

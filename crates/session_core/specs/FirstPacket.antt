@@ -7,8 +7,8 @@
 --   USER perms REPO - ROLE USER
 --   USER perms -l REPO
 --
--- Round REPO there may be single quotes, before it a slash, and behind it `.git`. ROLE has letters, digits, `-` and `_`.
-use Rattle.std.specs.Prelude.{ℕ, Bool, ◌&&◌, ◌||◌, ◌==◌, not, List, [], ◌∷◌, length, take, drop, ◌-◌, Option, Some, None, codes, if◌then◌else◌}
+-- Round REPO there may be single quotes, before it a slash, and behind it `.git`. ROLE has letters, digits, `-` and `_`, and at most 65,516 bytes.
+use Rattle.std.specs.Prelude.{ℕ, Bool, ◌&&◌, ◌||◌, ◌==◌, nat_le, not, List, [], ◌∷◌, length, take, drop, ◌-◌, Option, Some, None, codes, if◌then◌else◌}
 use Rattle.std.specs.Option.{option_map, unwrap_or}
 use Rattle.std.specs.List.{list_all}
 use Rattle.std.specs.Str.{bytes_eq}
@@ -16,6 +16,7 @@ use Rattle.std.specs.Char.{is_ascii_alphanumeric}
 use Rattle.git_object.specs.Reader.{◌>>=◌, literal, up_to}
 use Rattle.conf_lex.specs.Names.{is_repo_name, is_user_name}
 use Rattle.conf_lex.specs.RepoWords.{repo_word}
+use Rattle.hub_history.specs.History.{HasShortRole}
 use Rattle.hub_history.specs.declared.entry.PermChange.{PermChange}
 use Rattle.hub_history.specs.declared.entry.PermChange.TheVariants.{Grant, Revoke, List as ListRoles}
 use Rattle.session_core.specs.declared.first_packet.Service.{Service}
@@ -56,7 +57,7 @@ abbrev pub is_role_byte : ℕ → Bool
 is_role_byte c = is_ascii_alphanumeric c || (c == 45 || c == 95)
 
 abbrev pub is_role_word : List ℕ → Bool
-is_role_word role = not (bytes_eq role []) && list_all is_role_byte role
+is_role_word role = not (bytes_eq role []) && nat_le (length role) 65516 && list_all is_role_byte role
 
 -- `ROLE USER`
 unfoldable pub role_and_user : List ℕ → Option (List ℕ × List ℕ)
@@ -126,3 +127,10 @@ asked_by user (Some service) = Asks (record { user = user; service = service })
 -- what a first line says
 unfoldable pub first_line : List ℕ → FirstLine
 first_line line = if is_user_name (user_word line) then asked_by (user_word line) (behind_user line >>= service) else BadUser
+
+-- a change of roles is of a role whose text is short enough
+abbrev pub HasShortChange : Service → Type 0
+HasShortChange (Receive repo) = Unit {0}
+HasShortChange (Upload repo) = Unit {0}
+HasShortChange (Permit repo change) = HasShortRole change
+HasShortChange Look = Unit {0}

@@ -10,7 +10,8 @@ use Rattle.hub_history.specs.declared.entry.Event.{Event}
 use Rattle.hub_history.specs.declared.entry.Event.TheVariants.{Entered, Pushed, Permitted, Looked}
 use Rattle.hub_history.specs.Opening.{Opening, pinned_in}
 use Rattle.hub_history.specs.History.{replay}
-use Rattle.interaction_tree.specs.Requests.{Enter, OwnEntry}
+use Rattle.hub_history.specs.Requests.{Enter}
+use Rattle.interaction_tree.specs.Requests.{OwnEntry}
 use Rattle.interaction_tree.specs.Interaction.{Interaction, gives, ◌>>=◌, ask}
 use Rattle.session_core.specs.declared.end.SessionEnd.{SessionEnd}
 use Rattle.session_core.specs.declared.end.SessionEnd.TheVariants as end

@@ -1,11 +1,11 @@
 // What a session asks for.
-ghost use Rattle.std.specs.Prelude.{◌≡◌, OnOk};
+ghost use Rattle.std.specs.Prelude.{◌≡◌, IfOk, OnOk};
 ghost use Rattle.pktline_core.specs.Reading.{packet_of};
 ghost use Rattle.hub.specs.Desk.{DeskView};
 ghost use Rattle.interaction_tree.specs.Runs.{Runs};
 ghost use Rattle.session_core.specs.Asking.{asked_in, asked_in_line, asking, bad_command};
 ghost use Rattle.session_core.specs.End.{TellsEnd, TellsLink, halt_of, outcome_at, outcome_of};
-ghost use Rattle.session_core.specs.FirstPacket.{first_line};
+ghost use Rattle.session_core.specs.FirstPacket.{HasShortChange, first_line};
 ghost use Rattle.session_core.specs.Readers.{IsReady};
 
 use crate::end::SessionEnd;
@@ -27,6 +27,7 @@ fn asked_in_line<L: Link>(alloc: Global, link: &mut L, line: &[u8]) -> Result<As
     ensures runs { (desk : DeskView) → Runs (L.state link.old) (L.state link.new) desk desk (asked_in_line (first_line line.now)) (outcome_of result) }
     ensures tells { TellsLink (L.state link.old) (L.state link.new) result }
     ensures same { OnOk result (L.state link.new ≡ L.state link.old) }
+    ensures short { IfOk result (λ asked. HasShortChange asked.service) }
 {
     match first_line(alloc, line)? {
         FirstLine::Asks(asked) => Ok(asked),
@@ -39,6 +40,7 @@ fn asked_in<L: Link>(alloc: Global, link: &mut L, packet: Pkt<'_>) -> Result<Ask
     ensures runs { (desk : DeskView) → Runs (L.state link.old) (L.state link.new) desk desk (asked_in (packet_of packet.entry)) (outcome_of result) }
     ensures tells { TellsLink (L.state link.old) (L.state link.new) result }
     ensures same { OnOk result (L.state link.new ≡ L.state link.old) }
+    ensures short { IfOk result (λ asked. HasShortChange asked.service) }
 {
     match packet {
         Pkt::Line(line) => asked_in_line(alloc, link, without_feed(line)),
@@ -56,6 +58,7 @@ pub fn ask<L: Link>(
     ensures runs { (desk : DeskView) → Runs (L.state link.old) (L.state link.new) desk desk (asking reader.old.offset) (outcome_at result reader.new.offset) }
     ensures tells { TellsLink (L.state link.old) (L.state link.new) result }
     ensures ready { OnOk result (IsReady reader.new (L.state link.new)) }
+    ensures short { IfOk result (λ asked. HasShortChange asked.service) }
 {
     let offset = reader.offset();
     match reader.next(link) {

@@ -10,6 +10,9 @@ use git_object::{literal, up_to};
 use hub::PermChange;
 use std::alloc::Global;
 
+// How many bytes the text of a role has at most.
+const MAX_ROLE_TEXT: usize = 65_516;
+
 /// What is asked of the server.
 #[derive(Drop)]
 pub enum Service {
@@ -246,7 +249,7 @@ fn role_and_user(alloc: Global, words: &[u8]) -> Result<Option<(Text, UserName)>
 fn is_role_word(role: &[u8]) -> bool
     ensures { result ≡ is_role_word role.now }
 {
-    !role.is_empty() && all_role_bytes(role)
+    !role.is_empty() && role.len() <= MAX_ROLE_TEXT && all_role_bytes(role)
 }
 
 fn all_role_bytes(role: &[u8]) -> bool

@@ -1,5 +1,7 @@
 // What each call of a desk does while it has the turn.
 ghost use Rattle.std.specs.Prelude.{[]};
+ghost use Rattle.std.specs.Option.{ForSome};
+ghost use Rattle.hub_history.specs.History.{HasShortRole};
 ghost use Rattle.turn_lock.specs.Lock.{seen};
 ghost use Rattle.shared_hub.specs.Steps.{RunsChange, RunsLook, RunsOnce, RunsOpening, RunsPush};
 
@@ -122,6 +124,7 @@ pub struct Permit<'a> {
     pub user: &'a UserName,
     pub repo: &'a RepoName,
     pub change: Option<PermChange>,
+    ghost short: { ForSome change (λ asked. HasShortRole asked) },
 }
 
 impl Step<KeptHub> for Permit<'_> {

@@ -5,15 +5,16 @@ use Rattle.conf_lex.specs.declared.repo_name.TheConstants.{MAX_REPO_NAME}
 use Rattle.conf_lex.specs.declared.words.TheConstants.{MAX_WORD}
 use Rattle.conf_groups.specs.declared.conf_file.TheConstants.{MAX_FILE_NAME}
 use Rattle.conf_groups.specs.declared.limits.TheConstants.{MAX_FILES, MAX_FILE_BYTES, MAX_LINES, MAX_SPLICED_BYTES}
-use Rattle.rule_compile.specs.declared.limits.TheConstants.{MAX_PATTERNS, MAX_RULES}
+use Rattle.rule_compile.specs.declared.limits.TheConstants.{MAX_PATTERNS, MAX_ROLE_NAME, MAX_RULES}
 use Rattle.policy_swap.specs.declared.rows.TheConstants.{MAX_ROWS}
 use Rattle.refex.specs.declared.limits.TheConstants.{MAX_COUNT, MAX_NAME, MAX_POSITIONS, MAX_REPEAT, NAME_POSITIONS}
 use Rattle.vref.specs.declared.walk.TheConstants.{MAX_PATH, MAX_ROWS as MAX_PATHS}
 
--- names and words of a conf, in bytes
+-- names and words of a conf, in bytes; a role's name is one that a conf declares
 pub record OfWords : Type 0 where
   pub user_name : MAX_USER_NAME ≡ 64
   pub repository_name : MAX_REPO_NAME ≡ 200
+  pub role_name : MAX_ROLE_NAME ≡ 64
   pub word : MAX_WORD ≡ 1024
 
 -- the files of a conf and what is spliced of them, in bytes but for files and lines

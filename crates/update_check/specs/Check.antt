@@ -1,7 +1,7 @@
 -- A check of changes, as contracts see it.
 use Rattle.std.specs.Prelude.{◌≡◌, ℕ, Bool, List}
 use Rattle.rule_compile.specs.Patterns.{AreTrue, Patterns}
-use Rattle.rule_compile.specs.declared.rule.Rule.{Rule}
+use Rattle.rule_compile.specs.Flat.{Flat}
 use Rattle.access_check.specs.Letters.{flags_of}
 use Rattle.access_check.specs.Users.{Asked, asked}
 use Rattle.access_check.specs.Verdicts.{holds_vref}
@@ -11,16 +11,16 @@ use Rattle.access_check.specs.declared.verdicts.Vref.TheVariants.{Name, MergeChe
 
 -- the rules, and who asks of which repository, which has this creator and these roles
 pub record CheckView : Type 0 where
-  pub rules : List Rule
+  pub flat : Flat
   pub wild : WildView
   pub repo : List ℕ
   pub user : List ℕ
 
-abbrev pub asked_by : CheckView → Asked
-asked_by check = asked check.wild check.repo check.user
+abbrev pub asked_by : Patterns → CheckView → Asked
+asked_by patterns check = asked patterns check.flat check.wild check.repo check.user
 
 -- What is found once for all changes: the letters in force, and which virtual refs are asked. It serves private fields alone.
-pub record IsFoundOf (rules : List Rule) (a : Asked) (flags : Flags) (asks_merge_check asks_paths : Bool) : Type 0 where
-  pub letters : (patterns : Patterns) → AreTrue patterns → flags ≡ flags_of patterns rules a.repo a.creator
-  pub merge : (patterns : Patterns) → AreTrue patterns → asks_merge_check ≡ holds_vref patterns rules a MergeCheck
-  pub paths : (patterns : Patterns) → AreTrue patterns → asks_paths ≡ holds_vref patterns rules a Name
+pub record IsFoundOf (flat : Flat) (wild : WildView) (repo user : List ℕ) (flags : Flags) (asks_merge_check asks_paths : Bool) : Type 0 where
+  pub letters : (patterns : Patterns) → AreTrue patterns → flags ≡ flags_of patterns flat.rules repo wild.creator
+  pub merge : (patterns : Patterns) → AreTrue patterns → asks_merge_check ≡ holds_vref patterns flat.rules (asked patterns flat wild repo user) MergeCheck
+  pub paths : (patterns : Patterns) → AreTrue patterns → asks_paths ≡ holds_vref patterns flat.rules (asked patterns flat wild repo user) Name

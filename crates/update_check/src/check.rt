@@ -35,14 +35,13 @@ pub struct UpdateCheck<'a> {
 }
 
 impl<'a> Model for UpdateCheck<'a> {
-    ghost use Rattle.access_check.specs.Users.{asked};
     ghost use Rattle.update_check.specs.Check.{CheckView, IsFoundOf};
 
     ghost Value = { CheckView };
 
-    ghost view = { λ c. record { rules = c.policy.now.rules; wild = c.wild.now; repo = c.repo.now; user = c.user.now } };
+    ghost view = { λ c. record { flat = c.policy.now; wild = c.wild.now; repo = c.repo.now; user = c.user.now } };
 
-    ghost invariant = { λ c. IsFoundOf c.policy.now.rules (asked c.wild.now c.repo.now c.user.now) c.flags c.asks_merge_check c.asks_paths };
+    ghost invariant = { λ c. IsFoundOf c.policy.now c.wild.now c.repo.now c.user.now c.flags c.asks_merge_check c.asks_paths };
 }
 
 impl<'a> UpdateCheck<'a> {
@@ -53,7 +52,7 @@ impl<'a> UpdateCheck<'a> {
         repo: &'a RepoName,
         user: &'a UserName,
     ) -> UpdateCheck<'a>
-        ensures { result ≡ record { rules = policy.now.rules; wild = wild.now; repo = repo.now; user = user.now } }
+        ensures { result ≡ record { flat = policy.now; wild = wild.now; repo = repo.now; user = user.now } }
     {
         UpdateCheck {
             policy,
@@ -78,7 +77,7 @@ impl<'a> UpdateCheck<'a> {
         change: &Command,
     ) -> Result<Option<Refusal>, NoMemory>
         requires { AreFacts lens.now change.now.name change.now.old change.now.new facts.now }
-        ensures { IfOk result (λ found. (ps : Patterns) → AreTrue ps → RulesSay ps self.now.rules (asked_by self.now) lens.now change.now found) }
+        ensures { IfOk result (λ found. (ps : Patterns) → AreTrue ps → RulesSay ps self.now.flat.rules (asked_by ps self.now) lens.now change.now found) }
     {
         let letter = self.letter(facts);
         if let Some(refusal) = self.refusal_of_ref(letter, &change.name)? {
@@ -92,7 +91,7 @@ impl<'a> UpdateCheck<'a> {
 
     // The ref itself.
     fn refusal_of_ref(&self, letter: Letter, name: &Text) -> Result<Option<Refusal>, NoMemory>
-        ensures { IfOk result (λ said. (ps : Patterns) → AreTrue ps → said ≡ said_of_ref ps self.now.rules (asked_by self.now) letter name.now) }
+        ensures { IfOk result (λ said. (ps : Patterns) → AreTrue ps → said ≡ said_of_ref ps self.now.flat.rules (asked_by ps self.now) letter name.now) }
     {
         let verdict = self.verdict(letter, name.bytes());
         if let Verdict::Allowed(_) = verdict {
@@ -113,7 +112,7 @@ impl<'a> UpdateCheck<'a> {
         brings_merge: bool,
         name: &Text,
     ) -> Result<Option<Refusal>, NoMemory>
-        ensures { IfOk result (λ said. (ps : Patterns) → AreTrue ps → said ≡ said_of_merge ps self.now.rules (asked_by self.now) letter brings_merge name.now) }
+        ensures { IfOk result (λ said. (ps : Patterns) → AreTrue ps → said ≡ said_of_merge ps self.now.flat.rules (asked_by ps self.now) letter brings_merge name.now) }
     {
         if !self.asks(Vref::MergeCheck) || !brings_merge {
             return Ok(None);
@@ -129,7 +128,7 @@ impl<'a> UpdateCheck<'a> {
         lens: &Lens,
         change: &Command,
     ) -> Result<Option<Refusal>, NoMemory>
-        ensures { IfOk result (λ said. (ps : Patterns) → AreTrue ps → SaysOfPaths ps self.now.rules (asked_by self.now) lens.now letter change.now said) }
+        ensures { IfOk result (λ said. (ps : Patterns) → AreTrue ps → SaysOfPaths ps self.now.flat.rules (asked_by ps self.now) lens.now letter change.now said) }
     {
         if !self.asks(Vref::Name) {
             return Ok(None);
@@ -148,7 +147,7 @@ impl<'a> UpdateCheck<'a> {
         letter: Letter,
         paths: &PathList<'_>,
     ) -> Result<Option<Refusal>, NoMemory>
-        ensures { IfOk result (λ said. (ps : Patterns) → AreTrue ps → said ≡ said_of_paths ps self.now.rules (asked_by self.now) letter paths.now) }
+        ensures { IfOk result (λ said. (ps : Patterns) → AreTrue ps → said ≡ said_of_paths ps self.now.flat.rules (asked_by ps self.now) letter paths.now) }
     {
         for place in 0..paths.len() {
             let path = paths.path(alloc, place)?;
@@ -162,7 +161,7 @@ impl<'a> UpdateCheck<'a> {
 
     // A virtual ref.
     fn refusal_of_virtual(&self, letter: Letter, name: Text) -> Option<Refusal>
-        ensures { (ps : Patterns) → AreTrue ps → result ≡ said_of_virtual ps self.now.rules (asked_by self.now) letter name }
+        ensures { (ps : Patterns) → AreTrue ps → result ≡ said_of_virtual ps self.now.flat.rules (asked_by ps self.now) letter name }
     {
         let verdict = self.verdict(letter, name.bytes());
         if let Verdict::DeniedBy(_) = verdict {
@@ -177,14 +176,14 @@ impl<'a> UpdateCheck<'a> {
 
     // The letter that a change needs.
     fn letter(&self, facts: &Facts) -> Letter
-        ensures { (ps : Patterns) → AreTrue ps → result ≡ letter_for ps self.now.rules (asked_by self.now) facts.now }
+        ensures { (ps : Patterns) → AreTrue ps → result ≡ letter_for ps self.now.flat.rules (asked_by ps self.now) facts.now }
     {
         letter_of(self.flags, facts)
     }
 
     // Whether some rule asks for a virtual ref of this kind.
     fn asks(&self, which: Vref) -> bool
-        ensures { (ps : Patterns) → AreTrue ps → result ≡ holds_vref ps self.now.rules (asked_by self.now) which }
+        ensures { (ps : Patterns) → AreTrue ps → result ≡ holds_vref ps self.now.flat.rules (asked_by ps self.now) which }
     {
         match which {
             Vref::MergeCheck => self.asks_merge_check,
@@ -193,7 +192,7 @@ impl<'a> UpdateCheck<'a> {
     }
 
     fn verdict(&self, letter: Letter, name: &[u8]) -> Verdict
-        ensures { (ps : Patterns) → AreTrue ps → result ≡ decide ps self.now.rules (asked_by self.now) letter name.now }
+        ensures { (ps : Patterns) → AreTrue ps → result ≡ decide ps self.now.flat.rules (asked_by ps self.now) letter name.now }
     {
         decide(self.policy, self.wild, self.repo, self.user, letter, name)
     }

@@ -1,8 +1,8 @@
 -- What changes and listings of roles are answered, and what they leave.
-use Rattle.std.specs.Prelude.{◌≡◌, ℕ, not, List, Option, Some, None, if◌then◌else◌}
+use Rattle.std.specs.Prelude.{◌≡◌, ℕ, Bool, not, List, Option, Some, None, if◌then◌else◌}
 use Rattle.std.specs.List.{Contains}
 use Rattle.std.specs.Str.{bytes_eq}
-use Rattle.wild_perms.specs.Roles.{WildView, is_role, with_entry, without_entry}
+use Rattle.wild_perms.specs.Roles.{WildView, with_entry, without_entry}
 use Rattle.wild_perms.specs.declared.role.RoleEntry.{RoleEntry}
 use Rattle.wild_perms.specs.declared.answer.PermsAnswer.{PermsAnswer}
 use Rattle.wild_perms.specs.declared.answer.PermsAnswer.TheVariants.{Changed, AlreadySo, NotWild, NotCreator, NoSuchRole, Listed, NoMemory}
@@ -21,22 +21,22 @@ abbrev pub refused_by : Option (List ℕ) → List ℕ → Option PermsAnswer
 refused_by None asker = Some NotWild
 refused_by (Some creator) asker = if bytes_eq creator asker then None else Some NotCreator
 
--- what refuses a change of a role, if anything does
-abbrev pub refusal : WildView → List ℕ → List ℕ → Option PermsAnswer
-refusal wild asker role = if not (is_role role) then Some NoSuchRole else refused_by wild.creator asker
+-- what refuses a change of a role, if anything does: the word isn't declared as a role for the repository, or the asker may not change its roles
+abbrev pub refusal : WildView → List ℕ → Bool → Option PermsAnswer
+refusal wild asker declared = if not declared then Some NoSuchRole else refused_by wild.creator asker
 
 -- Where nothing refuses it, a role that the user doesn't hold is given, unless memory runs out.
-abbrev pub Grants : WildView → WildView → List ℕ → RoleEntry → PermsAnswer → Type 0
-Grants old new asker entry Changed = (refusal old asker entry.role ≡ None) × ¬ Contains old.roles entry × (new ≡ record old { roles = with_entry old.roles entry })
-Grants old new asker entry AlreadySo = (refusal old asker entry.role ≡ None) × Contains old.roles entry × (new ≡ old)
-Grants old new asker entry NoMemory = (refusal old asker entry.role ≡ None) × ¬ Contains old.roles entry × (new ≡ old)
-Grants old new asker entry answer = (refusal old asker entry.role ≡ Some answer) × (new ≡ old)
+abbrev pub Grants : WildView → WildView → List ℕ → RoleEntry → Bool → PermsAnswer → Type 0
+Grants old new asker entry declared Changed = (refusal old asker declared ≡ None) × ¬ Contains old.roles entry × (new ≡ record old { roles = with_entry old.roles entry })
+Grants old new asker entry declared AlreadySo = (refusal old asker declared ≡ None) × Contains old.roles entry × (new ≡ old)
+Grants old new asker entry declared NoMemory = (refusal old asker declared ≡ None) × ¬ Contains old.roles entry × (new ≡ old)
+Grants old new asker entry declared answer = (refusal old asker declared ≡ Some answer) × (new ≡ old)
 
 -- Where nothing refuses it, a role that the user holds is taken. That takes no memory.
-abbrev pub Revokes : WildView → WildView → List ℕ → RoleEntry → PermsAnswer → Type 0
-Revokes old new asker entry Changed = (refusal old asker entry.role ≡ None) × Contains old.roles entry × (new ≡ record old { roles = without_entry old.roles entry })
-Revokes old new asker entry AlreadySo = (refusal old asker entry.role ≡ None) × ¬ Contains old.roles entry × (new ≡ old)
-Revokes old new asker entry answer = (refusal old asker entry.role ≡ Some answer) × (new ≡ old)
+abbrev pub Revokes : WildView → WildView → List ℕ → RoleEntry → Bool → PermsAnswer → Type 0
+Revokes old new asker entry declared Changed = (refusal old asker declared ≡ None) × Contains old.roles entry × (new ≡ record old { roles = without_entry old.roles entry })
+Revokes old new asker entry declared AlreadySo = (refusal old asker declared ≡ None) × ¬ Contains old.roles entry × (new ≡ old)
+Revokes old new asker entry declared answer = (refusal old asker declared ≡ Some answer) × (new ≡ old)
 
 -- The creator is told all roles.
 abbrev pub Lists : WildView → List ℕ → PermsAnswer → Type 0

@@ -1,15 +1,10 @@
 -- Who holds which role: a finite set of entries.
-use Rattle.std.specs.Prelude.{◌≡◌, ℕ, Bool, not, ◌||◌, List, [], ◌∷◌, ◌++◌, filter, Option, codes}
-use Rattle.std.specs.Str.{bytes_eq}
+use Rattle.std.specs.Prelude.{◌≡◌, ℕ, not, List, [], ◌∷◌, ◌++◌, filter, Option}
 use Rattle.std.specs.declared.cmp.Ordering.{Ordering}
 use Rattle.std.specs.declared.cmp.Ordering.TheVariants.{Less}
 use Rattle.std.specs.Ordering.{nat_cmp, ordering_then, is_lt, is_eq, is_gt}
 use Rattle.std.specs.Cmp.Lexicographic.{slice_cmp}
 use Rattle.wild_perms.specs.declared.role.RoleEntry.{RoleEntry}
-
--- the roles that a creator gives
-abbrev pub is_role : List ℕ → Bool
-is_role role = bytes_eq role (codes "READERS") || bytes_eq role (codes "WRITERS")
 
 -- by role and then by user, in byte order
 abbrev pub entry_cmp : RoleEntry → RoleEntry → Ordering

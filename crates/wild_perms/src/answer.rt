@@ -14,7 +14,7 @@ pub enum PermsAnswer {
     NotWild,
     /// The asker isn't the creator.
     NotCreator,
-    /// The role is none that a creator gives.
+    /// The word isn't declared as a role for the repository.
     NoSuchRole,
     Listed(RoleList),
     NoMemory,

@@ -1,7 +1,6 @@
 // Roles, and an entry of one for a user.
-ghost use Rattle.std.specs.Prelude.{◌≡◌, ◌||◌, codes};
-ghost use Rattle.std.specs.Str.{bytes_eq};
-ghost use Rattle.wild_perms.specs.Roles.{entry_cmp, is_role};
+ghost use Rattle.std.specs.Prelude.{◌≡◌};
+ghost use Rattle.wild_perms.specs.Roles.{entry_cmp};
 
 use base_types::{ItemList, Text};
 use conf_lex::UserName;
@@ -39,11 +38,4 @@ impl RoleEntry {
             .cmp(role)
             .then(self.user.bytes().cmp(user.bytes()))
     }
-}
-
-// The two roles that a creator gives.
-pub(crate) fn is_role(role: &[u8]) -> bool
-    ensures { result ≡ is_role role.now }
-{
-    role == b"READERS".as_slice() || role == b"WRITERS".as_slice()
 }

@@ -8,7 +8,7 @@ ghost use Rattle.wild_perms.specs.Roles.{entry_cmp, IsRoleSet, with_entry};
 ghost use Rattle.wild_perms.specs.Places.{IsGap};
 
 use crate::answer::PermsAnswer;
-use crate::role::{RoleEntry, RoleList, is_role};
+use crate::role::{RoleEntry, RoleList};
 use base_types::{NoMemory, Text};
 use conf_lex::UserName;
 use std::alloc::Global;
@@ -78,11 +78,17 @@ impl Wild {
             .binary_search_by(|entry| entry.order(role, user))
     }
 
-    /// Gives a user a role, where the asker is the creator.
-    pub fn grant(&mut self, asker: &UserName, role: &[u8], user: &UserName) -> PermsAnswer
-        ensures { Grants self.old self.new asker.now (record { role = role.now; user = user.now }) result }
+    /// Gives a user a role, where that is declared for the repository and the asker is the creator.
+    pub fn grant(
+        &mut self,
+        asker: &UserName,
+        role: &[u8],
+        user: &UserName,
+        declared: bool,
+    ) -> PermsAnswer
+        ensures { Grants self.old self.new asker.now (record { role = role.now; user = user.now }) declared result }
     {
-        if let Some(refused) = self.refusal(asker, role) {
+        if let Some(refused) = self.refusal(asker, declared) {
             return refused;
         }
         match self.search(role, user) {
@@ -94,11 +100,17 @@ impl Wild {
         }
     }
 
-    /// Takes a role from a user, where the asker is the creator. It takes no memory.
-    pub fn revoke(&mut self, asker: &UserName, role: &[u8], user: &UserName) -> PermsAnswer
-        ensures { Revokes self.old self.new asker.now (record { role = role.now; user = user.now }) result }
+    /// Takes a role from a user, where that is declared for the repository and the asker is the creator. It takes no memory.
+    pub fn revoke(
+        &mut self,
+        asker: &UserName,
+        role: &[u8],
+        user: &UserName,
+        declared: bool,
+    ) -> PermsAnswer
+        ensures { Revokes self.old self.new asker.now (record { role = role.now; user = user.now }) declared result }
     {
-        if let Some(refused) = self.refusal(asker, role) {
+        if let Some(refused) = self.refusal(asker, declared) {
             return refused;
         }
         match self.search(role, user) {
@@ -150,10 +162,10 @@ impl Wild {
     }
 
     // What refuses a change of a role, if anything does.
-    fn refusal(&self, asker: &UserName, role: &[u8]) -> Option<PermsAnswer>
-        ensures { result ≡ refusal self.now asker.now role.now }
+    fn refusal(&self, asker: &UserName, declared: bool) -> Option<PermsAnswer>
+        ensures { result ≡ refusal self.now asker.now declared }
     {
-        if !is_role(role) {
+        if !declared {
             return Some(PermsAnswer::NoSuchRole);
         }
         self.refused_by_creator(asker)

@@ -12,7 +12,7 @@ pub loop-rule-init : goal.loop-rule-init
 loop-rule-init c = record {
   numbers = subst (λ (some : List Rule). AllLead c.args.policy.now.rules some) (sym c.into_iter-rule-iterator.ensures.into_iter_gives) c.candidates-rule-items.ensures.numbers;
   left = λ ps ok.
-      let a = asked_by c.args.question.now in
+      let a = asked_by ps c.args.question.now in
       ap (λ (some : List Rule). find (decides ps a c.args.letter c.args.name.now) some) (c.into_iter-rule-iterator.ensures.into_iter_gives ∙ c.candidates-rule-items.ensures.rules)
       ∙ find_kept (decides ps a c.args.letter c.args.name.now) (λ (rule : Rule). may_cover a.repo rule.repo) (λ rule other. asks_some ps a (λ (r : Rule). ps.starts r.refex a.user c.args.name.now && (r.perm.deny || grants r.perm c.args.letter)) rule other) c.args.policy.now.rules;
 }
@@ -24,7 +24,7 @@ pub loop-rule-preserved : goal.loop-rule-preserved
 loop-rule-preserved c = record {
   numbers = lead_rest c.args.policy.now.rules c.in-Some.rule.now c.next.new.self c.loop-rule.rule-iterator c.in-Some.ensures.steps c.loop-rule.invariant.numbers;
   left = λ ps ok.
-      pass_over (decides ps (asked_by c.args.question.now) c.args.letter c.args.name.now) c.in-Some.rule.now c.next.new.self c.loop-rule.rule-iterator c.args.policy.now.rules c.in-Some.ensures.steps
+      pass_over (decides ps (asked_by ps c.args.question.now) c.args.letter c.args.name.now) c.in-Some.rule.now c.next.new.self c.loop-rule.rule-iterator c.args.policy.now.rules c.in-Some.ensures.steps
       (sym (c.decides.ensures ps ok) ∙ c.if-decides.false) (c.loop-rule.invariant.left ps ok);
 }
 
@@ -32,9 +32,9 @@ pub returns-then-decides : goal.returns-then-decides
 returns-then-decides c = λ ps ok.
     c.verdict_of.ensures
     ∙ ap verdict_of
-    (stop_at (decides ps (asked_by c.args.question.now) c.args.letter c.args.name.now) c.in-Some.rule.now c.next.new.self c.loop-rule.rule-iterator c.args.policy.now.rules c.in-Some.ensures.steps
+    (stop_at (decides ps (asked_by ps c.args.question.now) c.args.letter c.args.name.now) c.in-Some.rule.now c.next.new.self c.loop-rule.rule-iterator c.args.policy.now.rules c.in-Some.ensures.steps
     (sym (c.decides.ensures ps ok) ∙ c.if-decides.true) (c.loop-rule.invariant.left ps ok))
 
 pub returns : goal.returns
 returns c = λ ps ok.
-    ap verdict_of (run_out (decides ps (asked_by c.args.question.now) c.args.letter c.args.name.now) c.loop-rule.rule-iterator c.args.policy.now.rules c.in-None.ensures.steps.0 (c.loop-rule.invariant.left ps ok))
+    ap verdict_of (run_out (decides ps (asked_by ps c.args.question.now) c.args.letter c.args.name.now) c.loop-rule.rule-iterator c.args.policy.now.rules c.in-None.ensures.steps.0 (c.loop-rule.invariant.left ps ok))

@@ -8,5 +8,5 @@ use Rattle.access_check.proofs.deciding.verdict_on_ref.Given as goal
 abbrev pub invariant-loop-rule : goal.invariant-loop-rule
 invariant-loop-rule l = record {
   numbers : AllLead l.policy.rules l.rule-iterator;
-  left : (ps : Patterns) → AreTrue ps → find (decides ps (asked_by l.question) l.letter l.name) l.rule-iterator ≡ find (decides ps (asked_by l.question) l.letter l.name) l.policy.rules;
+  left : (ps : Patterns) → AreTrue ps → find (decides ps (asked_by ps l.question) l.letter l.name) l.rule-iterator ≡ find (decides ps (asked_by ps l.question) l.letter l.name) l.policy.rules;
 }

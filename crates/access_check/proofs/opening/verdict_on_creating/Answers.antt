@@ -12,7 +12,7 @@ pub loop-rule-init : goal.loop-rule-init
 loop-rule-init c = record {
   numbers = subst (λ (some : List Rule). AllLead c.args.policy.now.rules some) (sym c.into_iter-rule-iterator.ensures.into_iter_gives) c.candidates-rule-items.ensures.numbers;
   left = λ ps ok.
-      let a = asked_by c.args.question.now in
+      let a = asked_by ps c.args.question.now in
       ap (λ (some : List Rule). find (creating_decides ps a c.deny_rules-deny_counts.result) some) (c.into_iter-rule-iterator.ensures.into_iter_gives ∙ c.candidates-rule-items.ensures.rules)
       ∙ find_kept (creating_decides ps a c.deny_rules-deny_counts.result) (λ (rule : Rule). may_cover a.repo rule.repo) (λ rule other. asks_some ps a (λ (r : Rule). if r.perm.deny then c.deny_rules-deny_counts.result else creates r) rule other) c.args.policy.now.rules;
 }
@@ -24,7 +24,7 @@ pub loop-rule-preserved : goal.loop-rule-preserved
 loop-rule-preserved c = record {
   numbers = lead_rest c.args.policy.now.rules c.in-Some.rule.now c.next.new.self c.loop-rule.rule-iterator c.in-Some.ensures.steps c.loop-rule.invariant.numbers;
   left = λ ps ok.
-      pass_over (creating_decides ps (asked_by c.args.question.now) c.deny_rules-deny_counts.result) c.in-Some.rule.now c.next.new.self c.loop-rule.rule-iterator c.args.policy.now.rules c.in-Some.ensures.steps
+      pass_over (creating_decides ps (asked_by ps c.args.question.now) c.deny_rules-deny_counts.result) c.in-Some.rule.now c.next.new.self c.loop-rule.rule-iterator c.args.policy.now.rules c.in-Some.ensures.steps
       (sym (c.creating_decides.ensures ps ok) ∙ c.if-creating_decides.false) (c.loop-rule.invariant.left ps ok);
 }
 
@@ -32,11 +32,11 @@ pub returns-then-creating_decides : goal.returns-then-creating_decides
 returns-then-creating_decides c = λ ps ok.
     c.verdict_of.ensures
     ∙ ap verdict_of
-    (stop_at (creating_decides ps (asked_by c.args.question.now) c.deny_rules-deny_counts.result) c.in-Some.rule.now c.next.new.self c.loop-rule.rule-iterator c.args.policy.now.rules c.in-Some.ensures.steps
+    (stop_at (creating_decides ps (asked_by ps c.args.question.now) c.deny_rules-deny_counts.result) c.in-Some.rule.now c.next.new.self c.loop-rule.rule-iterator c.args.policy.now.rules c.in-Some.ensures.steps
     (sym (c.creating_decides.ensures ps ok) ∙ c.if-creating_decides.true) (c.loop-rule.invariant.left ps ok))
-    ∙ ap (λ (b : Bool). verdict_of (find (creating_decides ps (asked_by c.args.question.now) b) c.args.policy.now.rules)) (c.deny_rules-deny_counts.ensures ps ok)
+    ∙ ap (λ (b : Bool). verdict_of (find (creating_decides ps (asked_by ps c.args.question.now) b) c.args.policy.now.rules)) (c.deny_rules-deny_counts.ensures ps ok)
 
 pub returns : goal.returns
 returns c = λ ps ok.
-    ap verdict_of (run_out (creating_decides ps (asked_by c.args.question.now) c.deny_rules-deny_counts.result) c.loop-rule.rule-iterator c.args.policy.now.rules c.in-None.ensures.steps.0 (c.loop-rule.invariant.left ps ok))
-    ∙ ap (λ (b : Bool). verdict_of (find (creating_decides ps (asked_by c.args.question.now) b) c.args.policy.now.rules)) (c.deny_rules-deny_counts.ensures ps ok)
+    ap verdict_of (run_out (creating_decides ps (asked_by ps c.args.question.now) c.deny_rules-deny_counts.result) c.loop-rule.rule-iterator c.args.policy.now.rules c.in-None.ensures.steps.0 (c.loop-rule.invariant.left ps ok))
+    ∙ ap (λ (b : Bool). verdict_of (find (creating_decides ps (asked_by ps c.args.question.now) b) c.args.policy.now.rules)) (c.deny_rules-deny_counts.ensures ps ok)

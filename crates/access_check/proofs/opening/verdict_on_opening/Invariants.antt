@@ -8,5 +8,5 @@ use Rattle.access_check.proofs.opening.verdict_on_opening.Given as goal
 abbrev pub invariant-loop-rule : goal.invariant-loop-rule
 invariant-loop-rule l = record {
   numbers : AllLead l.policy.rules l.rule-iterator;
-  left : (ps : Patterns) → AreTrue ps → find (opening_decides ps (asked_by l.question) l.deny_counts l.want) l.rule-iterator ≡ find (opening_decides ps (asked_by l.question) l.deny_counts l.want) l.policy.rules;
+  left : (ps : Patterns) → AreTrue ps → find (opening_decides ps (asked_by ps l.question) l.deny_counts l.want) l.rule-iterator ≡ find (opening_decides ps (asked_by ps l.question) l.deny_counts l.want) l.policy.rules;
 }

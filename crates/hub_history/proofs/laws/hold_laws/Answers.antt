@@ -11,7 +11,7 @@ use Rattle.hub_history.proofs.WholeLogs.{refs_whole}
 use Rattle.hub_history.proofs.InTheWay.{directory_is, done_clear}
 use Rattle.hub_history.proofs.NoZero.{refs_nonzero}
 use Rattle.hub_history.proofs.MovedLogs.{changes_are_done, done_let, done_moves, refused_atomic, stale_is}
-use Rattle.hub_history.proofs.RoleLemmas.{answers_tell, change_of_one, created_is_new, creators_opened, new_is_empty, roles_change_there, roles_sets}
+use Rattle.hub_history.proofs.RoleLemmas.{answers_tell, change_of_one, created_is_new, creators_opened, new_is_empty, roles_change_there, roles_sets, undeclared_stay}
 use Rattle.hub_history.proofs.ObjectLemmas.{names_once}
 use Rattle.hub_history.proofs.FormedObjects.{objects_formed}
 use Rattle.hub_history.proofs.RefsApart.{refs_apart}
@@ -113,6 +113,10 @@ returns-clause-role c = λ admin before entry asker repo asked legal is held. ch
 
 pub returns-clause-elsewhere : goal.returns-clause-elsewhere
 returns-clause-elsewhere c = λ admin before entry repo legal differs. roles_change_there c.some_patterns_are_true.ensures.0 c.some_patterns_are_true.ensures.1 admin before entry legal repo differs
+
+pub returns-clause-undeclared : goal.returns-clause-undeclared
+returns-clause-undeclared c = λ admin before entry repo held legal has undeclared.
+    undeclared_stay c.some_patterns_are_true.ensures.0 c.some_patterns_are_true.ensures.1 admin before entry legal repo held has undeclared
 
 pub returns-clause-one : goal.returns-clause-one
 returns-clause-one c = one_answer c.hold_laws-2.ensures.one c.hold_laws.ensures.one

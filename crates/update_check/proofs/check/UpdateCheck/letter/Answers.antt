@@ -9,4 +9,4 @@ pub returns : goal.returns
 returns c = λ ps ok.
     c.letter_of.ensures
     ∙ ap (λ (f : Flags). letter_of f c.args.facts.now) (c.self.invariant.letters ps ok)
-    ∙ ap (λ (v : CheckView). letter_for ps v.rules (asked_by v) c.args.facts.now) c.self.view_is
+    ∙ ap (λ (v : CheckView). letter_for ps v.flat.rules (asked_by ps v) c.args.facts.now) c.self.view_is

@@ -8,8 +8,8 @@ use Rattle.update_check.proofs.check.UpdateCheck.refusal.Goals as goal
 
 pub returns-in-Some : goal.returns-in-Some
 returns-in-Some c = λ ps ok.
-    let rules = c.args.self.now.rules in
-    let a = asked_by c.args.self.now in
+    let rules = c.args.self.now.flat.rules in
+    let a = asked_by ps c.args.self.now in
     let letter : c.letter-letter.result ≡ letter_for ps rules a c.args.facts.now = c.letter-letter.ensures ps ok in (
       c.args.facts.now,
       c.requires,
@@ -19,8 +19,8 @@ returns-in-Some c = λ ps ok.
 
 pub returns-in-Some-2 : goal.returns-in-Some-2
 returns-in-Some-2 c = λ ps ok.
-    let rules = c.args.self.now.rules in
-    let a = asked_by c.args.self.now in
+    let rules = c.args.self.now.flat.rules in
+    let a = asked_by ps c.args.self.now in
     let letter : c.letter-letter.result ≡ letter_for ps rules a c.args.facts.now = c.letter-letter.ensures ps ok in (
       c.args.facts.now,
       c.requires,
@@ -33,8 +33,8 @@ returns-in-Some-2 c = λ ps ok.
 pub returns : goal.returns
 returns c =
     if_ok c.refusal_of_paths.result c.refusal_of_paths.ensures (λ found says ps ok.
-    let rules = c.args.self.now.rules in
-    let a = asked_by c.args.self.now in
+    let rules = c.args.self.now.flat.rules in
+    let a = asked_by ps c.args.self.now in
     let letter : c.letter-letter.result ≡ letter_for ps rules a c.args.facts.now = c.letter-letter.ensures ps ok in (
       c.args.facts.now,
       c.requires,

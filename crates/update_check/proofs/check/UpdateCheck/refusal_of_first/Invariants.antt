@@ -6,4 +6,4 @@ use Rattle.update_check.proofs.check.UpdateCheck.refusal_of_first.Given as goal
 
 abbrev pub invariant-loop-place : goal.invariant-loop-place
 invariant-loop-place l =
-    (ps : Patterns) → AreTrue ps → said_of_paths ps l.self.rules (asked_by l.self) l.letter l.paths ≡ said_of_paths ps l.self.rules (asked_by l.self) l.letter (drop l.place l.paths)
+    (ps : Patterns) → AreTrue ps → said_of_paths ps l.self.flat.rules (asked_by ps l.self) l.letter l.paths ≡ said_of_paths ps l.self.flat.rules (asked_by ps l.self) l.letter (drop l.place l.paths)
