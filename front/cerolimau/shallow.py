@@ -10,6 +10,7 @@ class Shallows:
     def __init__(self):
         self.had = set()  # the client's shallow commits
         self.ends = self.had  # its shallow commits behind the fetch
+        self.deeper = []  # the parents of those that aren't shallow any more
         self.excluded = []  # refs whose history is left out
         self.is_relative = False  # whether the depth counts from the commits that are shallow
         self._depth = 0
@@ -45,6 +46,7 @@ class Shallows:
         else:
             edge, inside = self._edge_by_depth(objects, tips)
         self.ends = (self.had - inside) | edge
+        self.deeper = [parent for commit in self.had & inside for parent in objects.parents(commit)]
         for word, commits in (b"shallow", edge - self.had), (b"unshallow", self.had & inside):
             for commit in sorted(commits):
                 client.write(packet(b"%s %s\n" % (word, commit.hex().encode())))
@@ -55,7 +57,7 @@ class Shallows:
         """The commits at that depth, and those above them."""
         depth, front = self._depth, tips
         if self.is_relative:
-            depth, front = depth + 1, objects.history(tips, self.had) & self.had
+            depth, front = depth + 1, objects.history(tips, ()) & self.had
         edge, inside = set(), set()
         while front:
             depth -= 1
@@ -63,12 +65,11 @@ class Shallows:
             for commit in front:
                 if commit in edge or commit in inside:
                     continue
-                parents = objects.parents(commit)
-                if depth == 0 and parents:
+                if depth == 0:  # one without parents too, as in git
                     edge.add(commit)
                 else:
                     inside.add(commit)
-                    following += parents
+                    following += objects.parents(commit)
             front = following
         return edge, inside
 
@@ -97,4 +98,5 @@ def objects_for(objects, wants, haves, shallows):
     wants, haves = ([bytes.fromhex(text.decode()) for text in texts] for texts in (wants, haves))
     seen = set()
     objects.reached(objects.history(objects.commits_of(haves), shallows.had), seen)
-    return objects.reached([*wants, *objects.history(objects.commits_of(wants), shallows.ends)], seen)
+    commits = objects.history([*objects.commits_of(wants), *shallows.deeper], shallows.ends)
+    return objects.reached([*wants, *commits], seen)

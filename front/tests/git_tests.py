@@ -248,6 +248,27 @@ def info_and_perms(here):
     expect(here.git("bob", "ls-remote", "here:u/alice/x", status=128), "DENIED by fallthru")
 
 
+def declared_roles(here):
+    """A role that the conf declares is given, covers whom it was given to, and no user of that name; it rests while the conf doesn't declare it."""
+    conf = (here.room / "gitolite-admin/conf/gitolite.conf").read_text()
+    block = "repo w/CREATOR/[a-z]+\n    C = alice\n    RW+ = CREATOR\n    RW = TESTERS\n"
+    declared = conf + block + "    option role.TESTERS = 1\n"
+    here.put_conf(declared)
+    made = here.repository()
+    here.git("alice", "push", "here:w/alice/x", "master", cwd=made)
+    assert here.ask("alice", "perms w/alice/x + TESTERS bob") == b"perms: changed\n"
+    here.git("bob", "push", "here:w/alice/x", "master:bobs", cwd=made)
+    expect(here.git("TESTERS", "push", "here:w/alice/x", "master:x", cwd=made, status=128), "W any w/alice/x TESTERS DENIED by fallthru")
+    here.put_conf(conf + block)
+    expect(here.git("bob", "push", "here:w/alice/x", "master:again", cwd=made, status=128), "W any w/alice/x bob DENIED by fallthru")
+    here.git("TESTERS", "push", "here:w/alice/x", "master:x", cwd=made)
+    assert here.ask("alice", "perms w/alice/x -l") == b"TESTERS bob\n"
+    assert here.ask("alice", "perms w/alice/x + TESTERS cal", status=1) == b"perms: no such role\n"
+    here.put_conf(declared)
+    here.git("bob", "push", "here:w/alice/x", "master:again", cwd=made)
+    here.put_conf(conf)
+
+
 def as_gitolites_users_type(here):
     """`help`, `info` with a text, and `perms` in the forms of Gitolite, for several users at once too."""
     for command in "help", "-h", "info -h", "perms --help":
@@ -273,5 +294,5 @@ def eight_at_once(here):
 TESTS = (
     empty_repository, everything_there_and_back, deltas_of_both_kinds, incremental_fetch, tags_follow, forced_and_with_lease, deletes,
     atomic, notes, nothing_new, many_refs, denials, conf_takes_effect, conf_refused, confs_at_their_limits, info_and_perms,
-    as_gitolites_users_type, eight_at_once,
+    declared_roles, as_gitolites_users_type, eight_at_once,
 )

@@ -55,6 +55,8 @@ def confs(here):
     rules = b"1 gitolite-admin RW+ refs/.* admin gitolite.conf 2\n2 testing RW+ refs/.* @all gitolite.conf 5\nok 2 rules, 2 repositories\n"
     ends(here, ("check",), 0, rules, setup)
     ends(here, ("check",), 0, b"1 a RW refs/.* b gitolite.conf 2\nok 1 rules, 1 repositories\n", b"repo a\n RW = b\n")
+    declared = b"repo a\n option role.TESTERS = 1\n RW = TESTERS\n"
+    ends(here, ("check",), 0, b"1 a RW refs/.* TESTERS gitolite.conf 3\nok 1 rules, 1 repositories\n", declared)
     ends(here, ("check",), 6, b"gitolite.conf line 1: rule before repo\n", b"RW = b\n")
     ends(here, ("check",), 6, b"gitolite.conf line 2: bad word at 9\n", b"repo a\nRW = ann \\\n")
     refexes = b"repo r\n    R" + b"".join(b" x%d" % number for number in range(4_096))

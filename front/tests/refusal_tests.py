@@ -1,6 +1,7 @@
 """What is refused, and how it is told: one line, and no traceback."""
 import contextlib
 import hashlib
+import os
 import socket
 import subprocess
 import threading
@@ -9,7 +10,7 @@ from cerolimau.packets import FLUSH, packet
 from cerolimau.raw_pack import object_name
 
 from .limit_tests import blob_name, pack_of, push_of, size_of
-from .world import expect, run
+from .world import SECONDS, expect, run
 
 ZERO = "0" * 40
 LACKS = "which the pack doesn't have"
@@ -147,6 +148,16 @@ def other_commands(here):
         assert here.ask("ann", form, FLUSH).endswith(b"0000")
 
 
+def no_packets_for_a_person(here):
+    """Who types git's command at a terminal is told in words."""
+    terminal, end = os.openpty()
+    with os.fdopen(terminal, "rb", buffering=0) as reading:
+        words = [*here.front("ann"), "here", "git-upload-pack 'testing'"]
+        ran = subprocess.run(words, stdin=subprocess.DEVNULL, stdout=end, stderr=end, timeout=SECONDS)
+        os.close(end)
+        assert ran.returncode == 1 and reading.read(1000) == b"cerolimau: git-upload-pack is for git: a person sees nothing in it\r\n"
+
+
 def users_of_the_line(here):
     """The user is the one of the command line, whatever the client asks."""
     for user in "", "CREATOR", "a b", "-x", "ann\n", "a" * 65, "\xe9":
@@ -207,6 +218,6 @@ def words_of_fetches(here):
 
 
 TESTS = (
-    no_server, cut_connections, bad_packs, bad_object, named_twice, refused_while_sending, without_report, other_commands, users_of_the_line,
-    idle_client, what_clients_want, words_of_fetches,
+    no_server, cut_connections, bad_packs, bad_object, named_twice, refused_while_sending, without_report, other_commands,
+    no_packets_for_a_person, users_of_the_line, idle_client, what_clients_want, words_of_fetches,
 )
