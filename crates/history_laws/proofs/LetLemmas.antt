@@ -30,7 +30,7 @@ use Rattle.history_laws.proofs.DeniedLemmas.{late_judged}
 use Rattle.history_laws.proofs.OutcomeLemmas.{late_judge}
 
 -- the rules say nothing against what they say nothing of
-none_refused : (r : Option Refusal) → None ≡ outcome_of r → r ≡ None
+pub none_refused : (r : Option Refusal) → None ≡ outcome_of r → r ≡ None
 none_refused None is = refl
 none_refused (Some (refusal.Denied verdict letter name)) is = absurd cc
 none_refused (Some refusal.ManyPaths) is = absurd cc
@@ -84,7 +84,7 @@ module _ (ps : Patterns) (ok : AreTrue ps) (admin : Name) (before : List Entry) 
       let judges = late_judge ps (repository_at (replay admin before) pinned.repo) pinned t.pack t.commands t.atomic d.judged d.judges t.index command (ConfRefused fault) t.command_is (told_is (ConfRefused fault) t) refl in
       passed (ConfRefused fault) (λ by. no_conf fault by.1 by.4) (late_judged ps pinned t.pack t.commands command (ConfRefused fault) refl judges)
 
-  passed_of : (o : Outcome) → IsPastTheRules o → (t : TellsCommand admin before entry pinned command o) → ByRules ps pinned (pinned.repository.objects ++ t.pack) command None
+  pub passed_of : (o : Outcome) → IsPastTheRules o → (t : TellsCommand admin before entry pinned command o) → ByRules ps pinned (pinned.repository.objects ++ t.pack) command None
   passed_of o (inl (inl is)) t = by_refs_passed o t (ap is_by_refs is)
   passed_of o (inl (inr other)) t = by_refs_passed o t (ap is_by_refs other.1)
   passed_of o (inr (inl stale)) t = by_refs_passed o t (ap is_by_refs stale.1)

@@ -5,3 +5,10 @@ mod LetLemmas
 mod RefusalLemmas
 mod AtomicLemmas
 mod NamedLemmas
+mod ChangeLemmas
+mod DoneLemmas
+mod MadeLemmas
+mod FactsLemmas
+mod EachLemmas
+mod OneLogLemmas
+mod SomeAnswer
