@@ -22,7 +22,7 @@ def conf_for_all(repos, admin):
 
 
 def push_conf(conf, before, admin):
-    text, name = sessions.push_conf(conf, before)
+    text, name = sessions.conf_push({"gitolite.conf": conf}, before)
     return text.replace(sessions.packet(b"admin git-receive-pack 'gitolite-admin'"), sessions.packet(b"%s git-receive-pack 'gitolite-admin'" % admin.encode())), name
 
 

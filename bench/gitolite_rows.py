@@ -1,14 +1,15 @@
 #!/usr/bin/env python3
 """Asks a real Gitolite and the program what docs/ACCESS.md says of where they part: gitolite_rows.py [PROGRAM]
 
-It needs what compare_gitolite.py needs. Each row is a conf, a question, and the two answers. It ends with 1 where an answer is another. Without PROGRAM only
-Gitolite is asked.
+It needs what compare_gitolite.py needs. Each row is a conf, a question, and the two answers; some have roles that Gitolite's rc file has beside READERS and
+WRITERS, and what comes before the question: a repository is made, a role is given in it, and another conf comes into force. It ends with 1 where an answer is
+another. Without PROGRAM only Gitolite is asked.
 """
 import os, re, shutil, subprocess, sys, tempfile
 import compare_pushes as pushes
 from compare_gitolite import ADMIN, ZERO, Gitolite, conf_push, gitolite_home, name_of, open_conf, packet, push, replies, text_of, write_objects
 
-ALLOWED, DENIED, TAKEN, REFUSED = "allowed", "denied", "taken", "refused"
+ALLOWED, DENIED, TAKEN, REFUSED, TOLD, SILENT = "allowed", "denied", "taken", "refused", "told", "silent"
 
 
 # ---- commits: some files, and changes of them
@@ -35,9 +36,15 @@ pushes.OBJECTS[name_of(*TAG)] = TAG
 # ---- rows: a conf, in which `; ` ends a line, or its files; a question; what the server says, and what Gitolite says
 
 
-def row(conf, question, here, there):
+def files_of(conf):
     files = conf if isinstance(conf, dict) else {"gitolite.conf": conf}
-    return {name: text.replace("; ", "\n") + "\n" for name, text in files.items()}, question, here, there
+    return {name: text.replace("; ", "\n") + "\n" for name, text in files.items()}
+
+
+def row(conf, question, here, there, rc=(), made=None, then=None):
+    """`rc` are roles of Gitolite's own file; `made` is who makes which repository before, and perhaps a role and to whom it is given then; and `then` is a conf, and
+    such roles, that come into force before the question."""
+    return [(files_of(conf), rc), *([(files_of(then[0]), then[1])] if then else [])], made, question, here, there
 
 
 def read(user, repo):
@@ -61,8 +68,12 @@ def roles(user, repo, *words):
     return "roles", user, repo, *words
 
 
-CONF = ("conf",)
+CONF, WARNING = ("conf",), ("warning",)
 T, MASTER = "repo t; ", "refs/heads/master"
+U = "repo u/..*; C = ann; RW+ = CREATOR"
+TESTERS, DECLARED, TO_BOB = U + "; R = TESTERS", "; option role.TESTERS = 1", ("+", "TESTERS", "bob")
+IN_GROUP = "@g = TESTERS; " + U + "; - = TESTERS; R = @g" + DECLARED
+RC, BY_ANN, BOB_HOLDS = ["TESTERS"], ("ann", "u/x"), ("ann", "u/x", "TESTERS", "bob")
 
 ROWS = [
     # decisions
@@ -70,6 +81,7 @@ ROWS = [
     row("@own = CREATOR; repo u/..*; C = ann; R = ann; RW = @own", write("ann", "u/x"), ALLOWED, DENIED),
     row("repo u/..*; C = CREATOR; R = @all", read("ann", "u/x"), ALLOWED, DENIED),
     row("repo u/[a-z]+; R = bob", read("bob", "u/x"), DENIED, DENIED),
+    row(U, read("ann", "u//x"), REFUSED, ALLOWED),
     row(T + "RW VREF/NAME/x = ann; - VREF/MERGE-CHECK = ann; RW = ann", change("ann", "t", MASTER, NEXT, MERGE), DENIED, DENIED),
     row(T + "- VREF/MERGE-CHECK/master = ann; RW = ann", change("ann", "t", MASTER, NEXT, MERGE), DENIED, DENIED),
     row(T + "- VREF/MERGE-CHECK/dev/x = ann; RW = ann", change("ann", "t", "refs/heads/dev/y", NEXT, MERGE), ALLOWED, DENIED),
@@ -109,16 +121,48 @@ ROWS = [
     row(T + "- (master$|dev)$ = ann; RW = ann", create("ann", "t", MASTER), ALLOWED, DENIED),
     row("repo x/; RW = ann", CONF, TAKEN, REFUSED),
     # roles
-    row("repo u/..*; C = ann; RW+ = CREATOR; R = READERS", roles("ann", "u/x", "+", "READERS", "bob"), ALLOWED, ALLOWED),
-    row("repo u/..*; C = ann; RW+ = CREATOR", roles("ann", "u/x", "+", "READERS", "bob"), ALLOWED, DENIED),
-    row("repo u/..*; C = ann; RW+ = CREATOR", roles("ann", "u/x", "-", "READERS", "bob"), ALLOWED, ALLOWED),
-    row("repo u/..*; C = ann; RW+ = CREATOR", roles("ann", "u/x", "-", "TESTERS", "bob"), DENIED, ALLOWED),
+    row(U + "; R = READERS", roles("ann", "u/x", "+", "READERS", "bob"), ALLOWED, ALLOWED),
+    row(U, roles("ann", "u/x", "+", "READERS", "bob"), ALLOWED, DENIED),
+    row(U, roles("ann", "u/x", "-", "READERS", "bob"), ALLOWED, ALLOWED),
+    row(U, roles("ann", "u/x", "-", "TESTERS", "bob"), DENIED, ALLOWED),
+    row("@g = bob; " + U + "; R = READERS", roles("ann", "u/x", "+", "READERS", "@g"), REFUSED, ALLOWED),
+    # roles that a conf declares, and those of Gitolite's rc file
+    row(TESTERS + DECLARED, roles("ann", "u/x", *TO_BOB), ALLOWED, ALLOWED, RC),
+    row(TESTERS + DECLARED, roles("ann", "u/x", *TO_BOB), ALLOWED, DENIED),
+    row(TESTERS, roles("ann", "u/x", *TO_BOB), DENIED, ALLOWED, RC),
+    row(TESTERS, roles("ann", "u/x", *TO_BOB), DENIED, DENIED),
+    row(TESTERS + "; option role.TESTERS = yes", roles("ann", "u/x", *TO_BOB), DENIED, ALLOWED, RC),
+    row(U + DECLARED, roles("ann", "u/x", *TO_BOB), ALLOWED, DENIED, RC),
+    row(U + "; R = testers; option role.testers = 1", roles("ann", "u/x", "+", "testers", "bob"), DENIED, ALLOWED, ["testers"]),
+    row(TESTERS + DECLARED, read("bob", "u/x"), ALLOWED, ALLOWED, RC, BOB_HOLDS),
+    row(TESTERS + DECLARED, read("TESTERS", "u/x"), DENIED, DENIED, RC, BY_ANN),
+    row(TESTERS + DECLARED, read("TESTERS", "u/x"), DENIED, ALLOWED, (), BY_ANN),
+    row(TESTERS, read("TESTERS", "u/x"), ALLOWED, DENIED, RC, BY_ANN),
+    row(T + "RW = TESTERS", write("TESTERS", "t"), ALLOWED, ALLOWED),
+    row(T + "RW = TESTERS", write("TESTERS", "t"), ALLOWED, DENIED, RC),
+    row(T + "RW = TESTERS" + DECLARED, write("TESTERS", "t"), DENIED, ALLOWED),
+    row("repo v/..*; R = ann" + DECLARED + "; " + TESTERS, read("TESTERS", "u/x"), ALLOWED, DENIED, RC, BY_ANN),
+    row(IN_GROUP, read("bob", "u/x"), ALLOWED, DENIED, RC, BOB_HOLDS),
+    row(IN_GROUP, read("TESTERS", "u/x"), DENIED, ALLOWED, RC, BY_ANN),
+    row(TESTERS + DECLARED, read("bob", "u/x"), DENIED, DENIED, RC, BOB_HOLDS, (TESTERS, ())),
+    row(TESTERS + DECLARED, read("TESTERS", "u/x"), ALLOWED, ALLOWED, RC, BOB_HOLDS, (TESTERS, ())),
+    row(TESTERS + DECLARED, roles("ann", "u/x", "-", "TESTERS", "bob"), ALLOWED, ALLOWED, RC, BOB_HOLDS),
+    row(TESTERS + DECLARED, roles("ann", "u/x", "-", "TESTERS", "bob"), DENIED, ALLOWED, RC, BOB_HOLDS, (TESTERS, ())),
     # the conf
     row("hello", CONF, REFUSED, TAKEN),
     row(T + "X = ann", CONF, REFUSED, TAKEN),
     row("RW = ann", CONF, REFUSED, TAKEN),
     row(T + "R = @none", CONF, REFUSED, TAKEN),
     row('include "none.conf"', CONF, REFUSED, TAKEN),
+    row("repo @none; RW = ann", CONF, REFUSED, TAKEN),
+    row({"gitolite.conf": 'include "t[12].conf"', "t1.conf": T + "RW = ann"}, write("ann", "t"), REFUSED, ALLOWED),
+    row({"gitolite.conf": 'include "{s,t}.conf"', "s.conf": T, "t.conf": T + "RW = ann"}, write("ann", "t"), REFUSED, ALLOWED),
+    row({"gitolite.conf": 'include "?.conf"', "t.conf": T + "RW = ann"}, write("ann", "t"), REFUSED, ALLOWED),
+    row({"gitolite.conf": 'include "*.conf"', "t.conf": T + "RW = ann"}, write("ann", "t"), ALLOWED, ALLOWED),
+    row({"gitolite.conf": '@b = a; repo a; R = zed; subconf b "x.conf"', "x.conf": "repo a; RW = bob"}, write("bob", "a"), REFUSED, ALLOWED),
+    row({"gitolite.conf": '@b = a; repo a; R = zed; subconf "b.conf"', "b.conf": "repo a; RW = bob"}, write("bob", "a"), ALLOWED, ALLOWED),
+    row({"gitolite.conf": '@b = a; repo c; R = zed; subconf "b.conf"', "b.conf": "repo a c; RW = bob"}, write("bob", "c"), DENIED, DENIED),
+    row({"gitolite.conf": '@b = a; repo c; R = zed; subconf "b.conf"', "b.conf": "repo a c; RW = bob"}, WARNING, SILENT, TOLD),
     row({"gitolite.conf": 'repo a; R = @b; subconf "b.conf"; @b = a', "b.conf": "RW = bob"}, CONF, REFUSED, TAKEN),
     row({"gitolite.conf": '@b = a; repo a; subconf "b.conf"', "b.conf": "RW = bob"}, write("bob", "a"), REFUSED, ALLOWED),
     row({"gitolite.conf": '@b = c; repo a; subconf "b.conf"; RW = bob', "b.conf": "repo c; R = ann"}, write("bob", "c"), REFUSED, ALLOWED),
@@ -157,23 +201,29 @@ def denied(said):
 # ---- Gitolite
 
 
-def ask_gitolite(home, conf, question):
+def ask_gitolite(home, confs, made, question):
     for place in [home + "/.gitolite/conf", home + "/repositories"]:
         for name in os.listdir(place):
             if name not in ["gitolite-admin.git", "testing.git"]:
                 (shutil.rmtree if os.path.isdir("%s/%s" % (place, name)) else os.remove)("%s/%s" % (place, name))
-    try:
-        there = Gitolite(home, {**conf, "gitolite.conf": conf["gitolite.conf"] + ADMIN})
-    except subprocess.CalledProcessError as failed:
-        return REFUSED + ": " + failed.stderr.strip().split("\n")[-1]
+    for conf, rc in confs:
+        try:
+            there = Gitolite(home, {**conf, "gitolite.conf": conf["gitolite.conf"] + ADMIN}, rc)
+        except subprocess.CalledProcessError as failed:
+            return REFUSED + ": " + failed.stderr.strip().split("\n")[-1]
+        if made:
+            make(there, *made)
+            made = None
     if question == CONF:
         return TAKEN
+    if question == WARNING:
+        return TOLD if there.warned else SILENT
     if question[0] == "open":
         _, user, repo, want = question
         ran = there.shell(user, "git-%s-pack '%s'" % ("upload" if want == "R" else "receive", repo))
     elif question[0] == "roles":
         _, user, repo, *words = question
-        there.run("gitolite", "create", repo, env=dict(GL_USER=user))
+        make(there, user, repo)
         ran = there.run("gitolite", "perms", repo, *words, check=False, env=dict(GL_USER=user))
     else:
         write_objects(there.folder(question[2]), pushes.OBJECTS)
@@ -181,46 +231,69 @@ def ask_gitolite(home, conf, question):
     return ALLOWED if ran.returncode == 0 else denied(ran.stderr.strip())
 
 
+def make(there, user, repo, *role):
+    """The repository is made by the user, where it isn't there, and a role in it given to another."""
+    if not os.path.isdir(there.folder(repo)):
+        there.run("gitolite", "create", repo, env=dict(GL_USER=user))
+    if role:
+        there.run("gitolite", "perms", repo, "+", *role, env=dict(GL_USER=user))
+
+
 # ---- the program
 
 
-def ask_program(program, conf, question):
-    conf = {**conf, "gitolite.conf": conf["gitolite.conf"] + ADMIN}
+def ask_program(program, confs, made, question):
     text, head = conf_push(open_conf(["t", "a"]), None)
     sessions = [(None, text)]
     if question[0] == "change" and question[4] != ZERO:
         sessions.append((None, push("root", question[2], [(ZERO, question[4], question[3])], pushes.OBJECTS.values(), b"report-status")))
-    sessions.append(("conf", conf_push(conf, head)[0]))
+    for conf, _ in confs:
+        text, head = conf_push({**conf, "gitolite.conf": conf["gitolite.conf"] + ADMIN}, head)
+        sessions.append(("conf", text))
+        if made:
+            user, repo, *role = made
+            sessions.append((None, opening(user, repo, "R")))
+            if role:
+                sessions.append(("given", packet(" ".join([user, "perms", repo, "+", *role]).encode())))
+            made = None
     if question[0] == "open":
-        _, user, repo, want = question
-        sessions.append(("ask", packet(b"%s git-%s-pack '%s'" % (user.encode(), b"upload" if want == "R" else b"receive", repo.encode())) + b"0000"))
+        sessions.append(("ask", opening(*question[1:])))
     elif question[0] == "roles":
         _, user, repo, *words = question
-        sessions.append((None, packet(b"%s git-upload-pack '%s'" % (user.encode(), repo.encode())) + b"0000"))
+        sessions.append((None, opening(user, repo, "R")))
         sessions.append(("ask", packet(" ".join([user, "perms", repo, *words]).encode())))
     elif question[0] == "change":
         _, user, repo, ref, old, new = question
         sessions.append(("ask", push(user, repo, [(old, new, ref)], pushes.OBJECTS.values() if new != ZERO else None, b"report-status")))
+    said = TAKEN
     for what, end, reply in replies(program, sessions):
         if what == "conf" and b"ok refs/heads/master" not in reply:
             return REFUSED + ": " + re.search(rb"ng refs/heads/master ([^\n]*)", reply).group(1).decode()
+        if what == "conf" and question == WARNING:
+            said = TOLD if b"subconf" in reply else SILENT
+        if what == "given" and b"perms: changed" not in reply:
+            return "failed: " + reply.decode()
         if what == "ask":
             is_done = end == "served" and b"ng " not in reply and (question[0] != "roles" or b"perms: changed" in reply or b"perms: already so" in reply)
-            return ALLOWED if is_done else denied(reply.decode(errors="replace"))
-    return TAKEN
+            said = ALLOWED if is_done else (REFUSED + ": " if end == "bad-command" else "") + denied(reply.decode(errors="replace"))
+    return said
+
+
+def opening(user, repo, want):
+    return packet(b"%s git-%s-pack '%s'" % (user.encode(), b"upload" if want == "R" else b"receive", repo.encode())) + b"0000"
 
 
 def main(program=None):
     differ = 0
     with tempfile.TemporaryDirectory(prefix="gitolite-rows-") as home:
         gitolite_home(home)
-        for conf, question, here, there in ROWS:
-            said = ask_gitolite(home, conf, question)
-            ours = ask_program(program, conf, question) if program else here
+        for confs, made, question, here, there in ROWS:
+            said = ask_gitolite(home, confs, made, question)
+            ours = ask_program(program, confs, made, question) if program else here
             for who, due, answer in (("Gitolite", there, said), ("the program", here, ours)):
                 if answer.split(":")[0] != due:
                     differ += 1
-                    print("%s says %s, not %s: %s\n%s" % (who, answer, due, [it.hex()[:7] if isinstance(it, bytes) else it for it in question], text_of(conf)))
+                    print("%s says %s, not %s: %s\n%s" % (who, answer, due, [it.hex()[:7] if isinstance(it, bytes) else it for it in question], text_of(confs[0][0])))
     print("%d rows, %d answers differ" % (len(ROWS), differ))
     return 1 if differ else 0
 
