@@ -1,0 +1,12 @@
+mod CallLemmas
+mod CrashLemmas
+mod FoundLemmas
+mod GroupLemmas
+mod ImageLemmas
+mod MemoryLemmas
+mod OffsetLemmas
+mod OneReading
+mod OpenLemmas
+mod ReadLemmas
+mod RecordLemmas
+mod StoreLemmas

@@ -1,0 +1,12 @@
+pub mod CallViews
+pub mod Crashes
+pub mod Disks
+pub mod Faults
+pub mod Files
+pub mod Gates
+pub mod Groups
+pub mod MemoryDisks
+pub mod MemoryViews
+pub mod Opening
+pub mod Reading
+pub mod Records

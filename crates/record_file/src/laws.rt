@@ -1,0 +1,14 @@
+// What holds of the form itself.
+ghost use Rattle.std.specs.Prelude.{◌≡◌, [], List, ℕ};
+ghost use Rattle.record_file.specs.Records.{Holds, IsBadAt};
+ghost use Rattle.record_file.specs.Opening.{IsTooShort};
+
+/// Laws of files of records.
+pub fn hold_laws()
+    // A file has one reading.
+    ensures one_reading { (head file : List ℕ) (bodies others : List (List ℕ)) → Holds head bodies file → Holds head others file → bodies ≡ others }
+    // A file that holds records is bad at no offset.
+    ensures not_bad { (head file : List ℕ) (bodies : List (List ℕ)) (offset : ℕ) → Holds head bodies file → IsBadAt head file offset → ⊥ }
+    // What a crash in the first write may leave holds no record under the right name.
+    ensures torn_start { (head file : List ℕ) (bodies : List (List ℕ)) → IsTooShort head file → Holds head bodies file → bodies ≡ [] }
+{}
