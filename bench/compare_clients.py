@@ -5,7 +5,8 @@ It needs what compare_gitolite.py needs, and nothing may listen at 127.0.0.1:941
 git makes the same forty random pushes to Gitolite, by its gitolite-shell, and to PROGRAM, through the front end: of up to four refs, creates, moves and deletes
 of branches, tags and other refs, some in the way of others, some atomic, some forced. After each, the mark that `git push --porcelain` has for each ref has to be
 the same, and whether it is git itself that refuses; so have git's status and all refs. Gitolite's git is told to follow no renames, and to let the branch of HEAD be
-deleted; no ref is deleted that isn't there, and of an atomic push no ref is in the way of another: docs/ACCESS.md has these. It ends with 1 where two answers differ.
+deleted; no ref is deleted that isn't there, and of an atomic push no ref is in the way of another: docs/ACCESS.md has these. HEAD is left out, which is at `master` alone
+there (docs/FRONT.md). It ends with 1 where two answers differ.
 """
 import os, pathlib, random, subprocess, sys, tempfile
 from compare_changes import PATHS, draw_history, store_objects
@@ -18,6 +19,11 @@ USERS, REPOS, PUSHES = ["u1", "u2", "u3"], ["r1", "r2"], 40
 REFS = ["refs/heads/master", "refs/heads/dev", "refs/heads/dev/x", "refs/heads/personal/u2/a", "refs/tags/v1", "refs/tags/v2", "refs/x/y"]
 REFEXES = ["", "", "", "master", "dev", "personal/USER/", "refs/tags/", "refs/heads/[d-p]", "refs/x"]
 PERMS = ["R", "RW", "RW", "RW+", "RW+", "RWC", "RW+C", "RW+D", "RWCD", "RW+CD", "RWM", "RW+CDM", "-"]
+
+
+def without_head(listing):
+    """A listing of refs without the line of HEAD."""
+    return "".join(line for line in listing.splitlines(keepends=True) if not line.endswith("\tHEAD\n"))
 
 
 def draw_conf(draws):
@@ -94,7 +100,7 @@ def main(program, confs="3", seed="1"):
                     user, repo, words, changes = draw_push(draws, commits, there)
                     said = list(sides.git(user, "push", "--porcelain", *words, "here:" + repo, *changes))
                     looks = list(sides.git("keeper", "ls-remote", "here:" + repo))
-                    refs = [ran.stdout for ran in looks]
+                    refs = [without_head(ran.stdout) for ran in looks]
                     there[repo] = refs[0].split()
                     if any(ran.returncode for ran in looks):
                         sys.exit("the refs can't be listed: %s" % looks)
