@@ -95,6 +95,15 @@ def send_push(sessions, rows, words, pack, entries):
     """One push at the server, of these commands and these entries of the client's pack. Where the server stops reading, its report says
     why."""
     server, _ = sessions.open_for_pack("push")
+    try:
+        send_commands_and_pack(server, rows, words, pack, entries)
+        unpacked, outcomes = read_report(server)
+    finally:
+        server.close()  # behind a refusal too, since the next slice wants its worker
+    return unpacked, (outcomes + [UNPACKER_ERROR] * len(rows))[:len(rows)]
+
+
+def send_commands_and_pack(server, rows, words, pack, entries):
     sending = bytearray()
     for number, row in enumerate(rows):
         sending += packet(b"%s %s %s" % row + (b"\0" + words if number == 0 else b""))
@@ -107,9 +116,6 @@ def send_push(sessions, rows, words, pack, entries):
                 break
             sending = bytearray()
     server.send(sending)
-    unpacked, outcomes = read_report(server)
-    server.close()
-    return unpacked, (outcomes + [UNPACKER_ERROR] * len(rows))[:len(rows)]
 
 
 def read_report(server):
