@@ -334,6 +334,18 @@ def history(program):
     program_now.end()
 
 
+def many_paths(width):
+    """Trees of so many entries, three deep: a root under which so many files to the third power stand, though all of them are one."""
+    blob = ("blob", b"one\n")
+    files = tree([(b"100644", b"%03d" % k, object_id(blob)) for k in range(width)])
+    folders = tree([(b"40000", b"%03d" % k, object_id(files)) for k in range(width)])
+    root = tree([(b"40000", b"%03d" % k, object_id(folders)) for k in range(width)])
+    return root, [root, folders, files, blob]
+
+
+ASKS_PATHS = b"repo gitolite-admin\n    RW+ = admin\nrepo testing\n    - VREF/NAME/none/ = bob\n    RW+ = @all\n"
+
+
 def alike(program):
     """Trees of 10,000 files on each side of an update, each nearly equal to each: every one of 100, of 200 and of 300 is compared with every one, where a rule asks of paths."""
     base = [b"100644 %05d\0" % k + object_id(("blob", b"base %d" % k)) for k in range(10_000)]
@@ -345,7 +357,7 @@ def alike(program):
         made = commit(b"old\n", object_id(roots[0]))
         next_one = commit(b"new\n", object_id(roots[1]), [object_id(made)])
         program_now = Program(program)
-        program_now.expect(admin_push(b"repo gitolite-admin\n    RW+ = admin\nrepo testing\n    - VREF/NAME/none/ = bob\n    RW+ = @all\n"))
+        program_now.expect(admin_push(ASKS_PATHS))
         program_now.expect(push([("refs/heads/master", object_id(made))], [made, roots[0]] + sides[0] + blobs))
         took = {}
         for user in (b"bob", b"carol"):
@@ -357,7 +369,27 @@ def alike(program):
         program_now.end()
 
 
-CASES = {case.__name__: case for case in (refused, old, one_file, rootless, large_trees, deep_refs, one_ref, large_pack, installation, clone, others, history, alike)}
+def paths(program):
+    """Creates at one commit over small trees with 64,000 paths, where a rule asks of paths; and at as many commits of that one tree."""
+    root, items = many_paths(40)
+    made = commit(b"paths\n", object_id(root))
+    for commands in (1, 40, 10_000):
+        program_now = Program(program)
+        program_now.expect(admin_push(ASKS_PATHS))
+        sent = push([("refs/heads/b%05d" % n, object_id(made)) for n in range(commands)], [made] + items)
+        took = program_now.expect(sent.replace(packet(b"carol git-receive-pack 'testing'"), packet(b"bob git-receive-pack 'testing'")))
+        print("%d creates at one commit with 64,000 paths: %.2f s" % (commands, took))
+        program_now.end()
+    commits = [commit(b"%d\n" % n, object_id(root)) for n in range(10_000)]
+    program_now = Program(program)
+    program_now.expect(admin_push(ASKS_PATHS))
+    sent = push([("refs/heads/b%05d" % n, object_id(made)) for n, made in enumerate(commits)], commits + items)
+    took = program_now.expect(sent.replace(packet(b"carol git-receive-pack 'testing'"), packet(b"bob git-receive-pack 'testing'")))
+    print("10,000 creates at 10,000 commits of one tree with 64,000 paths: %.2f s" % took)
+    program_now.end()
+
+
+CASES = {case.__name__: case for case in (refused, old, one_file, rootless, large_trees, deep_refs, one_ref, large_pack, installation, clone, others, history, alike, paths)}
 
 
 def main():

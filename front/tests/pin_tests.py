@@ -1,4 +1,4 @@
-"""Two sessions at once: a push is judged by the rules at its opening, whatever is pushed before it."""
+"""Two sessions at once: a push is judged by the rules at its opening and by those just before it."""
 import contextlib
 import hashlib
 import socket
@@ -41,10 +41,10 @@ class Session:
         while not self.advertised.endswith(FLUSH) and not self.advertised[4:].startswith(b"ERR "):
             self.advertised += self.link.recv(65536)
 
-    def push(self, old, new, ref, objects):
-        """The report, in lines of which the lengths and the flush are cut off."""
-        command = packet(("%s %s %s\0report-status" % (old, new, ref)).encode())
-        self.link.sendall(command + FLUSH + raw_pack(objects))
+    def push(self, old, new, ref, objects, *more, words="report-status"):
+        """The report, in lines of which the lengths and the flush are cut off. Each further command is an old value, a new one and a ref."""
+        commands = packet(("%s %s %s\0%s" % (old, new, ref, words)).encode()) + b"".join(packet(("%s %s %s" % one).encode()) for one in more)
+        self.link.sendall(commands + FLUSH + raw_pack(objects))
         said = b"".join(iter(lambda: self.link.recv(65536), b""))
         self.link.close()
         assert said.endswith(FLUSH), said
@@ -76,14 +76,45 @@ def right_given_later(here):
 
 
 def right_taken_later(here):
-    """A right that is taken away after an opening counts for its push, and not at the next opening."""
+    """A right that is taken away after an opening is gone at once, for its push too."""
     with conf_as_it_was(here) as was:
         here.put_conf(was + "repo taken\n    RW = alice\n")
         opened = Session(b"alice", b"taken")
         here.put_conf(was + "repo taken\n    RW = bob\n")
         said = opened.push(ZERO, name_of(FIRST), "refs/heads/master", [FIRST, EMPTY])
-        assert said == ["unpack ok", "ok refs/heads/master"], said
+        assert said == ["unpack ok", "ng refs/heads/master W refs/heads/master taken alice DENIED by fallthru (rules at push)"], said
         expect(Session(b"alice", b"taken").advertised, "ERR W any taken alice DENIED by fallthru")
+
+
+def role_taken_later(here):
+    """So it is with a role, though the rules stay the same; one that is given later doesn't help."""
+    with conf_as_it_was(here) as was:
+        here.put_conf(was + "repo later/CREATOR/..*\n    C = @all\n    RW+ = CREATOR\n    R = @all\n    RW = WRITERS\n    RW topic = READERS\n")
+        Session(b"alice", b"later/alice/x").push(ZERO, name_of(FIRST), "refs/heads/master", [FIRST, EMPTY])
+        assert here.ask("alice", "perms later/alice/x + WRITERS bob") == b"perms: changed\n"
+        opened, other = Session(b"bob", b"later/alice/x"), Session(b"bob", b"later/alice/x")
+        assert here.ask("alice", "perms later/alice/x - WRITERS bob") == b"perms: changed\n"
+        assert here.ask("alice", "perms later/alice/x + READERS bob") == b"perms: changed\n"
+        said = opened.push(ZERO, name_of(FIRST), "refs/heads/other", [], (ZERO, name_of(FIRST), "refs/heads/topic"))
+        assert said == ["unpack ok", "ng refs/heads/other W refs/heads/other later/alice/x bob DENIED by fallthru (rules at push)", "ok refs/heads/topic"], said
+        assert here.ask("alice", "perms later/alice/x + WRITERS bob") == b"perms: changed\n"
+        assert other.push(ZERO, name_of(FIRST), "refs/heads/other", []) == ["unpack ok", "ok refs/heads/other"]
+
+
+def rule_on_paths_later(here):
+    """A rule on paths that came after an opening denies a path too, and names itself; the rest of an atomic push goes with it."""
+    blob = BLOB, b"all:\n"
+    root = TREE, b"100644 Makefile\0" + bytes.fromhex(name_of(blob))
+    made = commit(name_of(root))
+    with conf_as_it_was(here) as was:
+        here.put_conf(was + "repo paths\n    RW = alice\n")
+        opened, atomic = Session(b"alice", b"paths"), Session(b"alice", b"paths")
+        line = len(was.splitlines()) + 2
+        here.put_conf(was + "repo paths\n    - VREF/NAME/Makefile = alice\n    RW = alice\n")
+        denied = "ng refs/heads/one W VREF/NAME/Makefile paths alice DENIED by VREF/NAME/Makefile (gitolite.conf line %d) (rules at push)" % line
+        assert opened.push(ZERO, name_of(made), "refs/heads/one", [made, root, blob]) == ["unpack ok", denied]
+        said = atomic.push(ZERO, name_of(made), "refs/heads/one", [made, root, blob, FIRST, EMPTY], (ZERO, name_of(FIRST), "refs/heads/two"), words="report-status atomic")
+        assert said == ["unpack ok", denied, "ng refs/heads/two atomic push refused with refs/heads/one"], said
 
 
 def later_conf_is_stale(here):
@@ -104,4 +135,4 @@ def later_conf_is_stale(here):
         here.git("admin", "pull", "--ff-only", "origin", "master", cwd=here.room / "gitolite-admin")
 
 
-TESTS = right_given_later, right_taken_later, later_conf_is_stale
+TESTS = right_given_later, right_taken_later, role_taken_later, rule_on_paths_later, later_conf_is_stale

@@ -1,4 +1,5 @@
 pub mod Door
+pub mod FileDisks
 pub mod MemoryDoors
 pub mod MemoryDoorViews
 pub mod Sockets

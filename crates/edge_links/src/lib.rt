@@ -9,6 +9,7 @@
 
 mod connection;
 mod door;
+mod file_disk;
 mod memory_door;
 mod standard;
 mod tcp_door;
@@ -16,6 +17,7 @@ mod tcp_link;
 
 pub use base_types::NoMemory;
 pub use door::{Door, Next};
+pub use file_disk::FileDisk;
 pub use memory_door::MemoryDoor;
 pub use standard::{StdSink, StdSource};
 pub use tcp_door::TcpDoor;

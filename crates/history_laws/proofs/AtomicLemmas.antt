@@ -14,8 +14,8 @@ use Rattle.hub_history.specs.declared.entry.Entry.{Entry}
 use Rattle.hub_history.specs.History.{IsLegal, replay}
 use Rattle.hub_history.specs.Laws.{HasNoRefusal, TellsCommand}
 use Rattle.hub_history.specs.Opening.{Pinned}
-use Rattle.hub_history.specs.Push.{JudgesAll, beside, beside_first, in_order, is_done, outcomes_in, together}
-use Rattle.hub_history.specs.State.{Repository, repository_at}
+use Rattle.hub_history.specs.Push.{JudgesAllAtPush, beside, beside_first, in_order, is_done, outcomes_in, together}
+use Rattle.hub_history.specs.State.{InForce, Repository, in_force, repository_at}
 use Rattle.hub_history.proofs.HistoryLemmas.{some_same}
 use Rattle.hub_history.proofs.MovedLogs.{due_here}
 use Rattle.hub_history.proofs.MovedRefs.{done_among, done_is, none_done, told_together}
@@ -76,7 +76,7 @@ still_done : (b : Bool) → not b ≡ false → b ≡ true
 still_done true is = refl
 still_done false is = sym is
 
-module _ (ps : Patterns) (now : Repository) (pinned : Pinned) (pack : List Content) (cs : List Command) (atomic : Bool) (js : List (Option Outcome)) (judges : JudgesAll ps pinned pack cs js) where
+module _ (ps : Patterns) (force : InForce) (now : Repository) (pinned : Pinned) (pack : List Content) (cs : List Command) (atomic : Bool) (js : List (Option Outcome)) (judges : JudgesAllAtPush ps force pinned pack cs js) where
   abbrev told : List Outcome
   told = outcomes_in now pack cs atomic js
 
@@ -99,7 +99,7 @@ module _ (ps : Patterns) (now : Repository) (pinned : Pinned) (pack : List Conte
 
       by_done : (b : Bool) → is_done was.0 ≡ b → first ≡ place
       by_done true done = let same : AtomicOther first ≡ AtomicOther place = sym (beside_done first was.0 done) ∙ was.2 in cc
-      by_done false other = absurd (never_other ps now pinned pack cs atomic js judges k place (was.1 ∙ ap (λ (x : Outcome). Some x) (sym (beside_kept first was.0 other) ∙ was.2)))
+      by_done false other = absurd (never_other ps force now pinned pack cs atomic js judges k place (was.1 ∙ ap (λ (x : Outcome). Some x) (sym (beside_kept first was.0 other) ∙ was.2)))
 
   -- that is the first refused
   first_refused : (first : ℕ) → position (λ o. not (is_done o)) run ≡ Some first → IsFirstRefused (map (beside first) run) first
@@ -118,7 +118,7 @@ module _ (ps : Patterns) (now : Repository) (pinned : Pinned) (pack : List Conte
 
       is_refused : ¬ HasNoRefusal at.item
       is_refused (inl done) = let bad : true ≡ false = ap is_done (sym done) ∙ refused in cc
-      is_refused (inr other) = never_other ps now pinned pack cs atomic js judges first other.0 (at.item_is ∙ ap (λ (x : Outcome). Some x) other.1)
+      is_refused (inr other) = never_other ps force now pinned pack cs atomic js judges first other.0 (at.item_is ∙ ap (λ (x : Outcome). Some x) other.1)
 
       before : (earlier : ℕ) (other : Outcome) → earlier < first → slice_get (map (beside first) run) earlier ≡ Some other → other ≡ AtomicOther first
       before earlier other below there =
@@ -126,16 +126,16 @@ module _ (ps : Patterns) (now : Repository) (pinned : Pinned) (pack : List Conte
           sym was.2 ∙ beside_done first was.0 (still_done (is_done was.0) (at.before earlier was.0 below was.1))
 
   other_together : (b : Bool) (k place : ℕ) → slice_get (together b run) k ≡ Some (AtomicOther place) → (b ≡ true) × IsFirstRefused (together b run) place
-  other_together false k place is = absurd (never_other ps now pinned pack cs atomic js judges k place is)
+  other_together false k place is = absurd (never_other ps force now pinned pack cs atomic js judges k place is)
   other_together true k place is = by_first (position (λ o. not (is_done o)) run) refl is
     where
       by_first : (p : Option ℕ) → position (λ o. not (is_done o)) run ≡ p → slice_get (beside_first p run) k ≡ Some (AtomicOther place) → (true ≡ true) × IsFirstRefused (beside_first p run) place
-      by_first None e is = absurd (never_other ps now pinned pack cs atomic js judges k place is)
+      by_first None e is = absurd (never_other ps force now pinned pack cs atomic js judges k place is)
       by_first (Some first) e is = (refl, subst (IsFirstRefused (map (beside first) run)) (names k first place is) (first_refused first e))
 
   pub other_told : (k place : ℕ) → slice_get told k ≡ Some (AtomicOther place) → (atomic ≡ true) × IsFirstRefused told place
   other_told k place is =
-      let same : told ≡ together atomic run = told_together ps now pinned pack cs atomic js judges k (AtomicOther place) is refl in
+      let same : told ≡ together atomic run = told_together ps force now pinned pack cs atomic js judges k (AtomicOther place) is refl in
       let found = other_together atomic k place (ap (λ (os : List Outcome). slice_get os k) (sym same) ∙ is) in
       (found.0, subst (λ (os : List Outcome). IsFirstRefused os place) (sym same) found.1)
 
@@ -163,10 +163,13 @@ module _ (ps : Patterns) (ok : AreTrue ps) (admin : Name) (before : List Entry) 
   abbrev now_at : Repository
   now_at = repository_at (replay admin before) pinned.repo
 
+  abbrev force_at : InForce
+  force_at = in_force (replay admin before) pinned.repo
+
   pub other_names : (place : ℕ) (t : TellsCommand admin before entry pinned command (AtomicOther place)) → (t.atomic ≡ true) × IsFirstRefused t.outcomes place
   other_names place t =
       let due = due_here ps ok admin before entry legal t.place t.pack t.commands t.atomic t.outcomes t.made pinned t.is_push t.opening in
-      let found = other_told ps now_at pinned t.pack t.commands t.atomic due.judged due.judges t.index place (ap (λ (os : List Outcome). slice_get os t.index) (sym due.told) ∙ t.outcome_is) in
+      let found = other_told ps force_at now_at pinned t.pack t.commands t.atomic due.judged due.judges t.index place (ap (λ (os : List Outcome). slice_get os t.index) (sym due.told) ∙ t.outcome_is) in
       (found.0, subst (λ (os : List Outcome). IsFirstRefused os place) (sym due.told) found.1)
 
   -- where one is refused none is done
@@ -185,7 +188,7 @@ module _ (ps : Patterns) (ok : AreTrue ps) (admin : Name) (before : List Entry) 
       let due = due_here ps ok admin before entry legal t.place t.pack t.commands t.atomic t.outcomes t.made pinned t.is_push t.opening in
       let told_is : slice_get (outcomes_in now_at t.pack t.commands t.atomic due.judged) t.index ≡ Some (AtomicOther other.0) =
       ap (λ (os : List Outcome). slice_get os t.index) (sym due.told) ∙ t.outcome_is ∙ ap (λ (x : Outcome). Some x) other.1 in
-      let found = other_told ps now_at pinned t.pack t.commands t.atomic due.judged due.judges t.index other.0 told_is in
+      let found = other_told ps force_at now_at pinned t.pack t.commands t.atomic due.judged due.judges t.index other.0 told_is in
       let here : IsFirstRefused t.outcomes other.0 = subst (λ (os : List Outcome). IsFirstRefused os other.0) (sym due.told) found.1 in
       other.1 ∙ ap (λ (n : ℕ). AtomicOther n) (one_first t.outcomes other.0 place here first)
 

@@ -32,15 +32,15 @@ use Rattle.update_check.specs.declared.refusal.Refusal.{Refusal}
 use Rattle.update_check.specs.declared.refusal.Refusal.TheVariants as refusal
 use Rattle.hub_history.specs.declared.entry.Entry.{Entry}
 use Rattle.hub_history.specs.declared.outcome.Outcome.{Outcome}
-use Rattle.hub_history.specs.declared.outcome.Outcome.TheVariants.{BadName, Twice, NoChange, NotAdvertised, Denied, ManyPaths}
+use Rattle.hub_history.specs.declared.outcome.Outcome.TheVariants.{BadName, Twice, NoChange, NotAdvertised, Denied, DeniedNow, ManyPaths, ManyPathsNow}
 use Rattle.hub_history.specs.Conf.{AreInForce}
 use Rattle.hub_history.specs.History.{IsLegal, replay}
 use Rattle.hub_history.specs.Laws.{TellsCommand}
-use Rattle.hub_history.specs.Opening.{Pinned}
-use Rattle.hub_history.specs.Push.{ByConf, ByConfIf, ByRules, Judges, by_command, by_conf, by_new_value, by_walk, is_named_twice, is_of_conf, kind_at, outcome_of}
-use Rattle.hub_history.specs.State.{repository_at}
+use Rattle.hub_history.specs.Opening.{Pinned, pinned_in_force}
+use Rattle.hub_history.specs.Push.{ByConf, ByConfIf, ByRules, ByRulesNow, Judges, JudgesAtPush, by_command, by_conf, by_new_value, by_walk, is_named_twice, is_of_conf, kind_at, outcome_now, outcome_of}
+use Rattle.hub_history.specs.State.{InForce, in_force, repository_at}
 use Rattle.hub_history.proofs.MovedLogs.{due_here}
-use Rattle.history_laws.specs.Laws.{DeniedIsNotLet, DeniesMerge, DeniesPath, DeniesRef, IsDenial, IsDenied, IsNotLet, ManyPathsIsNotLet, asked_by}
+use Rattle.history_laws.specs.Laws.{DeniedIsNotLet, DeniedNowIsNotLet, DeniesMerge, DeniesPath, DeniesRef, HasManyPathsBy, IsDenied, IsDeniedBy, ManyPathsIsNotLet, ManyPathsNowIsNotLet, asked_by}
 use Rattle.history_laws.proofs.OutcomeLemmas.{is_late, late_judge}
 
 -- ---- what the opening says is of the rules
@@ -50,6 +50,12 @@ abbrev is_by_rules : Outcome → Bool
 is_by_rules (Denied verdict letter name) = true
 is_by_rules ManyPaths = true
 is_by_rules other = false
+
+-- what the rules just before the push say against a command
+abbrev pub is_now : Outcome → Bool
+is_now (DeniedNow verdict letter name) = true
+is_now ManyPathsNow = true
+is_now other = false
 
 -- a row says nothing that passes the test
 abbrev IsOther : (Outcome → Bool) → Option Outcome → Type 0
@@ -83,6 +89,49 @@ conf_if_other : (b : Bool) (ps : Patterns) (objects : List Content) (c : Command
 conf_if_other false ps objects c said is = subst (IsOther is_by_rules) (sym is) tt
 conf_if_other true ps objects c said by = subst (IsOther is_by_rules) (sym by.2) (conf_other by.0)
 
+-- what the opening says is not of the rules just before the push, and the other way round
+command_then : (p : Pinned) (twice : Bool) (c : Command) → IsOther is_now (by_command p twice c)
+command_then p twice c = by_case (not (is_ref_name c.name)) twice (same_id c.old c.new) (not (same_id (value p.repository.refs c.name) c.old))
+  where
+    by_case : (a b d e : Bool) → IsOther is_now (cond a (Some BadName) (cond b (Some Twice) (cond d (Some NoChange) (cond e (Some (NotAdvertised (value p.repository.refs c.name))) None))))
+    by_case true b d e = refl
+    by_case false true d e = refl
+    by_case false false true e = refl
+    by_case false false false true = refl
+    by_case false false false false = tt
+
+value_then : (objects : List Content) (c : Command) → IsOther is_now (by_new_value objects c)
+value_then objects c = by_zero (same_id c.new zero_id) (missing objects c.new (kind_at c.name)) (wrong objects c.new (kind_at c.name))
+  where
+    by_zero : (b : Bool) (m w : Option ObjectId) → IsOther is_now (cond b None (by_walk m w))
+    by_zero true m w = tt
+    by_zero false (Some id) w = refl
+    by_zero false None (Some id) = refl
+    by_zero false None None = tt
+
+rules_then : (r : Option Refusal) → IsOther is_now (outcome_of r)
+rules_then None = tt
+rules_then (Some (refusal.Denied v letter name)) = refl
+rules_then (Some refusal.ManyPaths) = refl
+
+conf_then : (comes : Result Flat PolicyFault) → IsOther is_now (by_conf comes)
+conf_then (Ok rules) = tt
+conf_then (Err fault) = refl
+
+conf_if_then : (b : Bool) (ps : Patterns) (objects : List Content) (c : Command) (said : Option Outcome) → ByConfIf b ps objects c said → IsOther is_now said
+conf_if_then false ps objects c said is = subst (IsOther is_now) (sym is) tt
+conf_if_then true ps objects c said by = subst (IsOther is_now) (sym by.2) (conf_then by.0)
+
+rules_now : (r : Option Refusal) → IsOther (λ o. not (is_now o)) (outcome_now r)
+rules_now None = tt
+rules_now (Some (refusal.Denied v letter name)) = refl
+rules_now (Some refusal.ManyPaths) = refl
+
+-- a table of such rows has nothing else
+first_other : {test : Outcome → Bool} {Row Behind : Option Outcome → Type 0} → ((o : Option Outcome) → Row o → IsOther test o) → ((o : Option Outcome) → Behind o → IsOther test o) → (found : Option Outcome) → First Row Behind found → IsOther test found
+first_other rows behinds found (Counts outcome row) = rows (Some outcome) row
+first_other rows behinds found (Passes f row behind) = behinds f behind
+
 -- what a table has is of its first row or behind it
 first_some : {O : Type 0} {Row Behind : Option O → Type 0} (outcome : O) → First Row Behind (Some outcome) → Row (Some outcome) ⊎ Behind (Some outcome)
 first_some outcome (Counts o row) = inl row
@@ -98,6 +147,32 @@ behind_other test other o by table = elim (first_some o table) [
 module _ (ps : Patterns) (pinned : Pinned) (pack : List Content) (cs : List Command) (c : Command) (o : Outcome) where
   abbrev objects_with : List Content
   objects_with = pinned.repository.objects ++ pack
+
+  opening_then : (found : Option Outcome) → Judges ps pinned pack cs c found → IsOther is_now found
+  opening_then =
+      first_other (λ said is. subst (IsOther is_now) (sym is) (command_then pinned (is_named_twice cs c.name) c))
+      (first_other (λ said is. subst (IsOther is_now) (sym is) (value_then objects_with c))
+      (first_other (λ said by. subst (IsOther is_now) (sym by.4) (rules_then by.1))
+      (first_other (conf_if_then (is_of_conf pinned.repo c.name) ps objects_with c)
+      (λ said is. subst (IsOther is_now) (sym is) tt))))
+
+  -- what isn't of the rules just before the push is what the opening says
+  pub opening_judged : (force : InForce) → is_now o ≡ false → JudgesAtPush ps force pinned pack cs c (Some o) → Judges ps pinned pack cs c (Some o)
+  opening_judged force other judges = elim (first_some o judges) [
+    | inl row ↦ row
+    | inr behind ↦ elim (first_some o behind) [
+      | inl by ↦ absurd (let fails : not (is_now o) ≡ false = subst (IsOther (λ x. not (is_now x))) (sym by.4) (rules_now by.1) in let bad : true ≡ false = ap not (sym other) ∙ fails in cc)
+      | inr end ↦ absurd (let none : Some o ≡ None = end in cc)
+    ]
+  ]
+
+  -- what is of them is said where the opening says nothing
+  pub now_judged : (force : InForce) → is_now o ≡ true → JudgesAtPush ps force pinned pack cs c (Some o) → Judges ps pinned pack cs c None × ByRulesNow ps force pinned objects_with c (Some o)
+  now_judged force now (Counts x row) = absurd (let fails : is_now o ≡ false = opening_then (Some o) row in let bad : true ≡ false = sym now ∙ fails in cc)
+  now_judged force now (Passes f row behind) = elim (first_some o behind) [
+    | inl by ↦ (row, by)
+    | inr end ↦ absurd (let none : Some o ≡ None = end in cc)
+  ]
 
   -- what the rules or the conf say against a command is behind what the command and its new value say
   pub late_judged : is_late o ≡ true → Judges ps pinned pack cs c (Some o) → First (ByRules ps pinned objects_with c) (First (ByConf ps pinned objects_with c) End) (Some o)
@@ -123,6 +198,16 @@ many_refusal : (r : Option Refusal) → Some ManyPaths ≡ outcome_of r → r �
 many_refusal None is = absurd cc
 many_refusal (Some (refusal.Denied w l n)) is = absurd cc
 many_refusal (Some refusal.ManyPaths) is = refl
+
+denied_refusal_now : (v : Verdict) (letter : Letter) (name : List ℕ) (r : Option Refusal) → Some (DeniedNow v letter name) ≡ outcome_now r → r ≡ Some (refusal.Denied v letter name)
+denied_refusal_now v letter name None is = absurd cc
+denied_refusal_now v letter name (Some (refusal.Denied w l n)) is = cc
+denied_refusal_now v letter name (Some refusal.ManyPaths) is = absurd cc
+
+many_refusal_now : (r : Option Refusal) → Some ManyPathsNow ≡ outcome_now r → r ≡ Some refusal.ManyPaths
+many_refusal_now None is = absurd cc
+many_refusal_now (Some (refusal.Denied w l n)) is = absurd cc
+many_refusal_now (Some refusal.ManyPaths) is = refl
 
 -- ---- rows of the rules
 
@@ -265,55 +350,77 @@ Denials = (ps : Patterns) (rules : List Rule) (a : Asked) (objects : List Conten
 not_let_by : Exactly → (ps : Patterns) (rules : List Rule) (a : Asked) (objects : List Content) (change : Command) (r : Refusal) → (says : RulesSay ps rules a objects change (Some r)) → ¬ LetsBeMade ps rules a objects change says.0
 not_let_by exactly ps rules a objects change r says lets = let clash : Some r ≡ None = (exactly ps rules a objects change).all says.0 says.1 lets (Some r) says in cc
 
+-- what the rules in force say against a change
+abbrev AreAgainst : Patterns → InForce → Pinned → List Content → Command → Refusal → Type 0
+AreAgainst ps force pinned objects change r = (rules : Flat) × AreInForce ps force.conf rules × RulesSay ps rules.rules (asked_by ps rules force pinned) objects change (Some r)
+
+denied_against : Exactly → Denials → (ps : Patterns) (force : InForce) (pinned : Pinned) (objects : List Content) (change : Command) (v : Verdict) (letter : Letter) (name : List ℕ)
+    → AreAgainst ps force pinned objects change (refusal.Denied v letter name) → IsDeniedBy ps force pinned objects change v letter name
+denied_against exactly denials ps force pinned objects change v letter name by =
+    let says = by.2 in
+    let of = denials ps by.0.rules (asked_by ps by.0 force pinned) objects change in
+    record {
+      rules = by.0;
+      are_in_force = by.1;
+      facts = says.0;
+      are_facts = says.1;
+      not_let = not_let_by exactly ps by.0.rules (asked_by ps by.0 force pinned) objects change (refusal.Denied v letter name) says;
+      why = record {
+        letter_is = of.letter_is v letter name says.0 says.1 says;
+        verdict_is = of.verdict_is v letter name says;
+        denies = denies_on ps by.0.rules (asked_by ps by.0 force pinned) objects change says.0 v letter name says.2;
+      };
+    }
+
+many_against : Exactly → (ps : Patterns) (force : InForce) (pinned : Pinned) (objects : List Content) (change : Command) → AreAgainst ps force pinned objects change refusal.ManyPaths → HasManyPathsBy ps force pinned objects change
+many_against exactly ps force pinned objects change by =
+    let says = by.2 in
+    record {
+      rules = by.0;
+      are_in_force = by.1;
+      facts = says.0;
+      are_facts = says.1;
+      not_let = not_let_by exactly ps by.0.rules (asked_by ps by.0 force pinned) objects change refusal.ManyPaths says;
+      why = are_many ps by.0.rules (asked_by ps by.0 force pinned) objects change says.0 says.2;
+    }
+
 module _ (ps : Patterns) (ok : AreTrue ps) (admin : Name) (before : List Entry) (entry : Entry) (legal : IsLegal admin (before ++ entry ∷ [])) (pinned : Pinned) (command : Command) where
-  said_by_rules : (o : Outcome) → is_late o ≡ true → is_by_rules o ≡ true → (t : TellsCommand admin before entry pinned command o) → ByRules ps pinned (pinned.repository.objects ++ t.pack) command (Some o)
-  said_by_rules o late by t =
+  abbrev force : InForce
+  force = in_force (replay admin before) pinned.repo
+
+  judged_here : (o : Outcome) → is_late o ≡ true → (t : TellsCommand admin before entry pinned command o) → JudgesAtPush ps force pinned t.pack t.commands command (Some o)
+  judged_here o late t =
       let due = due_here ps ok admin before entry legal t.place t.pack t.commands t.atomic t.outcomes t.made pinned t.is_push t.opening in
-      judged_by_rules ps pinned t.pack t.commands command o late by
-      (late_judge ps (repository_at (replay admin before) pinned.repo) pinned t.pack t.commands t.atomic due.judged due.judges t.index command o t.command_is (ap (λ (os : List Outcome). slice_get os t.index) (sym due.told) ∙ t.outcome_is) late)
+      late_judge ps force (repository_at (replay admin before) pinned.repo) pinned t.pack t.commands t.atomic due.judged due.judges t.index command o t.command_is (ap (λ (os : List Outcome). slice_get os t.index) (sym due.told) ∙ t.outcome_is) late
 
-  -- what the rules say against a command
-  says_of : (o : Outcome) (r : Refusal) (objects : List Content) → ((x : Option Refusal) → Some o ≡ outcome_of x → x ≡ Some r) → ByRules ps pinned objects command (Some o)
-      → (rules : Flat) × AreInForce ps pinned.conf rules × RulesSay ps rules.rules (asked_by ps rules pinned) objects command (Some r)
-  says_of o r objects only by = (by.0, by.2, subst (λ (x : Option Refusal). RulesSay ps by.0.rules (asked_by ps by.0 pinned) objects command x) (only by.1 by.4) by.3)
+  -- what the rules at the opening say against a command
+  says_of : (o : Outcome) (r : Refusal) → is_late o ≡ true → is_by_rules o ≡ true → is_now o ≡ false → ((x : Option Refusal) → Some o ≡ outcome_of x → x ≡ Some r) → (t : TellsCommand admin before entry pinned command o)
+      → AreAgainst ps (pinned_in_force pinned) pinned (pinned.repository.objects ++ t.pack) command r
+  says_of o r late by_rules other only t =
+      let by = judged_by_rules ps pinned t.pack t.commands command o late by_rules (opening_judged ps pinned t.pack t.commands command o force other (judged_here o late t)) in
+      (by.0, by.2, subst (λ (x : Option Refusal). RulesSay ps by.0.rules (asked_by ps by.0 (pinned_in_force pinned) pinned) (pinned.repository.objects ++ t.pack) command x) (only by.1 by.4) by.3)
 
-  pub denied_not_let : Exactly → Denials → (v : Verdict) (letter : Letter) (name : List ℕ) (t : TellsCommand admin before entry pinned command (Denied v letter name))
-      → IsNotLet ps pinned (pinned.repository.objects ++ t.pack) command (λ rules facts. IsDenial ps rules.rules (asked_by ps rules pinned) (pinned.repository.objects ++ t.pack) command facts v letter name)
-  denied_not_let exactly denials v letter name t =
-      let objects : List Content = pinned.repository.objects ++ t.pack in
-      let by = says_of (Denied v letter name) (refusal.Denied v letter name) objects (denied_refusal v letter name) (said_by_rules (Denied v letter name) refl refl t) in
-      let says = by.2 in
-      let of = denials ps by.0.rules (asked_by ps by.0 pinned) objects command in
-      record {
-        rules = by.0;
-        in_force = by.1;
-        facts = says.0;
-        are_facts = says.1;
-        not_let = not_let_by exactly ps by.0.rules (asked_by ps by.0 pinned) objects command (refusal.Denied v letter name) says;
-        why = record {
-          letter_is = of.letter_is v letter name says.0 says.1 says;
-          verdict_is = of.verdict_is v letter name says;
-          denies = denies_on ps by.0.rules (asked_by ps by.0 pinned) objects command says.0 v letter name says.2;
-        };
-      }
-
-  pub many_not_let : Exactly → (t : TellsCommand admin before entry pinned command ManyPaths)
-      → IsNotLet ps pinned (pinned.repository.objects ++ t.pack) command (λ rules facts. AreMany ps rules.rules (asked_by ps rules pinned) (pinned.repository.objects ++ t.pack) command facts)
-  many_not_let exactly t =
-      let objects : List Content = pinned.repository.objects ++ t.pack in
-      let by = says_of ManyPaths refusal.ManyPaths objects many_refusal (said_by_rules ManyPaths refl refl t) in
-      let says = by.2 in
-      record {
-        rules = by.0;
-        in_force = by.1;
-        facts = says.0;
-        are_facts = says.1;
-        not_let = not_let_by exactly ps by.0.rules (asked_by ps by.0 pinned) objects command refusal.ManyPaths says;
-        why = are_many ps by.0.rules (asked_by ps by.0 pinned) objects command says.0 says.2;
-      }
+  -- what those just before the push say against it
+  says_now : (o : Outcome) (r : Refusal) → is_late o ≡ true → is_now o ≡ true → ((x : Option Refusal) → Some o ≡ outcome_now x → x ≡ Some r) → (t : TellsCommand admin before entry pinned command o)
+      → AreAgainst ps force pinned (pinned.repository.objects ++ t.pack) command r
+  says_now o r late now only t =
+      let by = (now_judged ps pinned t.pack t.commands command o force now (judged_here o late t)).1 in
+      (by.0, by.2, subst (λ (x : Option Refusal). RulesSay ps by.0.rules (asked_by ps by.0 force pinned) (pinned.repository.objects ++ t.pack) command x) (only by.1 by.4) by.3)
 
 pub denied_is_not_let : Exactly → Denials → DeniedIsNotLet
-denied_is_not_let exactly denials = λ admin before entry pinned command v letter name legal tells ps ok. denied_not_let ps ok admin before entry legal pinned command exactly denials v letter name tells
+denied_is_not_let exactly denials = λ admin before entry pinned command v letter name legal t ps ok.
+    denied_against exactly denials ps (pinned_in_force pinned) pinned (pinned.repository.objects ++ t.pack) command v letter name
+    (says_of ps ok admin before entry legal pinned command (Denied v letter name) (refusal.Denied v letter name) refl refl refl (denied_refusal v letter name) t)
 
 pub many_is_not_let : Exactly → ManyPathsIsNotLet
-many_is_not_let exactly = λ admin before entry pinned command legal tells ps ok. many_not_let ps ok admin before entry legal pinned command exactly tells
+many_is_not_let exactly = λ admin before entry pinned command legal t ps ok.
+    many_against exactly ps (pinned_in_force pinned) pinned (pinned.repository.objects ++ t.pack) command (says_of ps ok admin before entry legal pinned command ManyPaths refusal.ManyPaths refl refl refl many_refusal t)
+
+pub denied_now_is_not_let : Exactly → Denials → DeniedNowIsNotLet
+denied_now_is_not_let exactly denials = λ admin before entry pinned command v letter name legal t ps ok.
+    denied_against exactly denials ps (in_force (replay admin before) pinned.repo) pinned (pinned.repository.objects ++ t.pack) command v letter name
+    (says_now ps ok admin before entry legal pinned command (DeniedNow v letter name) (refusal.Denied v letter name) refl refl (denied_refusal_now v letter name) t)
+
+pub many_now_is_not_let : Exactly → ManyPathsNowIsNotLet
+many_now_is_not_let exactly = λ admin before entry pinned command legal t ps ok.
+    many_against exactly ps (in_force (replay admin before) pinned.repo) pinned (pinned.repository.objects ++ t.pack) command (says_now ps ok admin before entry legal pinned command ManyPathsNow refusal.ManyPaths refl refl many_refusal_now t)

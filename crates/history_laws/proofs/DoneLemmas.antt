@@ -14,8 +14,8 @@ use Rattle.hub_history.specs.declared.entry.Event.{Event}
 use Rattle.hub_history.specs.History.{IsDue, IsDueAfter, IsLegal, history, opening_at, push_change, replay}
 use Rattle.hub_history.specs.Laws.{TellsCommand}
 use Rattle.hub_history.specs.Opening.{Pinned}
-use Rattle.hub_history.specs.Push.{Judges, conf_put, is_done, is_of_conf}
-use Rattle.hub_history.specs.State.{CommitAmong, Conf, State, changed, conf_after, conf_branch, conf_repository, same_name}
+use Rattle.hub_history.specs.Push.{JudgesAtPush, conf_put, is_done, is_of_conf}
+use Rattle.hub_history.specs.State.{CommitAmong, Conf, InForce, State, changed, conf_after, conf_branch, conf_repository, in_force, same_name}
 use Rattle.hub_history.proofs.HistoryLemmas.{some_same}
 use Rattle.hub_history.proofs.JudgeLemmas.{fits_untold, once_untold, untold}
 use Rattle.hub_history.proofs.MovedLogs.{due_last, step_here, untold_here}
@@ -63,8 +63,11 @@ push_conf state pinned pack cs os made = refl
 
 module _ (ps : Patterns) (ok : AreTrue ps) where
   module _ (admin : Name) (before : List Entry) (entry : Entry) (legal : IsLegal admin (before ++ entry ∷ [])) (pinned : Pinned) (command : Command) (t : TellsCommand admin before entry pinned command Done) where
-    -- the opening says nothing of a command that is done
-    says_nothing : Judges ps pinned t.pack t.commands command None
+    abbrev force : InForce
+    force = in_force (replay admin before) pinned.repo
+
+    -- neither the opening says anything of a command that is done nor the rules just before the push
+    says_nothing : JudgesAtPush ps force pinned t.pack t.commands command None
     says_nothing = untold_here ps ok admin before entry legal t.place t.pack t.commands t.atomic t.outcomes t.made pinned t.is_push t.opening t.index command t.command_is t.outcome_is
 
     conf_is : pinned.repo ≡ conf_repository → command.name ≡ conf_branch → (replay admin (before ++ entry ∷ [])).conf.pushed ≡ Some (conf_at pinned t.pack command)
@@ -72,10 +75,10 @@ module _ (ps : Patterns) (ok : AreTrue ps) where
         ap (λ (s : State). s.conf.pushed) (step_here ps ok admin before entry legal t.place t.pack t.commands t.atomic t.outcomes t.made pinned t.is_push t.opening)
         ∙ ap (λ (c : Conf). c.pushed) (push_conf (replay admin before) pinned t.pack t.commands t.outcomes t.made)
         ∙ ap (λ (put : Option CommitAmong). (conf_after (replay admin before).conf put).pushed)
-        (put_done pinned t.pack t.commands t.outcomes t.index command repo_is name_is (once_untold ps pinned t.pack t.commands command says_nothing) t.command_is t.outcome_is)
+        (put_done pinned t.pack t.commands t.outcomes t.index command repo_is name_is (once_untold ps force pinned t.pack t.commands command says_nothing) t.command_is t.outcome_is)
 
     advertised : value pinned.repository.refs command.name ≡ command.old
-    advertised = id_is (value pinned.repository.refs command.name) command.old (fits_untold ps pinned t.pack t.commands command (untold ps pinned t.pack t.commands command says_nothing).command).current
+    advertised = id_is (value pinned.repository.refs command.name) command.old (fits_untold ps force pinned t.pack t.commands command (untold ps force pinned t.pack t.commands command says_nothing).command).current
 
   pub done_conf_is_in_force : DoneConfIsInForce
   done_conf_is_in_force = λ admin before entry pinned command legal t repo_is name_is. conf_is admin before entry legal pinned command t repo_is name_is

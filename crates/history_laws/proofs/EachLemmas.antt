@@ -33,7 +33,7 @@ use Rattle.hub_history.specs.Laws.{OfEachRepository}
 use Rattle.hub_history.specs.Opening.{Pinned, made_by}
 use Rattle.hub_history.specs.Push.{conf_put, in_order, is_done, outcomes_in, refs_after, refs_left, together, unless_collided, unless_full}
 use Rattle.hub_history.specs.Roles.{given_by}
-use Rattle.hub_history.specs.State.{Repository, State, changed, empty_repository, placed_in, put_in_place, repository_at, start}
+use Rattle.hub_history.specs.State.{InForce, Repository, State, changed, empty_repository, in_force, placed_in, put_in_place, repository_at, start}
 use Rattle.hub_history.proofs.GrowthLemmas.{AreLacking, makes_lacking}
 use Rattle.hub_history.proofs.HistoryLemmas.{beginning_legal, history-keeps}
 use Rattle.hub_history.proofs.JudgeLemmas.{fits_untold, untold}
@@ -151,11 +151,12 @@ named_left refs (c ∷ cs) (o ∷ os) good named =
 
 keeps_named : IsKept (λ (objects : List Content) (refs : Refs). HasRefNames refs)
 keeps_named ps state pinned pack cs atomic os made due named done =
+    let force : InForce = in_force state pinned.repo in
     named_left (repository_at state pinned.repo).refs cs os
     (λ k c is done.
     let told : slice_get (outcomes_in (repository_at state pinned.repo) pack cs atomic due.judged) k ≡ Some Done = ap (λ (l : List Outcome). slice_get l k) (sym due.told) ∙ done in
-    let by = done_by_refs ps (repository_at state pinned.repo) pinned pack cs atomic due.judged due.judges k c is told in
-    (fits_untold ps pinned pack cs c (untold ps pinned pack cs c by.untold).command).good) named
+    let by = done_by_refs ps force (repository_at state pinned.repo) pinned pack cs atomic due.judged due.judges k c is told in
+    (fits_untold ps force pinned pack cs c (untold ps force pinned pack cs c by.untold).command).good) named
 
 -- ---- how many objects
 

@@ -9,18 +9,18 @@ use Rattle.ref_store.specs.Refs.{Name, Refs, first_at_odds, value, zero_id}
 use Rattle.ref_store.specs.declared.command.Command.{Command}
 use Rattle.rule_compile.specs.Patterns.{Patterns}
 use Rattle.hub_history.specs.declared.outcome.Outcome.{Outcome}
-use Rattle.hub_history.specs.declared.outcome.Outcome.TheVariants.{Done, BadName, Twice, NoChange, NotAdvertised, Missing, WrongKind, Denied, ManyPaths, ConfRefused, Stale, DirFile, AtomicOther, Collided, Full}
+use Rattle.hub_history.specs.declared.outcome.Outcome.TheVariants.{Done, BadName, Twice, NoChange, NotAdvertised, Missing, WrongKind, Denied, ManyPaths, ConfRefused, DeniedNow, ManyPathsNow, Stale, DirFile, AtomicOther, Collided, Full}
 use Rattle.hub_history.specs.Collision.{collision}
 use Rattle.hub_history.specs.Opening.{Pinned}
-use Rattle.hub_history.specs.Push.{Judges, JudgesAll, by_directory, by_refs, in_order, outcomes_in, refs_after, together, unless_collided, unless_full}
-use Rattle.hub_history.specs.State.{Repository}
+use Rattle.hub_history.specs.Push.{JudgesAllAtPush, JudgesAtPush, by_directory, by_refs, in_order, outcomes_in, refs_after, together, unless_collided, unless_full}
+use Rattle.hub_history.specs.State.{InForce, Repository}
 use Rattle.hub_history.proofs.HistoryLemmas.{some_same}
-use Rattle.hub_history.proofs.JudgeLemmas.{by_opening, is_by_refs, judged_at}
+use Rattle.hub_history.proofs.JudgeLemmas.{before_refs, is_by_refs, judged_at}
 use Rattle.hub_history.proofs.MovedRefs.{was_alone}
 
 -- ---- by the refs
 
--- without a word of the opening a command is told by the refs
+-- where nothing is said of a command before, it is told by the refs
 pub refs_tell : (refs : Refs) (c : Command) → is_by_refs (by_refs refs c None) ≡ true
 refs_tell refs c = by_case (same_id (value refs c.name) c.old) (same_id c.old zero_id) (first_at_odds refs c.name)
   where
@@ -40,7 +40,7 @@ no_other refs c first is = by_case (same_id (value refs c.name) c.old) (same_id 
     by_case true true None is = cc
     by_case true true (Some q) is = cc
 
--- what a command is told at a place, by the refs there and by what the opening says of it
+-- what a command is told at a place, by the refs there and by what is said of it before
 pub record IsRun (cs : List Command) (js : List (Option Outcome)) (k : ℕ) (o : Outcome) : Type 0 where
   pub refs : Refs
   pub command : Command
@@ -59,11 +59,13 @@ run_at refs (c ∷ cs) (j ∷ js) (suc k) o is =
 
 -- ---- by the rules and the conf
 
--- what the rules or the conf at the new value say against a command
+-- what the rules, at the opening and just before the push, or the conf at the new value say against a command
 abbrev pub is_late : Outcome → Bool
 is_late (Denied verdict letter name) = true
 is_late ManyPaths = true
 is_late (ConfRefused fault) = true
+is_late (DeniedNow verdict letter name) = true
+is_late ManyPathsNow = true
 is_late other = false
 
 late_first : (o : Outcome) → is_late o ≡ true → is_by_refs o ≡ false
@@ -77,6 +79,8 @@ late_first (WrongKind id) late = refl
 late_first (Denied verdict letter name) late = refl
 late_first ManyPaths late = refl
 late_first (ConfRefused fault) late = refl
+late_first (DeniedNow verdict letter name) late = refl
+late_first ManyPathsNow late = refl
 late_first (Stale id) late = absurd cc
 late_first (DirFile r) late = absurd cc
 late_first (AtomicOther place) late = absurd cc
@@ -85,7 +89,7 @@ late_first (Full count) late = refl
 
 -- ---- a push
 
-module _ (ps : Patterns) (now : Repository) (pinned : Pinned) (pack : List Content) (cs : List Command) (atomic : Bool) (js : List (Option Outcome)) (judges : JudgesAll ps pinned pack cs js) where
+module _ (ps : Patterns) (force : InForce) (now : Repository) (pinned : Pinned) (pack : List Content) (cs : List Command) (atomic : Bool) (js : List (Option Outcome)) (judges : JudgesAllAtPush ps force pinned pack cs js) where
   abbrev told : List Outcome
   told = outcomes_in now pack cs atomic js
 
@@ -102,19 +106,19 @@ module _ (ps : Patterns) (now : Repository) (pinned : Pinned) (pack : List Conte
       by_said : (j : Option Outcome) → slice_get js k ≡ Some j → AtomicOther first ≡ by_refs at.refs at.command j → ⊥
       by_said None e same = no_other at.refs at.command first same
       by_said (Some x) e same =
-          let fails : is_by_refs x ≡ false = by_opening ps pinned pack cs at.command (Some x) (judged_at (Judges ps pinned pack cs) cs js judges k at.command (Some x) at.command_is e) in
+          let fails : is_by_refs x ≡ false = before_refs ps force pinned pack cs at.command (Some x) (judged_at (JudgesAtPush ps force pinned pack cs) cs js judges k at.command (Some x) at.command_is e) in
           let bad : true ≡ false = ap is_by_refs same ∙ fails in cc
 
-  -- what isn't told by the refs is what the opening says
-  said_run : (k : ℕ) (c : Command) (o : Outcome) → slice_get cs k ≡ Some c → slice_get run k ≡ Some o → is_by_refs o ≡ false → Judges ps pinned pack cs c (Some o)
+  -- what isn't told by the refs is what is said before
+  said_run : (k : ℕ) (c : Command) (o : Outcome) → slice_get cs k ≡ Some c → slice_get run k ≡ Some o → is_by_refs o ≡ false → JudgesAtPush ps force pinned pack cs c (Some o)
   said_run k c o is ran own = by_said at.said at.said_is at.told_is
     where
       at : IsRun cs js k o
       at = run_at now.refs cs js k o ran
 
-      by_said : (j : Option Outcome) → slice_get js k ≡ Some j → o ≡ by_refs at.refs at.command j → Judges ps pinned pack cs c (Some o)
+      by_said : (j : Option Outcome) → slice_get js k ≡ Some j → o ≡ by_refs at.refs at.command j → JudgesAtPush ps force pinned pack cs c (Some o)
       by_said None e same = absurd (let bad : true ≡ false = sym (refs_tell at.refs at.command) ∙ ap is_by_refs (sym same) ∙ own in cc)
-      by_said (Some x) e same = subst (λ (y : Outcome). Judges ps pinned pack cs c (Some y)) (sym same) (judged_at (Judges ps pinned pack cs) cs js judges k c (Some x) is e)
+      by_said (Some x) e same = subst (λ (y : Outcome). JudgesAtPush ps force pinned pack cs c (Some y)) (sym same) (judged_at (JudgesAtPush ps force pinned pack cs) cs js judges k c (Some x) is e)
 
   -- what they say was told in order
   late_run : (k : ℕ) (o : Outcome) → is_late o ≡ true → slice_get told k ≡ Some o → slice_get run k ≡ Some o
@@ -139,6 +143,6 @@ module _ (ps : Patterns) (now : Repository) (pinned : Pinned) (pack : List Conte
       by_collision (Some id) is = absurd (alike (Collided id) refl cs k is)
       by_collision None is = by_full (nat_lt 4294967295 (length (with_pack now.objects pack))) is
 
-  -- and is what the opening says
-  pub late_judge : (k : ℕ) (c : Command) (o : Outcome) → slice_get cs k ≡ Some c → slice_get told k ≡ Some o → is_late o ≡ true → Judges ps pinned pack cs c (Some o)
+  -- and is what is said before
+  pub late_judge : (k : ℕ) (c : Command) (o : Outcome) → slice_get cs k ≡ Some c → slice_get told k ≡ Some o → is_late o ≡ true → JudgesAtPush ps force pinned pack cs c (Some o)
   late_judge k c o is told_is late = said_run k c o is (late_run k o late told_is) (late_first o late)

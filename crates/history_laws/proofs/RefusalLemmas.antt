@@ -18,13 +18,13 @@ use Rattle.update_check.specs.Table.{Counts, First, Passes}
 use Rattle.update_check.specs.declared.refusal.Refusal.{Refusal}
 use Rattle.update_check.specs.declared.refusal.Refusal.TheVariants as refusal
 use Rattle.hub_history.specs.declared.outcome.Outcome.{Outcome}
-use Rattle.hub_history.specs.declared.outcome.Outcome.TheVariants.{Done, BadName, Twice, NoChange, NotAdvertised, Missing, WrongKind, Denied, ManyPaths, ConfRefused, Stale, DirFile, AtomicOther, Collided, Full}
+use Rattle.hub_history.specs.declared.outcome.Outcome.TheVariants.{Done, BadName, Twice, NoChange, NotAdvertised, Missing, WrongKind, Denied, ManyPaths, ConfRefused, DeniedNow, ManyPathsNow, Stale, DirFile, AtomicOther, Collided, Full}
 use Rattle.hub_history.specs.Collision.{collision}
 use Rattle.hub_history.specs.Conf.{ComesTo}
 use Rattle.hub_history.specs.History.{replay}
 use Rattle.hub_history.specs.Opening.{Pinned}
-use Rattle.hub_history.specs.Push.{ByConfIf, Judges, JudgesAll, by_command, by_conf, by_new_value, by_refs, by_walk, in_order, is_named_twice, is_of_conf, kind_at, outcome_of, outcomes_in, together, unless_collided, unless_full}
-use Rattle.hub_history.specs.State.{Repository, conf_branch, conf_repository, repository_at, same_name}
+use Rattle.hub_history.specs.Push.{ByConfIf, Judges, JudgesAllAtPush, JudgesAtPush, by_command, by_conf, by_new_value, by_refs, by_walk, in_order, is_named_twice, is_of_conf, kind_at, outcome_now, outcome_of, outcomes_in, together, unless_collided, unless_full}
+use Rattle.hub_history.specs.State.{InForce, Repository, conf_branch, conf_repository, in_force, repository_at, same_name}
 use Rattle.hub_history.proofs.HistoryLemmas.{some_same}
 use Rattle.hub_history.proofs.JudgeLemmas.{is_by_refs, judged_at}
 use Rattle.hub_history.proofs.MovedLogs.{due_here}
@@ -40,7 +40,7 @@ both_true : (a b : Bool) → (a && b) ≡ true → (a ≡ true) × (b ≡ true)
 both_true true b is = (refl, is)
 both_true false b is = cc
 
-module _ (ps : Patterns) (now : Repository) (pinned : Pinned) (pack : List Content) (cs : List Command) (c : Command) where
+module _ (ps : Patterns) (force : InForce) (now : Repository) (pinned : Pinned) (pack : List Content) (cs : List Command) (c : Command) where
   abbrev So : Outcome → Type 0
   So = IsSo ps now pinned pack cs c
 
@@ -63,6 +63,8 @@ module _ (ps : Patterns) (now : Repository) (pinned : Pinned) (pack : List Conte
   by_refs_so (Denied verdict letter name) by = absurd cc
   by_refs_so ManyPaths by = absurd cc
   by_refs_so (ConfRefused fault) by = absurd cc
+  by_refs_so (DeniedNow verdict letter name) by = absurd cc
+  by_refs_so ManyPathsNow by = absurd cc
   by_refs_so (Stale id) by = tt
   by_refs_so (DirFile r) by = tt
   by_refs_so (AtomicOther place) by = tt
@@ -97,6 +99,11 @@ module _ (ps : Patterns) (now : Repository) (pinned : Pinned) (pack : List Conte
   rules_so (Some (refusal.Denied verdict letter name)) = tt
   rules_so (Some refusal.ManyPaths) = tt
 
+  rules_now_so : (r : Option Refusal) → SoOf (outcome_now r)
+  rules_now_so None = tt
+  rules_now_so (Some (refusal.Denied verdict letter name)) = tt
+  rules_now_so (Some refusal.ManyPaths) = tt
+
   conf_so : (b : Bool) → is_of_conf pinned.repo c.name ≡ b → (said : Option Outcome) → ByConfIf b ps objects_with c said → SoOf said
   conf_so false other said is = subst SoOf (sym is) tt
   conf_so true of said by = subst SoOf (sym by.2) (of_result by.0 by.1)
@@ -113,17 +120,20 @@ module _ (ps : Patterns) (now : Repository) (pinned : Pinned) (pack : List Conte
   first_so rows behinds found (Counts outcome row) = rows (Some outcome) row
   first_so rows behinds found (Passes f row behind) = behinds f behind
 
-  judged_so : (found : Option Outcome) → Judges ps pinned pack cs c found → SoOf found
-  judged_so =
+  opening_so : (found : Option Outcome) → Judges ps pinned pack cs c found → SoOf found
+  opening_so =
       first_so (λ o is. subst SoOf (sym is) command_so)
       (first_so (λ o is. subst SoOf (sym is) value_so)
       (first_so (λ o by. subst SoOf (sym by.4) (rules_so by.1))
       (first_so (conf_so (is_of_conf pinned.repo c.name) refl)
       (λ o is. subst SoOf (sym is) tt))))
 
+  judged_so : (found : Option Outcome) → JudgesAtPush ps force pinned pack cs c found → SoOf found
+  judged_so = first_so opening_so (first_so (λ o by. subst SoOf (sym by.4) (rules_now_so by.1)) (λ o is. subst SoOf (sym is) tt))
+
   -- ---- the whole push
 
-  module _ (atomic : Bool) (js : List (Option Outcome)) (judges : JudgesAll ps pinned pack cs js) (k : ℕ) (o : Outcome) (is : slice_get cs k ≡ Some c) where
+  module _ (atomic : Bool) (js : List (Option Outcome)) (judges : JudgesAllAtPush ps force pinned pack cs js) (k : ℕ) (o : Outcome) (is : slice_get cs k ≡ Some c) where
     abbrev run : List Outcome
     run = in_order now.refs cs js
 
@@ -135,7 +145,7 @@ module _ (ps : Patterns) (now : Repository) (pinned : Pinned) (pack : List Conte
 
         by_said : (j : Option Outcome) → slice_get js k ≡ Some j → o ≡ by_refs at.refs at.command j → So o
         by_said None e same = by_refs_so o (ap is_by_refs same ∙ refs_tell at.refs at.command)
-        by_said (Some x) e same = subst So (sym same) (judged_so (Some x) (judged_at (Judges ps pinned pack cs) cs js judges k c (Some x) is e))
+        by_said (Some x) e same = subst So (sym same) (judged_so (Some x) (judged_at (JudgesAtPush ps force pinned pack cs) cs js judges k c (Some x) is e))
 
     together_so : slice_get (together atomic run) k ≡ Some o → So o
     together_so told = elim (was_alone atomic run k o told) [
@@ -168,5 +178,5 @@ module _ (ps : Patterns) (now : Repository) (pinned : Pinned) (pack : List Conte
 pub refusals_are_so : RefusalsAreSo
 refusals_are_so = λ admin before entry pinned command outcome legal t ps ok.
     let due = due_here ps ok admin before entry legal t.place t.pack t.commands t.atomic t.outcomes t.made pinned t.is_push t.opening in
-    told_so ps (repository_at (replay admin before) pinned.repo) pinned t.pack t.commands command t.atomic due.judged due.judges t.index outcome t.command_is
+    told_so ps (in_force (replay admin before) pinned.repo) (repository_at (replay admin before) pinned.repo) pinned t.pack t.commands command t.atomic due.judged due.judges t.index outcome t.command_is
     (ap (λ (os : List Outcome). slice_get os t.index) (sym due.told) ∙ t.outcome_is)

@@ -30,7 +30,7 @@ use Rattle.hub_history.specs.Opening.{Pinned, answer_by}
 use Rattle.hub_history.specs.Push.{ByConf, ByConfIf, Makes, by_conf, conf_put, is_done, is_lacking, is_of_conf, outcomes_in}
 use Rattle.hub_history.specs.Requests.{Enter, Look, Permit, Push, Request, request_of}
 use Rattle.hub_history.specs.Roles.{answer_to_change, entry_of, has_entry, is_declared, unless_kept, unless_refused}
-use Rattle.hub_history.specs.State.{CommitAmong, Repository, State, repository_at, wild_of}
+use Rattle.hub_history.specs.State.{CommitAmong, InForce, Repository, State, in_force, repository_at, wild_of}
 use Rattle.hub_history.proofs.JudgeLemmas.{untold}
 use Rattle.hub_history.proofs.MovedRefs.{done_by_refs, done_is}
 use Rattle.history_laws.specs.StateLaws.{IsAsked, SomeAnswerIsDue, SomeOutcomesAreDue}
@@ -117,9 +117,10 @@ module _ (ps : Patterns) (state : State) (pinned : Pinned) (pack : List Content)
 
 pub some_outcomes_are_due : SomeOutcomesAreDue
 some_outcomes_are_due = λ admin log ps place pack cs atomic pinned judged at writes within fit judges.
+    let force : InForce = in_force (replay admin log) pinned.repo in
     let now : Repository = repository_at (replay admin log) pinned.repo in
     let told : List Outcome = outcomes_in now pack cs atomic judged in
-    let made = some_made ps (replay admin log) pinned pack cs told (λ k c is done. (untold ps pinned pack cs c (done_by_refs ps now pinned pack cs atomic judged judges k c is done).untold).conf) in (
+    let made = some_made ps (replay admin log) pinned pack cs told (λ k c is done. (untold ps force pinned pack cs c (done_by_refs ps force now pinned pack cs atomic judged judges k c is done).untold).conf) in (
       told,
       made.0,
       subst (λ (o : Option Pinned). IsDueAfter ps (replay admin log) o pack cs atomic told made.0) (sym at)

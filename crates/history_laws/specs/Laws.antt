@@ -29,12 +29,12 @@ use Rattle.hub_history.specs.declared.entry.EnterKept.TheVariants as opened
 use Rattle.hub_history.specs.declared.entry.Entry.{Entry}
 use Rattle.hub_history.specs.declared.entry.Event.TheVariants.{Entered}
 use Rattle.hub_history.specs.declared.outcome.Outcome.{Outcome}
-use Rattle.hub_history.specs.declared.outcome.Outcome.TheVariants.{AtomicOther, ConfRefused, Denied, DirFile, ManyPaths, Stale}
+use Rattle.hub_history.specs.declared.outcome.Outcome.TheVariants.{AtomicOther, ConfRefused, Denied, DeniedNow, DirFile, ManyPaths, ManyPathsNow, Stale}
 use Rattle.hub_history.specs.Conf.{AreInForce}
 use Rattle.hub_history.specs.History.{IsLegal, replay}
 use Rattle.hub_history.specs.Laws.{HasNoRefusal, TellsCommand}
-use Rattle.hub_history.specs.Opening.{Pinned}
-use Rattle.hub_history.specs.State.{Repository, wild_of}
+use Rattle.hub_history.specs.Opening.{Pinned, pinned_in_force}
+use Rattle.hub_history.specs.State.{InForce, Repository, in_force, wild_of}
 
 -- ---- openings
 
@@ -70,18 +70,24 @@ pub record RefusedIsNotLet : Type 0 where
 
 -- ---- commands of pushes
 
--- what is asked of rules for who opened a repository
-abbrev pub asked_by : Patterns → Flat → Pinned → Asked
-asked_by patterns rules pinned = asked patterns rules (wild_of pinned.repository) pinned.repo pinned.user
+-- what is asked of rules for who opened a repository, by the creator and the roles that are in force
+abbrev pub asked_by : Patterns → Flat → InForce → Pinned → Asked
+asked_by patterns rules force pinned = asked patterns rules force.wild pinned.repo pinned.user
 
--- The rules that were in force at an opening don't let a change be made for who opened the repository; and by these rules and the facts of the change this holds.
-pub record IsNotLet (patterns : Patterns) (pinned : Pinned) (objects : List Content) (change : Command) (Holds : Flat → Facts → Type 0) : Type 0 where
+-- The rules that are in force don't let a change be made for who opened the repository; and by these rules and the facts of the change this holds.
+pub record IsNotLet (patterns : Patterns) (force : InForce) (pinned : Pinned) (objects : List Content) (change : Command) (Holds : Flat → Facts → Type 0) : Type 0 where
   pub rules : Flat
-  pub in_force : AreInForce patterns pinned.conf rules
+  pub are_in_force : AreInForce patterns force.conf rules
   pub facts : Facts
   pub are_facts : AreFacts objects change.name change.old change.new facts
-  pub not_let : ¬ LetsBeMade patterns rules.rules (asked_by patterns rules pinned) objects change facts
+  pub not_let : ¬ LetsBeMade patterns rules.rules (asked_by patterns rules force pinned) objects change facts
   pub why : Holds rules facts
+
+-- The rules that are in force let a change be made for who opened the repository, whatever facts it has.
+abbrev pub AreLetting : Patterns → InForce → Pinned → List Content → Command → Type 0
+AreLetting patterns force pinned objects change =
+    (rules : Flat) × AreInForce patterns force.conf rules × ((facts : Facts) → AreFacts objects change.name change.old change.new facts
+    → LetsBeMade patterns rules.rules (asked_by patterns rules force pinned) objects change facts)
 
 -- a rule denies
 abbrev pub IsDenied : Verdict → Type 0
@@ -115,32 +121,63 @@ module _ (patterns : Patterns) (rules : List Rule) (a : Asked) (objects : List C
 abbrev pub objects_of : {admin : Name} {before : List Entry} {entry : Entry} {pinned : Pinned} {command : Command} {outcome : Outcome} → TellsCommand admin before entry pinned command outcome → List Content
 objects_of {admin} {before} {entry} {pinned} tells = pinned.repository.objects ++ tells.pack
 
--- A command that is denied wasn't let be made, and the denial that it is told is that of the rules.
+-- the rules that are in force don't let a command be made, and this is their denial
+abbrev pub IsDeniedBy : Patterns → InForce → Pinned → List Content → Command → Verdict → Letter → List ℕ → Type 0
+IsDeniedBy patterns force pinned objects command verdict letter name =
+    IsNotLet patterns force pinned objects command (λ rules facts. IsDenial patterns rules.rules (asked_by patterns rules force pinned) objects command facts verdict letter name)
+
+-- nor do they where changed paths are too many
+abbrev pub HasManyPathsBy : Patterns → InForce → Pinned → List Content → Command → Type 0
+HasManyPathsBy patterns force pinned objects command = IsNotLet patterns force pinned objects command (λ rules facts. HasManyPaths patterns rules.rules (asked_by patterns rules force pinned) objects command)
+
+-- A command that is denied wasn't let be made by the rules at its opening, and the denial that it is told is theirs.
 abbrev pub DeniedIsNotLet : Type 0
 DeniedIsNotLet =
     (admin : Name) (before : List Entry) (entry : Entry) (pinned : Pinned) (command : Command) (verdict : Verdict) (letter : Letter) (name : List ℕ) → IsLegal admin (before ++ entry ∷ [])
     → (tells : TellsCommand admin before entry pinned command (Denied verdict letter name)) → (patterns : Patterns) → AreTrue patterns
-    → IsNotLet patterns pinned (objects_of tells) command (λ rules facts. IsDenial patterns rules.rules (asked_by patterns rules pinned) (objects_of tells) command facts verdict letter name)
+    → IsDeniedBy patterns (pinned_in_force pinned) pinned (objects_of tells) command verdict letter name
 
 -- Nor was one that is told of too many paths, and they are.
 abbrev pub ManyPathsIsNotLet : Type 0
 ManyPathsIsNotLet =
     (admin : Name) (before : List Entry) (entry : Entry) (pinned : Pinned) (command : Command) → IsLegal admin (before ++ entry ∷ [])
     → (tells : TellsCommand admin before entry pinned command ManyPaths) → (patterns : Patterns) → AreTrue patterns
-    → IsNotLet patterns pinned (objects_of tells) command (λ rules facts. HasManyPaths patterns rules.rules (asked_by patterns rules pinned) (objects_of tells) command)
+    → HasManyPathsBy patterns (pinned_in_force pinned) pinned (objects_of tells) command
 
--- a command is past the rules: it is done, or another of its atomic push is refused; it is stale, a ref is in its way, or its conf is refused
+-- A command that is told that it is denied now wasn't let be made by the rules just before the push, by its repository's creator and roles then, and the denial that it is told is theirs.
+abbrev pub DeniedNowIsNotLet : Type 0
+DeniedNowIsNotLet =
+    (admin : Name) (before : List Entry) (entry : Entry) (pinned : Pinned) (command : Command) (verdict : Verdict) (letter : Letter) (name : List ℕ) → IsLegal admin (before ++ entry ∷ [])
+    → (tells : TellsCommand admin before entry pinned command (DeniedNow verdict letter name)) → (patterns : Patterns) → AreTrue patterns
+    → IsDeniedBy patterns (in_force (replay admin before) pinned.repo) pinned (objects_of tells) command verdict letter name
+
+-- Nor was one that is told of too many paths now, and they are.
+abbrev pub ManyPathsNowIsNotLet : Type 0
+ManyPathsNowIsNotLet =
+    (admin : Name) (before : List Entry) (entry : Entry) (pinned : Pinned) (command : Command) → IsLegal admin (before ++ entry ∷ [])
+    → (tells : TellsCommand admin before entry pinned command ManyPathsNow) → (patterns : Patterns) → AreTrue patterns
+    → HasManyPathsBy patterns (in_force (replay admin before) pinned.repo) pinned (objects_of tells) command
+
+-- a command is past the rules, those at its opening and those just before the push: it is done, or another of its atomic push is refused; it is stale, or a ref is in its way
 abbrev pub IsPastTheRules : Outcome → Type 0
-IsPastTheRules outcome =
-    HasNoRefusal outcome ⊎ ((is : ObjectId) × (outcome ≡ Stale is)) ⊎ ((r : Name) × (outcome ≡ DirFile r)) ⊎ ((fault : PolicyFault) × (outcome ≡ ConfRefused fault))
+IsPastTheRules outcome = HasNoRefusal outcome ⊎ ((is : ObjectId) × (outcome ≡ Stale is)) ⊎ ((r : Name) × (outcome ≡ DirFile r))
 
--- A command that is past the rules was let be made, whether it is done or not.
-abbrev pub PastTheRulesIsLet : Type 0
-PastTheRulesIsLet =
-    (admin : Name) (before : List Entry) (entry : Entry) (pinned : Pinned) (command : Command) (outcome : Outcome) → IsLegal admin (before ++ entry ∷ []) → IsPastTheRules outcome
-    → (tells : TellsCommand admin before entry pinned command outcome) → (patterns : Patterns) → AreTrue patterns
-    → (rules : Flat) × AreInForce patterns pinned.conf rules × ((facts : Facts) → AreFacts (objects_of tells) command.name command.old command.new facts
-    → LetsBeMade patterns rules.rules (asked_by patterns rules pinned) (objects_of tells) command facts)
+-- the rules just before the push refuse it
+abbrev pub IsRefusedNow : Outcome → Type 0
+IsRefusedNow outcome = ((verdict : Verdict) × (letter : Letter) × (name : List ℕ) × (outcome ≡ DeniedNow verdict letter name)) ⊎ (outcome ≡ ManyPathsNow)
+
+-- a command is past the rules at its opening: it is past all rules, its conf is refused, or the rules just before the push refuse it
+abbrev pub IsPastTheOpening : Outcome → Type 0
+IsPastTheOpening outcome = IsPastTheRules outcome ⊎ ((fault : PolicyFault) × (outcome ≡ ConfRefused fault)) ⊎ IsRefusedNow outcome
+
+-- A command that is past rules was let be made by them, whether it is done or not.
+pub record PastTheRulesIsLet : Type 0 where
+  pub opening :
+      (admin : Name) (before : List Entry) (entry : Entry) (pinned : Pinned) (command : Command) (outcome : Outcome) → IsLegal admin (before ++ entry ∷ []) → IsPastTheOpening outcome
+      → (tells : TellsCommand admin before entry pinned command outcome) → (patterns : Patterns) → AreTrue patterns → AreLetting patterns (pinned_in_force pinned) pinned (objects_of tells) command
+  pub push :
+      (admin : Name) (before : List Entry) (entry : Entry) (pinned : Pinned) (command : Command) (outcome : Outcome) → IsLegal admin (before ++ entry ∷ []) → IsPastTheRules outcome
+      → (tells : TellsCommand admin before entry pinned command outcome) → (patterns : Patterns) → AreTrue patterns → AreLetting patterns (in_force (replay admin before) pinned.repo) pinned (objects_of tells) command
 
 -- ---- atomic pushes
 

@@ -25,11 +25,11 @@ use Rattle.hub_history.specs.declared.outcome.Outcome.TheVariants.{Done}
 use Rattle.hub_history.specs.Conf.{AreInForce}
 use Rattle.hub_history.specs.History.{AreNames, HasShortRole, History, IsDue, IsLegal, IsOfUser, history, opening_at, replay}
 use Rattle.hub_history.specs.Laws.{IsOpeningAt, OfEachRepository, TellsCommand}
-use Rattle.hub_history.specs.Opening.{Pinned}
-use Rattle.hub_history.specs.Push.{AreWithinLimits, JudgesAll}
+use Rattle.hub_history.specs.Opening.{Pinned, pinned_in_force}
+use Rattle.hub_history.specs.Push.{AreWithinLimits, JudgesAllAtPush}
 use Rattle.hub_history.specs.Requests.{Enter, Look, Permit, Push, Request, request_of}
-use Rattle.hub_history.specs.State.{Repository, State, conf_branch, conf_repository, empty_repository, repository_at}
-use Rattle.history_laws.specs.Laws.{IsPastTheRules, asked_by, objects_of}
+use Rattle.hub_history.specs.State.{InForce, Repository, State, conf_branch, conf_repository, empty_repository, in_force, repository_at}
+use Rattle.history_laws.specs.Laws.{IsPastTheOpening, IsPastTheRules, asked_by, objects_of}
 
 -- ---- the conf in force
 
@@ -151,19 +151,22 @@ PlainAreThere =
 
 -- ---- what is done
 
--- A change has these facts, and by them the rules that were in force at an opening let it be made for who opened the repository.
-pub record IsLet (patterns : Patterns) (pinned : Pinned) (objects : List Content) (change : Command) : Type 0 where
+-- A change has these facts, and by them the rules that are in force let it be made for who opened the repository.
+pub record IsLet (patterns : Patterns) (force : InForce) (pinned : Pinned) (objects : List Content) (change : Command) : Type 0 where
   pub rules : Flat
-  pub in_force : AreInForce patterns pinned.conf rules
+  pub are_in_force : AreInForce patterns force.conf rules
   pub facts : Facts
   pub are_facts : AreFacts objects change.name change.old change.new facts
-  pub lets : LetsBeMade patterns rules.rules (asked_by patterns rules pinned) objects change facts
+  pub lets : LetsBeMade patterns rules.rules (asked_by patterns rules force pinned) objects change facts
 
--- A command that is done, or else past the rules, was let be made, by its facts.
-abbrev pub PastIsLetByItsFacts : Type 0
-PastIsLetByItsFacts =
-    (admin : Name) (before : List Entry) (entry : Entry) (pinned : Pinned) (command : Command) (outcome : Outcome) → IsLegal admin (before ++ entry ∷ []) → IsPastTheRules outcome
-    → (tells : TellsCommand admin before entry pinned command outcome) → (patterns : Patterns) → AreTrue patterns → IsLet patterns pinned (objects_of tells) command
+-- A command that is past the rules at its opening was let be made by them, by its facts; and so by those just before the push, where it is past those too.
+pub record PastIsLetByItsFacts : Type 0 where
+  pub opening :
+      (admin : Name) (before : List Entry) (entry : Entry) (pinned : Pinned) (command : Command) (outcome : Outcome) → IsLegal admin (before ++ entry ∷ []) → IsPastTheOpening outcome
+      → (tells : TellsCommand admin before entry pinned command outcome) → (patterns : Patterns) → AreTrue patterns → IsLet patterns (pinned_in_force pinned) pinned (objects_of tells) command
+  pub push :
+      (admin : Name) (before : List Entry) (entry : Entry) (pinned : Pinned) (command : Command) (outcome : Outcome) → IsLegal admin (before ++ entry ∷ []) → IsPastTheRules outcome
+      → (tells : TellsCommand admin before entry pinned command outcome) → (patterns : Patterns) → AreTrue patterns → IsLet patterns (in_force (replay admin before) pinned.repo) pinned (objects_of tells) command
 
 -- ---- what a repository has
 
@@ -200,9 +203,9 @@ SomeAnswerIsDue =
     (admin : Name) (log : List Entry) → is_user_name admin ≡ true → IsLegal admin log → (patterns : Patterns) → AreTrue patterns → (request : Request) → IsAsked request
     → (event : Event) × (request_of event ≡ request) × IsDue patterns (history admin log) event
 
--- So are outcomes to a push within the limits, after an opening for writing, whatever outcomes its commands have by the opening.
+-- So are outcomes to a push within the limits, after an opening for writing, whatever outcomes its commands have by the opening and by the rules just before it.
 abbrev pub SomeOutcomesAreDue : Type 0
 SomeOutcomesAreDue =
     (admin : Name) (log : List Entry) (patterns : Patterns) (place : ℕ) (pack : List Content) (commands : List Command) (atomic : Bool) (pinned : Pinned) (judged : List (Option Outcome))
-    → opening_at (history admin log) place ≡ Some pinned → pinned.want ≡ Write → AreWithinLimits commands → FitOnePack pack → JudgesAll patterns pinned pack commands judged
+    → opening_at (history admin log) place ≡ Some pinned → pinned.want ≡ Write → AreWithinLimits commands → FitOnePack pack → JudgesAllAtPush patterns (in_force (replay admin log) pinned.repo) pinned pack commands judged
     → (outcomes : List Outcome) × (made : List Name) × IsDue patterns (history admin log) (Pushed place pack commands atomic outcomes made)

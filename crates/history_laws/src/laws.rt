@@ -1,5 +1,5 @@
 // What holds of every legal log.
-ghost use Rattle.history_laws.specs.Laws.{AtomicOtherNamesTheFirst, DeniedIsNotLet, ManyPathsIsNotLet, OpenedIsLet, PastTheRulesIsLet, RefusedIsNotLet};
+ghost use Rattle.history_laws.specs.Laws.{AtomicOtherNamesTheFirst, DeniedIsNotLet, DeniedNowIsNotLet, ManyPathsIsNotLet, ManyPathsNowIsNotLet, OpenedIsLet, PastTheRulesIsLet, RefusedIsNotLet};
 ghost use Rattle.history_laws.specs.Named.{AllAreNamed};
 ghost use Rattle.history_laws.specs.Refusals.{RefusalsAreSo};
 
@@ -11,6 +11,8 @@ pub fn hold_laws()
     ensures refused { RefusedIsNotLet }
     ensures denied { DeniedIsNotLet }
     ensures many { ManyPathsIsNotLet }
+    ensures denied_now { DeniedNowIsNotLet }
+    ensures many_now { ManyPathsNowIsNotLet }
     ensures past { PastTheRulesIsLet }
     ensures others { RefusalsAreSo }
     ensures atomic { AtomicOtherNamesTheFirst }

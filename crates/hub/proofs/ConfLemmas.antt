@@ -1,6 +1,6 @@
 -- The conf in force, and whose setup it began with.
 use Rattle.std.proofs.Common.{◌≡◌, ◌+◌, take, List, [], ◌∷◌, refl, ◌∙◌, ap}
-use Rattle.std.specs.Prelude.{Option, None, Some}
+use Rattle.std.specs.Prelude.{Option, None, Some, is_some, false}
 use Rattle.std.specs.Option.{IfSome, unwrap_or}
 use Rattle.git_object.specs.Content.{Content}
 use Rattle.ref_store.specs.Refs.{Name}
@@ -80,3 +80,8 @@ put_admin admin (Some p) = refl
 pub renewed_admin : (old : Conf) (next : Option Conf) → IfSome next (λ (conf : Conf). conf.admin ≡ old.admin) → (unwrap_or next old).admin ≡ old.admin
 renewed_admin old None is = refl
 renewed_admin old (Some conf) is = is
+
+-- where there is no next conf it stays
+pub none_put : (old : Conf) (next : Option Conf) → is_some next ≡ false → unwrap_or next old ≡ old
+none_put old None none = refl
+none_put old (Some conf) none = cc

@@ -9,3 +9,5 @@ mod LookLemmas
 mod ConfLemmas
 mod OrderLemmas
 mod SettledLemmas
+mod SinceLemmas
+mod AgainLemmas

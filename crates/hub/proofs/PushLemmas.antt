@@ -9,9 +9,9 @@ use Rattle.ref_store.specs.declared.command.Command.{Command}
 use Rattle.rule_compile.specs.Patterns.{Patterns}
 use Rattle.hub_history.specs.declared.outcome.Outcome.{Outcome}
 use Rattle.hub_history.specs.Opening.{Pinned}
-use Rattle.hub_history.specs.Push.{Judges, JudgesAll, by_refs, conf_put, in_order, is_done, is_of_conf, outcomes_in, refs_after}
-use Rattle.hub_history.specs.State.{Conf, Repository}
-use Rattle.hub_history.proofs.JudgeLemmas.{all_along, by_opening, fits_untold, refused, untold}
+use Rattle.hub_history.specs.Push.{JudgesAllAtPush, JudgesAtPush, by_refs, conf_put, in_order, is_done, is_of_conf, outcomes_in, refs_after}
+use Rattle.hub_history.specs.State.{Conf, InForce, Repository}
+use Rattle.hub_history.proofs.JudgeLemmas.{all_along, before_refs, fits_untold, refused, untold}
 use Rattle.hub_history.proofs.MovedLogs.{none_put}
 use Rattle.hub_history.proofs.PushLemmas.{done_in_order}
 use Rattle.push_judging.specs.Judged.{conf_at, conf_of, confs_of}
@@ -20,10 +20,10 @@ use Rattle.hub.specs.Puts.{conf_by, conf_chosen}
 
 -- ---- judgements fit
 
-module _ (ps : Patterns) (pinned : Pinned) (pack : List Content) (commands : List Command) where
-  judged_fits : (c : Command) (o : Option Outcome) → Judges ps pinned pack commands c o → FitsCommand c o
-  judged_fits c None judges = (fits_untold ps pinned pack commands c (untold ps pinned pack commands c judges).command).good
-  judged_fits c (Some o) judges = refused (Some o) (by_opening ps pinned pack commands c (Some o) judges)
+module _ (ps : Patterns) (force : InForce) (pinned : Pinned) (pack : List Content) (commands : List Command) where
+  judged_fits : (c : Command) (o : Option Outcome) → JudgesAtPush ps force pinned pack commands c o → FitsCommand c o
+  judged_fits c None judges = (fits_untold ps force pinned pack commands c (untold ps force pinned pack commands c judges).command).good
+  judged_fits c (Some o) judges = refused (Some o) (before_refs ps force pinned pack commands c (Some o) judges)
 
   fits_each : (cs : List Command) (js : List (Option Outcome)) → AllZip FitsCommand cs js → FitCommands cs js
   fits_each [] [] all = tt
@@ -31,12 +31,12 @@ module _ (ps : Patterns) (pinned : Pinned) (pack : List Content) (commands : Lis
   fits_each (c ∷ cs) [] all = absurd all
   fits_each (c ∷ cs) (j ∷ js) all = (all.0, fits_each cs js all.1)
 
-  pub judgement_fits : (js : List (Option Outcome)) → JudgesAll ps pinned pack commands js → FitCommands commands js
+  pub judgement_fits : (js : List (Option Outcome)) → JudgesAllAtPush ps force pinned pack commands js → FitCommands commands js
   judgement_fits js all = fits_each commands js (all_along judged_fits commands js all)
 
 -- ---- the conf that is put in force
 
--- a command that is done was told nothing by the opening
+-- a command that is done was told nothing before the refs were asked
 told_none : (refs : Refs) (c : Command) (j : Option Outcome) → FitsCommand c j → is_done (by_refs refs c j) ≡ true → is_none j ≡ true
 told_none refs c None fits done = refl
 told_none refs c (Some o) fits done = let clash : true ≡ false = sym done ∙ fits in cc

@@ -15,12 +15,12 @@ use Rattle.hub_history.specs.History.{IsDueAfter, Stands, after_push, history, m
 use Rattle.hub_history.specs.Laws.{IsDueBehind}
 use Rattle.hub_history.specs.Opening.{Opening, Pinned}
 use Rattle.git_object.specs.Object.{FitOnePack}
-use Rattle.hub_history.specs.Push.{AreWithinLimits, Judges, Makes, conf_put, is_lacking, repository_left, outcomes_in}
-use Rattle.hub_history.specs.State.{CommitAmong, Conf, Repository, placed_in, put_in_place, repository_at}
+use Rattle.hub_history.specs.Push.{AreWithinLimits, JudgesAtPush, Makes, conf_put, is_lacking, repository_left, outcomes_in}
+use Rattle.hub_history.specs.State.{CommitAmong, Conf, InForce, Repository, in_force, placed_in, put_in_place, repository_at}
 use Rattle.hub_history.proofs.HistoryLemmas.{some_same}
 use Rattle.hub_history.proofs.JudgeLemmas.{as_many}
 use Rattle.hub_history.proofs.PushLemmas.{length-outcomes}
-use Rattle.push_judging.specs.Judged.{IsJudgement, Judgement, confs_of}
+use Rattle.push_judging.specs.Judged.{AreTold, confs_of}
 use Rattle.hub.specs.Hub.{HubView, state_of, stored}
 use Rattle.hub.specs.Puts.{conf_by, conf_chosen}
 use Rattle.hub.proofs.ConfLemmas.{admin_stays, conf_followed, pinned_admin}
@@ -44,28 +44,32 @@ module _ (ps : Patterns) (hub : HubView) (made : List Name) where
 
 -- ---- the push
 
-module _ (hub : HubView) (pin : Opening) (stands : Stands pin hub.admin hub.log) (pack : List Content) (commands : List Command) (atomic : Bool) (j : Judgement) (judges : IsJudgement pin.pinned pack commands j) where
-  abbrev pub settled_os : List Outcome
-  settled_os = outcomes_in (repository_at (state_of hub) pin.pinned.repo) pack commands atomic j.outcomes
+module _ (hub : HubView) (pin : Opening) (stands : Stands pin hub.admin hub.log) (pack : List Content) (commands : List Command) (atomic : Bool) (judged : List (Option Outcome)) (confs : List (Option Conf))
+    (are : AreTold (in_force (state_of hub) pin.pinned.repo) pin.pinned pack commands judged confs) where
+  abbrev force : InForce
+  force = in_force (state_of hub) pin.pinned.repo
 
-  pub confs_alike : (ps : Patterns) → AreTrue ps → length j.confs ≡ length commands
-  confs_alike ps ok = ap length judges.confs ∙ length-confs pin.pinned pack commands j.outcomes (as_many (Judges ps pin.pinned pack commands) commands j.outcomes (judges.outcomes ps ok))
+  abbrev pub settled_os : List Outcome
+  settled_os = outcomes_in (repository_at (state_of hub) pin.pinned.repo) pack commands atomic judged
+
+  pub confs_alike : (ps : Patterns) → AreTrue ps → length confs ≡ length commands
+  confs_alike ps ok = ap length are.confs_are ∙ length-confs pin.pinned pack commands judged (as_many (JudgesAtPush ps force pin.pinned pack commands) commands judged (are.outcomes_are ps ok))
 
   pub told_alike : (ps : Patterns) → AreTrue ps → length settled_os ≡ length commands
-  told_alike ps ok = length-outcomes (repository_at (state_of hub) pin.pinned.repo) pack commands atomic j.outcomes (as_many (Judges ps pin.pinned pack commands) commands j.outcomes (judges.outcomes ps ok))
+  told_alike ps ok = length-outcomes (repository_at (state_of hub) pin.pinned.repo) pack commands atomic judged (as_many (JudgesAtPush ps force pin.pinned pack commands) commands judged (are.outcomes_are ps ok))
 
   -- the conf that is chosen is the one that the push puts in force
-  pub chosen_conf : (ps : Patterns) → AreTrue ps → conf_chosen pin.pinned.repo commands settled_os j.confs ≡ conf_by hub.admin (conf_put pin.pinned pack commands settled_os)
+  pub chosen_conf : (ps : Patterns) → AreTrue ps → conf_chosen pin.pinned.repo commands settled_os confs ≡ conf_by hub.admin (conf_put pin.pinned pack commands settled_os)
   chosen_conf ps ok =
-      ap (conf_chosen pin.pinned.repo commands settled_os) judges.confs
-      ∙ chosen_put pin.pinned pack (repository_at (state_of hub) pin.pinned.repo) commands atomic j.outcomes (judgement_fits ps pin.pinned pack commands j.outcomes (judges.outcomes ps ok))
+      ap (conf_chosen pin.pinned.repo commands settled_os) are.confs_are
+      ∙ chosen_put pin.pinned pack (repository_at (state_of hub) pin.pinned.repo) commands atomic judged (judgement_fits ps force pin.pinned pack commands judged (are.outcomes_are ps ok))
       ∙ ap (λ (a : Name). conf_by a (conf_put pin.pinned pack commands settled_os)) (pinned_admin hub.admin hub.log pin stands)
 
   pub settled_due : pin.pinned.want ≡ Write → AreWithinLimits commands → FitOnePack pack → (os : List Outcome) → os ≡ settled_os → (made : List Name)
       → ((ps : Patterns) → AreTrue ps → Makes ps (state_of hub) (conf_put pin.pinned pack commands os) made) → IsDueBehind hub.admin hub.log (Pushed pin.place pack commands atomic os made)
   settled_due write within fit os told made makes = λ ps ok.
       subst (λ (o : Option Pinned). IsDueAfter ps (state_of hub) o pack commands atomic os made) (sym stands)
-      (record { for_writing = write; within = within; fit = fit; judged = j.outcomes; judges = judges.outcomes ps ok; told = told; makes = makes ps ok })
+      (record { for_writing = write; within = within; fit = fit; judged = judged; judges = are.outcomes_are ps ok; told = told; makes = makes ps ok })
 
   pub settled_step : (os : List Outcome) (made : List Name) (next : Option Repository) → next ≡ repository_left (repository_at (state_of hub) pin.pinned.repo) pack commands os
       → (changes : List (Name × Repository)) → changes ≡ put_in_place pin.pinned.repo next ++ made_empty made → (conf : Option Conf) → conf ≡ conf_by hub.admin (conf_put pin.pinned pack commands os)

@@ -47,7 +47,7 @@ opened user repo want None = None
 opened user repo want (Some answer) = Some (event.Entered user repo want answer)
 
 abbrev pub settled : Opening → List Content → List Command → Bool → Pushed → Option Event
-settled pin pack commands atomic (push.Settled outcomes made) = Some (event.Pushed pin.place pack commands atomic outcomes made)
+settled pin pack commands atomic (push.Settled outcomes made conf) = Some (event.Pushed pin.place pack commands atomic outcomes made)
 settled pin pack commands atomic (push.NoMemory back) = None
 
 abbrev pub permitted : Name → Name → PermChange → Option PermsKept → Option Event
@@ -80,10 +80,10 @@ AnswersOpening old new user repo want (Denied verdict conf) = conf ≡ (state_of
 AnswersOpening old new user repo want NoRepo = Unit {0}
 AnswersOpening old new user repo want NoMemory = Unit {0}
 
--- without memory the pin comes back
-abbrev pub AnswersPush : Opening → Pushed → Type 0
-AnswersPush pin (push.Settled outcomes made) = Unit {0}
-AnswersPush pin (push.NoMemory back) = back ≡ pin
+-- the conf is the one that was in force just before the push; without memory the pin comes back
+abbrev pub AnswersPush : HubView → Opening → Pushed → Type 0
+AnswersPush old pin (push.Settled outcomes made conf) = conf ≡ (state_of old).conf
+AnswersPush old pin (push.NoMemory back) = back ≡ pin
 
 -- the roles that are listed are those of the repository
 abbrev pub AnswersChange : HubView → Name → PermsAnswer → Type 0

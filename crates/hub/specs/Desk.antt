@@ -68,7 +68,8 @@ Enters old new user repo want result =
 
 -- a push, settled by the log just before its own entry
 abbrev pub Pushes : DeskView → DeskView → Opening → List Content → List Command → Bool → Pushed → Type 0
-Pushes old new pin pack commands atomic result = (before : List Entry) × Calls old new before (settled pin pack commands atomic result) × AnswersPush pin result
+Pushes old new pin pack commands atomic result =
+    (before : List Entry) × Calls old new before (settled pin pack commands atomic result) × AnswersPush (record { admin = old.admin; log = before }) pin result
 
 -- a change or a listing of roles, answered by the log just before its own entry
 abbrev pub Permits : DeskView → DeskView → Name → Name → PermChange → PermsAnswer → Type 0

@@ -5,3 +5,5 @@ pub mod Desk
 pub mod LoneDesk
 pub mod Puts
 pub mod Asks
+pub mod Since
+pub mod Codes

@@ -1,18 +1,19 @@
 // The hub.
-ghost use Rattle.std.specs.Prelude.{◌≡◌, ◌-◌, ◌^◌, min, [], IfOk, IfSome, None, OnErr, OnOk, true};
+ghost use Rattle.std.specs.Prelude.{◌≡◌, ◌+◌, ◌-◌, ◌^◌, ◌<◌, length, min, [], IfOk, IfSome, None, OnErr, OnOk, take, true};
 ghost use Rattle.conf_lex.specs.Names.{is_repo_name};
 ghost use Rattle.std.specs.BTreeMap.{IsOrdered};
 ghost use Rattle.std.specs.Cmp.Lexicographic.{slice_cmp};
 ghost use Rattle.std.specs.FinMap as map;
 ghost use Rattle.std.specs.Ordering.{nat_cmp};
 ghost use Rattle.std.specs.Option.{option_copied, option_map, unwrap_or};
-ghost use Rattle.hub_history.specs.History.{IsLegal, history, step};
+ghost use Rattle.hub_history.specs.History.{IsLegal, history, replay, step};
 ghost use Rattle.hub_history.specs.Laws.{IsDueBehind};
 ghost use Rattle.hub_history.specs.Push.{HasWholeRefs};
-ghost use Rattle.hub_history.specs.State.{empty_repository, placed_in, ref_count, repository_at, store_of};
+ghost use Rattle.hub_history.specs.State.{empty_repository, in_force, placed_in, ref_count, repository_at, store_of};
 ghost use Rattle.hub.specs.Hub.{logged, state_of, stored};
 ghost use Rattle.hub.specs.Names.{map_of};
 
+use crate::since::Since;
 use crate::table::{Named, RepoTable};
 use base_types::NoMemory;
 use conf_lex::{RepoName, UserName};
@@ -31,6 +32,7 @@ pub struct Hub {
     conf: ConfInForce,
     repositories: RepoTable,
     log: EntryList,
+    since: Since,
 }
 
 impl Model for Hub {
@@ -38,12 +40,13 @@ impl Model for Hub {
     ghost use Rattle.hub_history.specs.History.{IsLegal, replay};
     ghost use Rattle.hub.specs.Hub.{HubView, stored};
     ghost use Rattle.hub.specs.Names.{map_of};
+    ghost use Rattle.hub.specs.Since.{IsSince};
 
     ghost Value = { HubView };
 
     ghost view = { λ h. record { admin = h.conf.admin; log = h.log } };
 
-    ghost invariant = { λ h. IsLegal h.conf.admin h.log × (stored (map_of h.repositories.entries.entries) h.conf ≡ replay h.conf.admin h.log) };
+    ghost invariant = { λ h. IsLegal h.conf.admin h.log × (stored (map_of h.repositories.entries.entries) h.conf ≡ replay h.conf.admin h.log) × IsSince h.since h.conf.admin h.log };
 }
 
 impl Hub {
@@ -59,6 +62,7 @@ impl Hub {
             conf,
             repositories,
             log: EntryList::new(alloc),
+            since: Since::start(alloc),
         })
     }
 
@@ -76,6 +80,7 @@ impl Hub {
             conf: _,
             repositories: _,
             log,
+            since: _,
         } = self;
         log
     }
@@ -141,6 +146,22 @@ impl Hub {
         Ok(sorted)
     }
 
+    // Whether what was in force for a repository behind the entry at a place still is. It costs a look-up.
+    pub(crate) fn has_stayed(&self, name: &RepoName, place: u64) -> bool
+        requires { place < length self.now.log }
+        ensures { result ≡ true → in_force (replay self.now.admin (take (place + 1) self.now.log)) name.now ≡ in_force (state_of self.now) name.now }
+    {
+        self.since.has_stayed(name, place)
+    }
+
+    // Whether the conf that was in force behind the entry at a place still is.
+    pub(crate) fn has_conf_stayed(&self, place: u64) -> bool
+        requires { place < length self.now.log }
+        ensures { result ≡ true → (replay self.now.admin (take (place + 1) self.now.log)).conf ≡ (state_of self.now).conf }
+    {
+        self.since.has_conf_stayed(place)
+    }
+
     // Puts an event into the log, and what it changes in place. This is the one place where the hub changes.
     pub(crate) fn commit(
         &mut self,
@@ -155,7 +176,11 @@ impl Hub {
         ensures ok { OnOk result (self.new ≡ logged self.old caller event) }
         ensures err { OnErr result (self.new ≡ self.old) }
     {
+        // called for its clause that some answers about patterns are true, which the proof cites
+        some_patterns_are_true();
+        let place = self.log.len() as u64;
         self.repositories.reserve(repositories.len())?;
+        self.since.note(&event, conf.is_some(), place)?;
         self.log.push(Entry { caller, event })?;
         self.repositories.put_all(repositories);
         renew(&mut self.conf, conf);

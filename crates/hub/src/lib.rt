@@ -1,6 +1,7 @@
 //! The hub: openings, pushes, changes of roles and listings, the log of their answers, and the state that the log leads to.
 //!
 //! - `table`: repositories by their names;
+//! - `since`: since when the conf in force and each repository's creator and roles are what they are;
 //! - `answer`: what the calls answer;
 //! - `hub`: the hub, which keeps that its log is legal and that what it stores is the log's replay;
 //! - `openings`, `pushes`, `roles`, `looks`: its calls;
@@ -16,6 +17,7 @@ mod names;
 mod openings;
 mod pushes;
 mod roles;
+mod since;
 mod table;
 
 pub use answer::{Entered, Looked, Permitted, Pushed};

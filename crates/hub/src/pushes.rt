@@ -1,15 +1,17 @@
 // Pushes.
-ghost use Rattle.std.specs.Prelude.{◌≡◌, ◌++◌, ◌≤◌, ◌&&◌, filter, IfOk, IfSome, length, OnErr, OnOk, Option, true};
+ghost use Rattle.std.specs.Prelude.{◌≡◌, ◌++◌, ◌≤◌, ◌&&◌, filter, IfOk, IfSome, length, None, OnErr, OnOk, Option, true};
 ghost use Rattle.hub_history.specs.declared.entry.Event.TheVariants as event;
 ghost use Rattle.access_check.specs.declared.verdicts.Want.TheVariants as want;
 ghost use Rattle.rule_compile.specs.Patterns.{AreTrue, Patterns};
 ghost use Rattle.std.specs.Option.{unwrap_or};
 ghost use Rattle.hub_history.specs.History.{IsLegal, Stands, history, made_empty, step};
 ghost use Rattle.hub_history.specs.Laws.{IsDueBehind};
+ghost use Rattle.hub_history.specs.Opening.{pinned_in_force};
 ghost use Rattle.git_object.specs.Object.{FitOnePack};
-ghost use Rattle.hub_history.specs.Push.{AreWithinLimits, JudgesAll, Makes, is_done, is_lacking, is_of_conf, repository_left, outcomes_in};
-ghost use Rattle.hub_history.specs.State.{CommitAmong, placed_in, put_in_place, repository_at};
-ghost use Rattle.push_judging.specs.Judged.{IsJudgement};
+ghost use Rattle.hub_history.specs.Push.{AreWithinLimits, JudgesAllAtPush, Makes, is_done, is_lacking, is_of_conf, repository_left, outcomes_in};
+ghost use Rattle.hub_history.specs.State.{CommitAmong, in_force, placed_in, put_in_place, repository_at};
+ghost use Rattle.push_judging.specs.Again.{TellsAgain};
+ghost use Rattle.push_judging.specs.Judged.{AreTold, IsJudgement};
 ghost use Rattle.hub.specs.Answer.{AnswersPush, IsDueIn, settled};
 ghost use Rattle.hub.specs.Hub.{Logs, logged, state_of, stored};
 ghost use Rattle.hub.specs.Puts.{conf_by, conf_chosen};
@@ -22,12 +24,20 @@ use conf_lex::RepoName;
 use git_object::ObjectList;
 use hub_history::{Event, Outcome, OutcomeList, RepoList};
 use hub_state::{ConfInForce, HostedRepo, Pin, PreparedPack};
-use push_judging::{Judged, is_of_conf};
+use push_judging::{CommandOutcomes, Judged, is_of_conf};
 use push_settling::{Settled, settle};
 use ref_store::{Command, CommandList, Repo};
 use rule_compile::some_patterns_are_true;
 use std::alloc::Global;
 use wild_perms::Wild;
+
+// What a push is told, and the conf just before it.
+#[derive(Drop)]
+struct SettledPush {
+    outcomes: OutcomeList,
+    made: RepoList,
+    conf: ConfInForce,
+}
 
 // What a push puts into the log and in place. Where no command is done, `same` is the repository as it is, with more known of it.
 #[derive(Drop)]
@@ -40,10 +50,11 @@ struct Plan {
 }
 
 impl Hub {
-    /// Settles a push that has been judged, by what stands in the repository now.
+    /// Settles a push that has been judged, by what is in force now and by what is in the repository now.
     ///
     /// It costs the commands and, once a ref moves, the repository's refs; where objects came since the push was judged it compares the pack again. A conf that
-    /// is put in force costs its plain repositories. Nothing is compiled.
+    /// is put in force costs its plain repositories. Nothing is compiled. Only where the conf, or the repository's creator or roles, changed since the opening is anything
+    /// decided by rules, which costs what `Judged::at_push` does.
     pub fn settle(
         &mut self,
         alloc: Global,
@@ -61,16 +72,143 @@ impl Hub {
         requires judged { IsJudgement pin.pinned pack commands judged }
         ensures logs { Logs self.old self.new caller (settled pin pack commands atomic result) }
         ensures due { IsDueIn self.old (settled pin pack commands atomic result) }
-        ensures answers { AnswersPush pin result }
+        ensures answers { AnswersPush self.old pin result }
         ensures legal { IsLegal self.new.admin self.new.log }
     {
-        let settled = self.settled(alloc, caller, &pin, pack, commands, atomic, judged);
+        // called for its clause that the log is legal
+        let _log = self.log();
+        match self.told(alloc, &pin, &pack, &commands, judged) {
+            Ok((told, prepared)) => {
+                self.settle_told(alloc, caller, pin, pack, commands, atomic, told, prepared)
+            }
+            Err(_) => Pushed::NoMemory(pin),
+        }
+    }
+
+    // Settles a push whose commands have been judged by what is in force now.
+    fn settle_told(
+        &mut self,
+        alloc: Global,
+        caller: u64,
+        pin: Pin,
+        pack: ObjectList,
+        commands: CommandList,
+        atomic: bool,
+        told: CommandOutcomes,
+        prepared: PreparedPack,
+    ) -> Pushed
+        requires stands { Stands pin self.old.admin self.old.log }
+        requires write { pin.pinned.want ≡ want.Write }
+        requires within { AreWithinLimits commands }
+        requires fit { FitOnePack pack }
+        requires told { AreTold (in_force (state_of self.old) pin.pinned.repo) pin.pinned pack commands told.outcomes.items told.confs.items }
+        requires before { prepared.before ≡ pin.pinned.repository.objects }
+        requires objects { prepared.objects ≡ pin.pinned.repository.objects ++ pack }
+        ensures logs { Logs self.old self.new caller (settled pin pack commands atomic result) }
+        ensures due { IsDueIn self.old (settled pin pack commands atomic result) }
+        ensures answers { AnswersPush self.old pin result }
+        ensures legal { IsLegal self.new.admin self.new.log }
+    {
+        let settled = self.settled(alloc, caller, &pin, pack, commands, atomic, told, prepared);
         // called for its clause that the log is legal
         let _log = self.log();
         match settled {
-            Ok((outcomes, made)) => Pushed::Settled { outcomes, made },
+            Ok(
+                SettledPush {
+                    outcomes,
+                    made,
+                    conf,
+                },
+            ) => Pushed::Settled {
+                outcomes,
+                made,
+                conf,
+            },
             Err(_) => Pushed::NoMemory(pin),
         }
+    }
+
+    // What the commands are told by the opening and by what is in force now, and what was found out of the pack.
+    fn told(
+        &self,
+        alloc: Global,
+        pin: &Pin,
+        pack: &ObjectList,
+        commands: &CommandList,
+        mut judged: Judged,
+    ) -> Result<(CommandOutcomes, PreparedPack), NoMemory>
+        requires stands { Stands pin.now self.now.admin self.now.log }
+        requires judged { IsJudgement pin.now.pinned pack.now commands.now judged }
+        ensures told { IfOk result (λ t. AreTold (in_force (state_of self.now) pin.now.pinned.repo) pin.now.pinned pack.now commands.now t.0.outcomes.items t.0.confs.items) }
+        ensures before { IfOk result (λ t. t.1.before ≡ pin.now.pinned.repository.objects) }
+        ensures objects { IfOk result (λ t. t.1.objects ≡ pin.now.pinned.repository.objects ++ pack.now) }
+    {
+        if self.stands_as_opened(pin) {
+            return Ok(judged.into_parts());
+        }
+        let hosted = self.hosted(alloc, pin.repo_name())?;
+        if let Some(told) = self.told_again(pin, &mut judged, hosted.wild())? {
+            let (_, prepared) = judged.into_parts();
+            return Ok((told, prepared));
+        }
+        let told = judged.at_push(alloc, pin, pack, commands, self.conf(), hosted.wild())?;
+        let (_, prepared) = judged.into_parts();
+        Ok((told, prepared))
+    }
+
+    // What the commands are told, where the push was judged again by the creator and the roles that its repository has now, and the conf is that of the opening.
+    fn told_again(
+        &self,
+        pin: &Pin,
+        judged: &mut Judged,
+        wild: &Wild,
+    ) -> Result<Option<CommandOutcomes>, NoMemory>
+        requires stands { Stands pin.now self.now.admin self.now.log }
+        ensures told { IfOk result (λ found. IfSome found (λ told. (pin.now.pinned.conf ≡ (state_of self.now).conf) × TellsAgain judged.old wild.now told)) }
+        ensures before { judged.new.before ≡ judged.old.before }
+        ensures objects { judged.new.objects ≡ judged.old.objects }
+        ensures none { IfOk result (λ found. found ≡ None → judged.new ≡ judged.old) }
+    {
+        if !self.has_conf_of(pin) {
+            return Ok(None);
+        }
+        judged.take_again(wild)
+    }
+
+    /// The creator and the roles by which a push is to be judged again before its turn, if it is: they changed since its opening, and again since it was last
+    /// judged. Where the conf changed too it has to be judged in its turn. It costs a look-up and, where roles changed, the roles of the repository.
+    pub fn wild_to_judge(
+        &self,
+        alloc: Global,
+        pin: &Pin,
+        judged: &Judged,
+    ) -> Result<Option<Wild>, NoMemory>
+        requires { Stands pin.now self.now.admin self.now.log }
+    {
+        if self.stands_as_opened(pin) || !self.has_conf_of(pin) {
+            return Ok(None);
+        }
+        let hosted = self.hosted(alloc, pin.repo_name())?;
+        if judged.is_judged_by(hosted.wild())? {
+            return Ok(None);
+        }
+        Ok(Some(hosted.wild().copy()?))
+    }
+
+    // Whether the conf at an opening still is in force.
+    fn has_conf_of(&self, pin: &Pin) -> bool
+        requires { Stands pin.now self.now.admin self.now.log }
+        ensures { result ≡ true → pin.now.pinned.conf ≡ (state_of self.now).conf }
+    {
+        self.has_conf_stayed(pin.place())
+    }
+
+    // Whether what was in force at an opening for its repository still is. It costs a look-up.
+    fn stands_as_opened(&self, pin: &Pin) -> bool
+        requires { Stands pin.now self.now.admin self.now.log }
+        ensures { result ≡ true → pinned_in_force pin.now.pinned ≡ in_force (state_of self.now) pin.now.pinned.repo }
+    {
+        self.has_stayed(pin.repo_name(), pin.place())
     }
 
     fn settled(
@@ -81,18 +219,23 @@ impl Hub {
         pack: ObjectList,
         commands: CommandList,
         atomic: bool,
-        judged: Judged,
-    ) -> Result<(OutcomeList, RepoList), NoMemory>
+        told: CommandOutcomes,
+        prepared: PreparedPack,
+    ) -> Result<SettledPush, NoMemory>
         requires stands { Stands pin.now self.old.admin self.old.log }
         requires write { pin.now.pinned.want ≡ want.Write }
         requires within { AreWithinLimits commands }
         requires fit { FitOnePack pack }
-        requires judged { IsJudgement pin.now.pinned pack commands judged }
-        ensures due { IfOk result (λ told. IsDueBehind self.old.admin self.old.log (event.Pushed pin.now.place pack commands atomic told.0 told.1)) }
-        ensures logs { IfOk result (λ told. self.new ≡ logged self.old caller (event.Pushed pin.now.place pack commands atomic told.0 told.1)) }
+        requires told { AreTold (in_force (state_of self.old) pin.now.pinned.repo) pin.now.pinned pack commands told.outcomes.items told.confs.items }
+        requires before { prepared.before ≡ pin.now.pinned.repository.objects }
+        requires objects { prepared.objects ≡ pin.now.pinned.repository.objects ++ pack }
+        ensures due { IfOk result (λ s. IsDueBehind self.old.admin self.old.log (event.Pushed pin.now.place pack commands atomic s.outcomes s.made)) }
+        ensures logs { IfOk result (λ s. self.new ≡ logged self.old caller (event.Pushed pin.now.place pack commands atomic s.outcomes s.made)) }
+        ensures conf { IfOk result (λ s. s.conf ≡ (state_of self.old).conf) }
         ensures err { OnErr result (self.new ≡ self.old) }
     {
-        let plan = self.plan(alloc, pin, &pack, &commands, atomic, judged)?;
+        let before = self.conf().clone()?;
+        let plan = self.plan(alloc, pin, &pack, &commands, atomic, told, prepared)?;
         let Plan {
             outcomes,
             made,
@@ -101,7 +244,11 @@ impl Hub {
             same,
         } = plan;
         self.learn(pin.repo_name(), same)?;
-        let told = (outcomes.clone()?, made.clone()?);
+        let settled = SettledPush {
+            outcomes: outcomes.clone()?,
+            made: made.clone()?,
+            conf: before,
+        };
         let event = Event::Pushed {
             place: pin.place(),
             pack,
@@ -111,7 +258,7 @@ impl Hub {
             made,
         };
         self.commit(caller, event, changes, conf)?;
-        Ok(told)
+        Ok(settled)
     }
 
     // What is due of a push.
@@ -122,13 +269,16 @@ impl Hub {
         pack: &ObjectList,
         commands: &CommandList,
         atomic: bool,
-        judged: Judged,
+        told: CommandOutcomes,
+        prepared: PreparedPack,
     ) -> Result<Plan, NoMemory>
         requires stands { Stands pin.now self.now.admin self.now.log }
         requires write { pin.now.pinned.want ≡ want.Write }
         requires within { AreWithinLimits commands.now }
         requires fit { FitOnePack pack.now }
-        requires judged { IsJudgement pin.now.pinned pack.now commands.now judged }
+        requires told { AreTold (in_force (state_of self.now) pin.now.pinned.repo) pin.now.pinned pack.now commands.now told.outcomes.items told.confs.items }
+        requires before { prepared.before ≡ pin.now.pinned.repository.objects }
+        requires objects { prepared.objects ≡ pin.now.pinned.repository.objects ++ pack.now }
         ensures due { IfOk result (λ p. IsDueBehind self.now.admin self.now.log (event.Pushed pin.now.place pack.now commands.now atomic p.outcomes p.made)) }
         ensures step { IfOk result (λ p. step (history self.now.admin self.now.log) (event.Pushed pin.now.place pack.now commands.now atomic p.outcomes p.made) ≡ stored (placed_in (state_of self.now).repositories p.changes.items) (unwrap_or p.conf (state_of self.now).conf)) }
         ensures admin { IfOk result (λ p. IfSome p.conf (λ conf. conf.admin ≡ self.now.admin)) }
@@ -136,12 +286,15 @@ impl Hub {
     {
         // called for its clause that some answers about patterns are true, which the proof cites
         some_patterns_are_true();
-        let (told, confs, prepared) = judged.into_parts();
+        let CommandOutcomes {
+            outcomes: judged,
+            confs,
+        } = told;
         let Settled {
             outcomes,
             next,
             same,
-        } = self.settle_now(alloc, pin, pack, commands, atomic, &told, prepared)?;
+        } = self.settle_now(alloc, pin, pack, commands, atomic, &judged, prepared)?;
         let conf = conf_of(
             confs,
             pin.repo_name(),
@@ -172,7 +325,7 @@ impl Hub {
     ) -> Result<Settled, NoMemory>
         requires stands { Stands pin.now self.now.admin self.now.log }
         requires few { length commands.now ≤ 10000 }
-        requires judged { (ps : Patterns) → AreTrue ps → JudgesAll ps pin.now.pinned pack.now commands.now judged.now }
+        requires judged { (ps : Patterns) → AreTrue ps → JudgesAllAtPush ps (in_force (state_of self.now) pin.now.pinned.repo) pin.now.pinned pack.now commands.now judged.now }
         requires before { prepared.before ≡ pin.now.pinned.repository.objects }
         requires objects { prepared.objects ≡ pin.now.pinned.repository.objects ++ pack.now }
         ensures outcomes { IfOk result (λ s. s.outcomes ≡ outcomes_in (repository_at (state_of self.now) pin.now.pinned.repo) pack.now commands.now atomic judged.now) }

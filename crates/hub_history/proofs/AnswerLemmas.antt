@@ -18,15 +18,16 @@ use Rattle.policy_swap.specs.Laws as swap
 use Rattle.update_check.specs.Laws.{OneIsSaid}
 use Rattle.update_check.specs.Rules.{RulesSay}
 use Rattle.update_check.specs.Table.{Counts, First, Passes}
+use Rattle.update_check.specs.declared.refusal.Refusal.{Refusal}
 use Rattle.hub_history.specs.declared.outcome.Outcome.{Outcome}
 use Rattle.hub_history.specs.declared.entry.EnterKept.{EnterKept}
 use Rattle.hub_history.specs.Conf.{AreInForce, ComesTo, ComesToBy}
 use Rattle.hub_history.specs.History.{IsDuePush}
 use Rattle.hub_history.specs.Laws.{OneAnswer}
 use Rattle.hub_history.specs.Opening.{IsDueOpening, Pinned, answer_by}
-use Rattle.hub_history.specs.Push.{ByConfIf, ByRules, Judges, Makes, by_command, by_conf, by_new_value, conf_put, is_lacking, is_named_twice, is_of_conf, outcome_of, outcomes_in}
+use Rattle.hub_history.specs.Push.{ByConfIf, ByRules, ByRulesNow, Judges, JudgesAtPush, Makes, by_command, by_conf, by_new_value, conf_put, is_lacking, is_named_twice, is_of_conf, outcome_now, outcome_of, outcomes_in}
 use Rattle.hub_history.specs.Roles.{IsDueChange, answer_by_rules}
-use Rattle.hub_history.specs.State.{CommitAmong, Conf, State, repository_at, wild_of}
+use Rattle.hub_history.specs.State.{CommitAmong, Conf, InForce, State, in_force, repository_at, wild_of}
 use Rattle.hub_history.specs.declared.entry.PermChange.{PermChange}
 use Rattle.hub_history.specs.declared.entry.PermsKept.{PermsKept}
 use Rattle.hub_history.proofs.JudgeLemmas.{AllJudged}
@@ -67,11 +68,19 @@ module _ (files_once : swap.OneAnswer) (said_once : (ps : Patterns) (rules : Lis
 
   -- ---- judgements
 
+  refused_one : (conf : Conf) (who : Flat → Asked) (objects : List Content) (c : Command) (rules others : Flat) (refused other : Option Refusal) → AreInForce ps conf rules → AreInForce ps conf others
+      → RulesSay ps rules.rules (who rules) objects c refused → RulesSay ps others.rules (who others) objects c other → refused ≡ other
+  refused_one conf who objects c rules others refused other are are_others says says_other =
+      let same : RulesSay ps rules.rules (who rules) objects c other = subst (λ (fs : Flat). RulesSay ps fs.rules (who fs) objects c other) (sym (rules_one conf rules others are are_others)) says_other in
+      (said_once ps rules.rules (who rules) objects c).one refused other says same
+
   by_rules_one : (pinned : Pinned) (objects : List Content) (c : Command) (a b : Option Outcome) → ByRules ps pinned objects c a → ByRules ps pinned objects c b → a ≡ b
   by_rules_one pinned objects c a b p q =
-      let who : Flat → Asked = λ rules. asked ps rules (wild_of pinned.repository) pinned.repo pinned.user in
-      let says : RulesSay ps p.0.rules (who p.0) objects c q.1 = subst (λ (rules : Flat). RulesSay ps rules.rules (who rules) objects c q.1) (sym (rules_one pinned.conf p.0 q.0 p.2 q.2)) q.3 in
-      p.4 ∙ ap outcome_of ((said_once ps p.0.rules (who p.0) objects c).one p.1 q.1 p.3 says) ∙ sym q.4
+      p.4 ∙ ap outcome_of (refused_one pinned.conf (λ rules. asked ps rules (wild_of pinned.repository) pinned.repo pinned.user) objects c p.0 q.0 p.1 q.1 p.2 q.2 p.3 q.3) ∙ sym q.4
+
+  by_rules_now_one : (force : InForce) (pinned : Pinned) (objects : List Content) (c : Command) (a b : Option Outcome) → ByRulesNow ps force pinned objects c a → ByRulesNow ps force pinned objects c b → a ≡ b
+  by_rules_now_one force pinned objects c a b p q =
+      p.4 ∙ ap outcome_now (refused_one force.conf (λ rules. asked ps rules force.wild pinned.repo pinned.user) objects c p.0 q.0 p.1 q.1 p.2 q.2 p.3 q.3) ∙ sym q.4
 
   by_conf_one : (b : Bool) (objects : List Content) (c : Command) (f g : Option Outcome) → ByConfIf b ps objects c f → ByConfIf b ps objects c g → f ≡ g
   by_conf_one false objects c f g p q = p ∙ sym q
@@ -85,14 +94,18 @@ module _ (files_once : swap.OneAnswer) (said_once : (ps : Patterns) (rules : Lis
       (first_one (by_conf_one (is_of_conf pinned.repo c.name) (pinned.repository.objects ++ pack) c)
       (same_option None))))
 
-  judged_one : (pinned : Pinned) (pack : List Content) (all cs : List Command) (one other : List (Option Outcome)) → AllJudged (Judges ps pinned pack all) cs one → AllJudged (Judges ps pinned pack all) cs other → one ≡ other
-  judged_one pinned pack all [] [] [] p q = refl
-  judged_one pinned pack all [] [] (b ∷ bs) p q = absurd q
-  judged_one pinned pack all [] (a ∷ as_) other p q = absurd p
-  judged_one pinned pack all (c ∷ cs) [] other p q = absurd p
-  judged_one pinned pack all (c ∷ cs) (a ∷ as_) [] p q = absurd q
-  judged_one pinned pack all (c ∷ cs) (a ∷ as_) (b ∷ bs) p q =
-      ap (λ (x : Option Outcome). x ∷ as_) (judgement_one pinned pack all c a b p.0 q.0) ∙ ap (λ (xs : List (Option Outcome)). b ∷ xs) (judged_one pinned pack all cs as_ bs p.1 q.1)
+  judgement_at_push_one : (force : InForce) (pinned : Pinned) (pack : List Content) (cs : List Command) (c : Command) (a b : Option Outcome) → JudgesAtPush ps force pinned pack cs c a → JudgesAtPush ps force pinned pack cs c b → a ≡ b
+  judgement_at_push_one force pinned pack cs c = first_one (judgement_one pinned pack cs c) (first_one (by_rules_now_one force pinned (pinned.repository.objects ++ pack) c) (same_option None))
+
+  judged_one : (force : InForce) (pinned : Pinned) (pack : List Content) (all cs : List Command) (one other : List (Option Outcome))
+      → AllJudged (JudgesAtPush ps force pinned pack all) cs one → AllJudged (JudgesAtPush ps force pinned pack all) cs other → one ≡ other
+  judged_one force pinned pack all [] [] [] p q = refl
+  judged_one force pinned pack all [] [] (b ∷ bs) p q = absurd q
+  judged_one force pinned pack all [] (a ∷ as_) other p q = absurd p
+  judged_one force pinned pack all (c ∷ cs) [] other p q = absurd p
+  judged_one force pinned pack all (c ∷ cs) (a ∷ as_) [] p q = absurd q
+  judged_one force pinned pack all (c ∷ cs) (a ∷ as_) (b ∷ bs) p q =
+      ap (λ (x : Option Outcome). x ∷ as_) (judgement_at_push_one force pinned pack all c a b p.0 q.0) ∙ ap (λ (xs : List (Option Outcome)). b ∷ xs) (judged_one force pinned pack all cs as_ bs p.1 q.1)
 
   -- ---- pushes
 
@@ -103,7 +116,7 @@ module _ (files_once : swap.OneAnswer) (said_once : (ps : Patterns) (rules : Lis
   push_one : (state : State) (pinned : Pinned) (pack : List Content) (cs : List Command) (atomic : Bool) (one other : List Outcome) (made others : List Name)
       → IsDuePush ps state pinned pack cs atomic one made → IsDuePush ps state pinned pack cs atomic other others → (one ≡ other) × (made ≡ others)
   push_one state pinned pack cs atomic one other made others p q =
-      let same : one ≡ other = p.told ∙ ap (outcomes_in (repository_at state pinned.repo) pack cs atomic) (judged_one pinned pack cs cs p.judged q.judged p.judges q.judges) ∙ sym q.told in (
+      let same : one ≡ other = p.told ∙ ap (outcomes_in (repository_at state pinned.repo) pack cs atomic) (judged_one (in_force state pinned.repo) pinned pack cs cs p.judged q.judged p.judges q.judges) ∙ sym q.told in (
         same,
         made_one state (conf_put pinned pack cs other) made others (subst (λ (os : List Outcome). Makes ps state (conf_put pinned pack cs os) made) same p.makes) q.makes,
       )

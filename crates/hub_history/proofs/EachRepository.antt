@@ -25,9 +25,9 @@ use Rattle.hub_history.specs.declared.entry.Event.{Event}
 use Rattle.hub_history.specs.declared.entry.Event.TheVariants.{Entered, Pushed, Permitted, Looked}
 use Rattle.hub_history.specs.History.{History, IsDue, IsDueAfter, IsLegal, Stands, after, after_push, made_empty, new_history, opening_at, push_change, replay}
 use Rattle.hub_history.specs.Opening.{Opening, Pinned, made_by}
-use Rattle.hub_history.specs.Push.{AreWithinLimits, JudgesAll, is_done, outcomes_in, refs_left}
+use Rattle.hub_history.specs.Push.{AreWithinLimits, JudgesAllAtPush, is_done, outcomes_in, refs_left}
 use Rattle.hub_history.specs.Roles.{given_by, roles_after}
-use Rattle.hub_history.specs.State.{Repository, State, changed, empty_repository, placed_in, put_in_place, repository_at, start}
+use Rattle.hub_history.specs.State.{InForce, Repository, State, changed, empty_repository, in_force, placed_in, put_in_place, repository_at, start}
 use Rattle.hub_history.proofs.HistoryLemmas.{beginning_legal, history-keeps, some_same}
 use Rattle.hub_history.proofs.OpeningLemmas.{pinned_at}
 
@@ -101,8 +101,8 @@ module _ (P : Repository → Type 0) where
   -- a push that does a command keeps it
   abbrev pub IsKept : Type 0
   IsKept =
-      (ps : Patterns) (now : Repository) (pinned : Pinned) (pack : List Content) (commands : List Command) (atomic : Bool) (judged : List (Option Outcome))
-      → AreWithinLimits commands → FitOnePack pack → JudgesAll ps pinned pack commands judged → P now → list_any is_done (outcomes_in now pack commands atomic judged) ≡ true
+      (ps : Patterns) (force : InForce) (now : Repository) (pinned : Pinned) (pack : List Content) (commands : List Command) (atomic : Bool) (judged : List (Option Outcome))
+      → AreWithinLimits commands → FitOnePack pack → JudgesAllAtPush ps force pinned pack commands judged → P now → list_any is_done (outcomes_in now pack commands atomic judged) ≡ true
       → P (record now { objects = with_pack now.objects pack; refs = refs_left now.refs commands (outcomes_in now pack commands atomic judged) })
 
   each-after : ((creator : Option Name) → P (empty_repository creator)) → IsKeptByRoles → IsKept → (ps : Patterns) (h : History) (event : Event) → IsDue ps h event → Each h.state.repositories → Each (after h event).state.repositories
@@ -114,7 +114,7 @@ module _ (P : Repository → Type 0) where
       by_opening (Some pinned) due =
           each-push h.state pinned pack commands outcomes made (new None)
           (λ done. subst (λ (os : List Outcome). P (record (repository_at h.state pinned.repo) { objects = with_pack (repository_at h.state pinned.repo).objects pack; refs = refs_left (repository_at h.state pinned.repo).refs commands os })) (sym due.told)
-          (keeps ps (repository_at h.state pinned.repo) pinned pack commands atomic due.judged due.within due.fit due.judges (each_at h.state pinned.repo (new None) each)
+          (keeps ps (in_force h.state pinned.repo) (repository_at h.state pinned.repo) pinned pack commands atomic due.judged due.within due.fit due.judges (each_at h.state pinned.repo (new None) each)
           (subst (λ (os : List Outcome). list_any is_done os ≡ true) due.told done))) each
   each-after new free keeps ps h (Permitted user repo asked answer) due each = each-given free h.state repo asked answer (new None) each
   each-after new free keeps ps h (Looked user) due each = each

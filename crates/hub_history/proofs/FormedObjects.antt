@@ -27,7 +27,7 @@ formed-with_pack objects (o ∷ os) formed all = formed-with_pack (if has_object
     by_there false = All-push IsPackable objects o formed all.0
 
 formed-pushed : IsKept IsFormed
-formed-pushed ps now pinned pack commands atomic judged within fit judges formed done = formed-with_pack now.objects pack formed (recursion_from_All IsPackable pack fit.formed)
+formed-pushed ps force now pinned pack commands atomic judged within fit judges formed done = formed-with_pack now.objects pack formed (recursion_from_All IsPackable pack fit.formed)
 
 module _ (ps : Patterns) (ok : AreTrue ps) where
   replayed_formed : (admin : Name) (log : List Entry) → IsLegal admin log → Each IsFormed (replay admin log).repositories

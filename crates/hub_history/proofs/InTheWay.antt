@@ -18,8 +18,8 @@ use Rattle.hub_history.specs.declared.entry.Entry.{Entry}
 use Rattle.hub_history.specs.History.{IsLegal, replay}
 use Rattle.hub_history.specs.Laws.{HasNoRefusal, IsInTheWay, IsMovedBefore, IsThereAt, IsUnmovedBefore, IsValueAt, Moment, TellsCommand, moment_of}
 use Rattle.hub_history.specs.Opening.{Pinned}
-use Rattle.hub_history.specs.Push.{JudgesAll, beside, beside_first, by_directory, by_refs, in_order, is_done, outcomes_in, refs_after, refs_left, together}
-use Rattle.hub_history.specs.State.{Repository, repository_at}
+use Rattle.hub_history.specs.Push.{JudgesAllAtPush, beside, beside_first, by_directory, by_refs, in_order, is_done, outcomes_in, refs_after, refs_left, together}
+use Rattle.hub_history.specs.State.{InForce, Repository, in_force, repository_at}
 use Rattle.hub_history.proofs.FirstAtOdds.{first_is_least}
 use Rattle.hub_history.proofs.HistoryLemmas.{beginning_legal, some_same}
 use Rattle.hub_history.proofs.JudgeLemmas.{is_by_refs, once_untold}
@@ -129,7 +129,7 @@ no_other refs c first is = by_case (same_id (value refs c.name) c.old) (same_id 
 
 -- ---- just before a command
 
-module _ (ps : Patterns) (now : Repository) (pinned : Pinned) (pack : List Content) (cs : List Command) (atomic : Bool) (js : List (Option Outcome)) (judges : JudgesAll ps pinned pack cs js)
+module _ (ps : Patterns) (force : InForce) (now : Repository) (pinned : Pinned) (pack : List Content) (cs : List Command) (atomic : Bool) (js : List (Option Outcome)) (judges : JudgesAllAtPush ps force pinned pack cs js)
     (nonzero : HasNoZero now.refs) (k : ℕ) (c : Command) (o : Outcome) (is : slice_get cs k ≡ Some c) (o_is : slice_get (outcomes_in now pack cs atomic js) k ≡ Some o) (by : is_by_refs o ≡ true) (own : (first : ℕ) → ¬ (o ≡ AtomicOther first)) where
   abbrev told : List Outcome
   told = outcomes_in now pack cs atomic js
@@ -145,10 +145,10 @@ module _ (ps : Patterns) (now : Repository) (pinned : Pinned) (pack : List Conte
   here = refs_at now.refs cs run k
 
   same : told ≡ together atomic run
-  same = told_together ps now pinned pack cs atomic js judges k o o_is by
+  same = told_together ps force now pinned pack cs atomic js judges k o o_is by
 
-  met : IsByRefs ps now pinned pack cs atomic js judges k c o
-  met = by_refs_at ps now pinned pack cs atomic js judges k c o is (own_ran ps now pinned pack cs atomic js judges k o o_is by own) by
+  met : IsByRefs ps force now pinned pack cs atomic js judges k c o
+  met = by_refs_at ps force now pinned pack cs atomic js judges k c o is (own_ran ps force now pinned pack cs atomic js judges k o o_is by own) by
 
   -- what has no refusal of its own was done in order
   ran_done : (i : ℕ) (d : Command) (o : Outcome) → slice_get cs i ≡ Some d → slice_get told i ≡ Some o → HasNoRefusal o → slice_get run i ≡ Some Done
@@ -158,12 +158,12 @@ module _ (ps : Patterns) (now : Repository) (pinned : Pinned) (pack : List Conte
       by_was (inr w) free = w.0
       by_was (inl ran) (inl done) = ran ∙ ap (λ (x : Outcome). Some x) done
       by_was (inl ran) (inr other) =
-          let by = by_refs_at ps now pinned pack cs atomic js judges i d (AtomicOther other.0) at (ran ∙ ap (λ (x : Outcome). Some x) other.1) refl in
+          let by = by_refs_at ps force now pinned pack cs atomic js judges i d (AtomicOther other.0) at (ran ∙ ap (λ (x : Outcome). Some x) other.1) refl in
           absurd (no_other (refs_at now.refs cs run i) d other.0 by.told_is)
 
   -- the only command for its ref
   once : (i : ℕ) (d : Command) → slice_get cs i ≡ Some d → slice_get run i ≡ Some Done → count_by (is_for d.name) cs ≤ 1
-  once i d at done = once_untold ps pinned pack cs d (by_refs_at ps now pinned pack cs atomic js judges i d Done at done refl).untold
+  once i d at done = once_untold ps force pinned pack cs d (by_refs_at ps force now pinned pack cs atomic js judges i d Done at done refl).untold
 
   -- the ref has its new value
   value_done : (i : ℕ) (d : Command) → i < k → slice_get cs i ≡ Some d → slice_get run i ≡ Some Done → value here d.name ≡ d.new
@@ -229,7 +229,7 @@ module _ (ps : Patterns) (now : Repository) (pinned : Pinned) (pack : List Conte
   -- no other command is for its ref
   unmoved : IsUnmovedBefore moment c.name
   unmoved id m =
-      let apart : is_for c.name m.command ≡ false = for_another cs m.place k m.command c m.earlier m.command_is is (once_untold ps pinned pack cs c met.untold) in
+      let apart : is_for c.name m.command ≡ false = for_another cs m.place k m.command c m.earlier m.command_is is (once_untold ps force pinned pack cs c met.untold) in
       let itself : is_for c.name m.command ≡ true = (bytes_decides c.name m.command.name).1 (sym m.for_ref) in
       cc
 
@@ -255,6 +255,9 @@ module _ (ps : Patterns) (ok : AreTrue ps) (admin : Name) (before : List Entry) 
   abbrev now_at : Repository
   now_at = repository_at (replay admin before) pinned.repo
 
+  abbrev force_at : InForce
+  force_at = in_force (replay admin before) pinned.repo
+
   nonzero_before : HasNoZero now_at.refs
   nonzero_before = nonzero_at ps ok admin before (beginning_legal admin before (entry ∷ []) legal) pinned.repo
 
@@ -262,10 +265,10 @@ module _ (ps : Patterns) (ok : AreTrue ps) (admin : Name) (before : List Entry) 
   directory_is r t =
       let due = due_here ps ok admin before entry legal t.place t.pack t.commands t.atomic t.outcomes t.made pinned t.is_push t.opening in
       subst (λ (os : List Outcome). IsInTheWay (record { refs = now_at.refs; commands = t.commands; outcomes = os; index = t.index }) command r) (sym due.told)
-      (in_the_way ps now_at pinned t.pack t.commands t.atomic due.judged due.judges nonzero_before t.index command (DirFile r) t.command_is (ap (λ (os : List Outcome). slice_get os t.index) (sym due.told) ∙ t.outcome_is) refl (λ first same. cc) r refl)
+      (in_the_way ps force_at now_at pinned t.pack t.commands t.atomic due.judged due.judges nonzero_before t.index command (DirFile r) t.command_is (ap (λ (os : List Outcome). slice_get os t.index) (sym due.told) ∙ t.outcome_is) refl (λ first same. cc) r refl)
 
   pub done_clear : (tells : TellsCommand admin before entry pinned command Done) → command.old ≡ zero_id → (q : Name) → IsThereAt (moment_of tells) q → ¬ AreAtOdds q command.name
   done_clear t create q =
       let due = due_here ps ok admin before entry legal t.place t.pack t.commands t.atomic t.outcomes t.made pinned t.is_push t.opening in
       subst (λ (os : List Outcome). IsThereAt (record { refs = now_at.refs; commands = t.commands; outcomes = os; index = t.index }) q → ¬ AreAtOdds q command.name) (sym due.told)
-      (none_in_the_way ps now_at pinned t.pack t.commands t.atomic due.judged due.judges nonzero_before t.index command Done t.command_is (ap (λ (os : List Outcome). slice_get os t.index) (sym due.told) ∙ t.outcome_is) refl (λ first same. cc) refl create q)
+      (none_in_the_way ps force_at now_at pinned t.pack t.commands t.atomic due.judged due.judges nonzero_before t.index command Done t.command_is (ap (λ (os : List Outcome). slice_get os t.index) (sym due.told) ∙ t.outcome_is) refl (λ first same. cc) refl create q)

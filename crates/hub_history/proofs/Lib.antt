@@ -20,4 +20,4 @@ mod InTheWay
 mod AnswerLemmas
 mod ConfLemmas
 pub mod RoleSets
-mod RoleLemmas
+pub mod RoleLemmas

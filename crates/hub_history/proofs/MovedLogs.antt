@@ -15,7 +15,8 @@ use Rattle.ref_store.specs.Refs.{Name, value}
 use Rattle.ref_store.specs.declared.command.Command.{Command}
 use Rattle.rule_compile.specs.Flat.{Flat}
 use Rattle.rule_compile.specs.Patterns.{AreTrue, Patterns}
-use Rattle.access_check.specs.Users.{asked}
+use Rattle.rule_compile.specs.declared.rule.Rule.{Rule}
+use Rattle.access_check.specs.Users.{Asked, asked}
 use Rattle.access_check.specs.declared.verdicts.Want.{Want}
 use Rattle.vref.specs.Facts.{AreFacts}
 use Rattle.update_check.specs.Laws.{ExactlyWhereLet, LetsBeMade}
@@ -36,12 +37,12 @@ use Rattle.hub_history.specs.Conf.{AreInForce}
 use Rattle.hub_history.specs.History.{History, IsDue, IsDueAfter, IsDuePush, IsLegal, after_push, history, made_empty, new_history, opening_at, push_change, replay, step}
 use Rattle.hub_history.specs.Laws.{TellsCommand, ref_in}
 use Rattle.hub_history.specs.Opening.{IsDueOpening, Pinned, made_by}
-use Rattle.hub_history.specs.Push.{Judges, Makes, conf_put, is_done, is_of_conf, outcome_of, outcomes_in, refs_left}
+use Rattle.hub_history.specs.Push.{JudgesAtPush, Makes, conf_put, is_done, is_of_conf, outcome_now, outcome_of, outcomes_in, refs_left}
 use Rattle.hub_history.specs.Roles.{given_by, roles_after}
-use Rattle.hub_history.specs.State.{CommitAmong, Repository, State, changed, empty_repository, placed_in, put_in_place, repository_at, wild_of}
+use Rattle.hub_history.specs.State.{CommitAmong, InForce, Repository, State, changed, empty_repository, in_force, placed_in, put_in_place, repository_at, wild_of}
 use Rattle.hub_history.proofs.GrowthLemmas.{AreLacking, made_anew, makes_lacking}
 use Rattle.hub_history.proofs.HistoryLemmas.{history_from-append, legal_behind}
-use Rattle.hub_history.proofs.JudgeLemmas.{untold}
+use Rattle.hub_history.proofs.JudgeLemmas.{IsUntold, untold}
 use Rattle.hub_history.proofs.MovedRefs.{changed_by, done_among, done_by_refs, done_is, done_met, none_done, stale_met}
 
 -- ---- names
@@ -191,6 +192,9 @@ module _ (ps : Patterns) (ok : AreTrue ps) (admin : Name) (before : List Entry) 
       ∙ ap (step (history admin before)) is_push
       ∙ ap (λ (o : Option Pinned). after_push state o pack cs os made) opening
 
+  abbrev pub force_here : InForce
+  force_here = in_force state pinned.repo
+
   abbrev due_outcomes : List Outcome
   due_outcomes = outcomes_in (repository_at state pinned.repo) pack cs atomic due_here.judged
 
@@ -200,7 +204,7 @@ module _ (ps : Patterns) (ok : AreTrue ps) (admin : Name) (before : List Entry) 
   pub done_here : (k : ℕ) (c : Command) → slice_get cs k ≡ Some c → slice_get os k ≡ Some Done
       → (ref_in state pinned.repo c.name ≡ c.old) × (ref_in (replay admin (before ++ entry ∷ [])) pinned.repo c.name ≡ c.new)
   done_here k c is done =
-      let met = done_met ps (repository_at state pinned.repo) pinned pack cs atomic due_here.judged due_here.judges k c is (at_told k Done done) in (
+      let met = done_met ps force_here (repository_at state pinned.repo) pinned pack cs atomic due_here.judged due_here.judges k c is (at_told k Done done) in (
         met.0,
         ap (λ (s : State). ref_in s pinned.repo c.name) step_here
             ∙ pushed_done state pinned pack cs os made (done_among os k done) c.name
@@ -209,11 +213,11 @@ module _ (ps : Patterns) (ok : AreTrue ps) (admin : Name) (before : List Entry) 
       )
 
   pub stale_here : (k : ℕ) (c : Command) (v : ObjectId) → slice_get cs k ≡ Some c → slice_get os k ≡ Some (Stale v) → (v ≡ ref_in state pinned.repo c.name) × ¬ (v ≡ c.old)
-  stale_here k c v is stale = stale_met ps (repository_at state pinned.repo) pinned pack cs atomic due_here.judged due_here.judges k c v is (at_told k (Stale v) stale)
+  stale_here k c v is stale = stale_met ps force_here (repository_at state pinned.repo) pinned pack cs atomic due_here.judged due_here.judges k c v is (at_told k (Stale v) stale)
 
-  -- the opening says nothing of a command that is done
-  pub untold_here : (k : ℕ) (c : Command) → slice_get cs k ≡ Some c → slice_get os k ≡ Some Done → Judges ps pinned pack cs c None
-  untold_here k c is done = (done_by_refs ps (repository_at state pinned.repo) pinned pack cs atomic due_here.judged due_here.judges k c is (at_told k Done done)).untold
+  -- neither the opening says anything of a command that is done nor the rules just before the push
+  pub untold_here : (k : ℕ) (c : Command) → slice_get cs k ≡ Some c → slice_get os k ≡ Some Done → JudgesAtPush ps force_here pinned pack cs c None
+  untold_here k c is done = (done_by_refs ps force_here (repository_at state pinned.repo) pinned pack cs atomic due_here.judged due_here.judges k c is (at_told k Done done)).untold
 
   abbrev ChangedBy : Name → Name → Type 0
   ChangedBy repo name = (p : Pinned) × (c : Command) × TellsCommand admin before entry p c Done × (p.repo ≡ repo) × (c.name ≡ name)
@@ -283,24 +287,44 @@ module _ (ps : Patterns) (ok : AreTrue ps) (admin : Name) (before : List Entry) 
       by_event (Permitted user to asked answer) is = same_step (Permitted user to asked answer) is (given_moves_none (replay admin before) to asked answer repo name)
       by_event (Looked user) is = same_step (Looked user) is refl
 
--- a command that is done was let be made
-pub done_let : ((ps : Patterns) (rules : List _) (a : _) (objects : List Content) (change : Command) → ExactlyWhereLet ps rules a objects change)
-    → (ps : Patterns) (ok : AreTrue ps) (admin : Name) (before : List Entry) (entry : Entry) (legal : IsLegal admin (before ++ entry ∷ [])) (pinned : Pinned) (command : Command) (t : TellsCommand admin before entry pinned command Done)
-    → (rules : Flat) × AreInForce ps pinned.conf rules × ((facts : Facts) → AreFacts (pinned.repository.objects ++ t.pack) command.name command.old command.new facts
-    → LetsBeMade ps rules.rules (asked ps rules (wild_of pinned.repository) pinned.repo pinned.user) (pinned.repository.objects ++ t.pack) command facts)
-done_let exactly ps ok admin before entry legal pinned command t =
-    let none = untold ps pinned t.pack t.commands command (untold_here ps ok admin before entry legal t.place t.pack t.commands t.atomic t.outcomes t.made pinned t.is_push t.opening t.index command t.command_is t.outcome_is) in
-    let rules = none.rules in (
-      rules.0,
-      rules.2,
-      λ facts are. (exactly ps rules.0.rules (asked ps rules.0 (wild_of pinned.repository) pinned.repo pinned.user) (pinned.repository.objects ++ t.pack) command).only facts are
-          (subst (λ (o : Option Refusal). RulesSay ps rules.0.rules (asked ps rules.0 (wild_of pinned.repository) pinned.repo pinned.user) (pinned.repository.objects ++ t.pack) command o) (none_refused rules.1 rules.4) rules.3),
-    )
-  where
-    none_refused : (o : Option Refusal) → None ≡ outcome_of o → o ≡ None
-    none_refused None is = refl
-    none_refused (Some (refusal.Denied verdict letter name)) is = absurd cc
-    none_refused (Some refusal.ManyPaths) is = absurd cc
+-- rules that say nothing of a change let it be made
+module _ (exactly : (ps : Patterns) (rules : List Rule) (a : Asked) (objects : List Content) (change : Command) → ExactlyWhereLet ps rules a objects change) (ps : Patterns) where
+  lets_silent : (rules : List Rule) (a : Asked) (objects : List Content) (change : Command) (refused : Option Refusal) → refused ≡ None → RulesSay ps rules a objects change refused
+      → (facts : Facts) → AreFacts objects change.name change.old change.new facts → LetsBeMade ps rules a objects change facts
+  lets_silent rules a objects change refused none says facts are = (exactly ps rules a objects change).only facts are (subst (RulesSay ps rules a objects change) none says)
+
+  none_refused : (o : Option Refusal) → None ≡ outcome_of o → o ≡ None
+  none_refused None is = refl
+  none_refused (Some (refusal.Denied verdict letter name)) is = absurd cc
+  none_refused (Some refusal.ManyPaths) is = absurd cc
+
+  none_refused_now : (o : Option Refusal) → None ≡ outcome_now o → o ≡ None
+  none_refused_now None is = refl
+  none_refused_now (Some (refusal.Denied verdict letter name)) is = absurd cc
+  none_refused_now (Some refusal.ManyPaths) is = absurd cc
+
+  -- a command that is done was let be made
+  module _ (ok : AreTrue ps) (admin : Name) (before : List Entry) (entry : Entry) (legal : IsLegal admin (before ++ entry ∷ [])) (pinned : Pinned) (command : Command) (t : TellsCommand admin before entry pinned command Done) where
+    abbrev objects : List Content
+    objects = pinned.repository.objects ++ t.pack
+
+    none_done_told : IsUntold ps (in_force (replay admin before) pinned.repo) pinned t.pack t.commands command
+    none_done_told =
+        untold ps (in_force (replay admin before) pinned.repo) pinned t.pack t.commands command (untold_here ps ok admin before entry legal t.place t.pack t.commands t.atomic t.outcomes t.made pinned t.is_push t.opening t.index command t.command_is t.outcome_is)
+
+    pub done_let :
+        (rules : Flat) × AreInForce ps pinned.conf rules × ((facts : Facts) → AreFacts objects command.name command.old command.new facts
+        → LetsBeMade ps rules.rules (asked ps rules (wild_of pinned.repository) pinned.repo pinned.user) objects command facts)
+    done_let =
+        let rules = none_done_told.rules in
+        (rules.0, rules.2, lets_silent rules.0.rules (asked ps rules.0 (wild_of pinned.repository) pinned.repo pinned.user) objects command rules.1 (none_refused rules.1 rules.4) rules.3)
+
+    pub done_let_now :
+        (rules : Flat) × AreInForce ps (replay admin before).conf rules × ((facts : Facts) → AreFacts objects command.name command.old command.new facts
+        → LetsBeMade ps rules.rules (asked ps rules (wild_of (repository_at (replay admin before) pinned.repo)) pinned.repo pinned.user) objects command facts)
+    done_let_now =
+        let rules = none_done_told.now in
+        (rules.0, rules.2, lets_silent rules.0.rules (asked ps rules.0 (wild_of (repository_at (replay admin before) pinned.repo)) pinned.repo pinned.user) objects command rules.1 (none_refused_now rules.1 rules.4) rules.3)
 
 pub refused_atomic : (ps : Patterns) (ok : AreTrue ps) (admin : Name) (before : List Entry) (caller place : ℕ) (pack : List Content) (commands : List Command) (outcomes : List Outcome) (made : List Name) (index : ℕ) (outcome : Outcome)
     → IsLegal admin (before ++ record { caller = caller; event = Pushed place pack commands true outcomes made } ∷ []) → slice_get outcomes index ≡ Some outcome → ¬ (outcome ≡ Done)

@@ -16,13 +16,13 @@ use Rattle.ref_store.specs.Refs.{Name, Refs, value, moved, zero_id, first_at_odd
 use Rattle.ref_store.proofs.ObjectLemmas.{id_is}
 use Rattle.rule_compile.specs.Patterns.{Patterns}
 use Rattle.hub_history.specs.declared.outcome.Outcome.{Outcome}
-use Rattle.hub_history.specs.declared.outcome.Outcome.TheVariants.{Done, BadName, Twice, NoChange, NotAdvertised, Missing, WrongKind, Denied, ManyPaths, ConfRefused, Stale, DirFile, AtomicOther, Collided, Full}
+use Rattle.hub_history.specs.declared.outcome.Outcome.TheVariants.{Done, BadName, Twice, NoChange, NotAdvertised, Missing, WrongKind, Denied, ManyPaths, ConfRefused, DeniedNow, ManyPathsNow, Stale, DirFile, AtomicOther, Collided, Full}
 use Rattle.hub_history.specs.Collision.{collision}
 use Rattle.hub_history.specs.Opening.{Pinned}
-use Rattle.hub_history.specs.State.{Repository, same_name}
-use Rattle.hub_history.specs.Push.{Judges, JudgesAll, beside, beside_first, by_directory, by_refs, in_order, is_done, outcomes_in, refs_after, refs_left, together, unless_collided, unless_full}
+use Rattle.hub_history.specs.State.{InForce, Repository, same_name}
+use Rattle.hub_history.specs.Push.{JudgesAllAtPush, JudgesAtPush, beside, beside_first, by_directory, by_refs, in_order, is_done, outcomes_in, refs_after, refs_left, together, unless_collided, unless_full}
 use Rattle.hub_history.proofs.HistoryLemmas.{some_same}
-use Rattle.hub_history.proofs.JudgeLemmas.{by_opening, is_by_refs, judged_at, once_untold}
+use Rattle.hub_history.proofs.JudgeLemmas.{before_refs, is_by_refs, judged_at, once_untold}
 use Rattle.hub_history.proofs.PushLemmas.{done_in_order, none_alike, none_beside}
 
 -- ---- one ref
@@ -69,6 +69,8 @@ done_is (WrongKind id) is = cc
 done_is (Denied verdict letter name) is = cc
 done_is ManyPaths is = cc
 done_is (ConfRefused fault) is = cc
+done_is (DeniedNow verdict letter name) is = cc
+done_is ManyPathsNow is = cc
 done_is (Stale id) is = cc
 done_is (DirFile r) is = cc
 done_is (AtomicOther i) is = cc
@@ -234,16 +236,16 @@ was_alone true os k o is = by_first (position (λ x. not (is_done x)) os) is
     by_first None is = inl is
     by_first (Some first) is = among first os k is
 
-module _ (ps : Patterns) (now : Repository) (pinned : Pinned) (pack : List Content) (cs : List Command) (atomic : Bool) (js : List (Option Outcome)) (judges : JudgesAll ps pinned pack cs js) where
+module _ (ps : Patterns) (force : InForce) (now : Repository) (pinned : Pinned) (pack : List Content) (cs : List Command) (atomic : Bool) (js : List (Option Outcome)) (judges : JudgesAllAtPush ps force pinned pack cs js) where
   abbrev told : List Outcome
   told = outcomes_in now pack cs atomic js
 
   abbrev run : List Outcome
   run = in_order now.refs cs js
 
-  -- An outcome that is told by the refs is of a command of which the opening says nothing, so of the only one for its ref, and is told by the refs at its turn, where this has the value that it had at first
+  -- An outcome that is told by the refs is of a command of which neither the opening says anything nor the rules just before the push, so of the only one for its ref, and is told by the refs at its turn, where this has the value that it had at first
   pub record IsByRefs (k : ℕ) (c : Command) (o : Outcome) : Type 0 where
-    pub untold : Judges ps pinned pack cs c None
+    pub untold : JudgesAtPush ps force pinned pack cs c None
     pub same : value (refs_at now.refs cs run k) c.name ≡ value now.refs c.name
     pub told_is : o ≡ by_refs (refs_at now.refs cs run k) c None
 
@@ -255,12 +257,12 @@ module _ (ps : Patterns) (now : Repository) (pinned : Pinned) (pack : List Conte
 
       go : (j : Option Outcome) → slice_get js k ≡ Some j → ((x : Outcome) → j ≡ Some x → x ≡ o) → IsByRefs k c o
       go (Some x) e same =
-          let here : Judges ps pinned pack cs c (Some x) = judged_at (Judges ps pinned pack cs) cs js judges k c (Some x) is e in
-          let fails : is_by_refs o ≡ false = ap is_by_refs (sym (same x refl)) ∙ by_opening ps pinned pack cs c (Some x) here in
+          let here : JudgesAtPush ps force pinned pack cs c (Some x) = judged_at (JudgesAtPush ps force pinned pack cs) cs js judges k c (Some x) is e in
+          let fails : is_by_refs o ≡ false = ap is_by_refs (sym (same x refl)) ∙ before_refs ps force pinned pack cs c (Some x) here in
           absurd (let bad : true ≡ false = sym by ∙ fails in cc)
       go None e same =
-          let here : Judges ps pinned pack cs c None = judged_at (Judges ps pinned pack cs) cs js judges k c None is e in
-          let met = met_at now.refs cs js k c o (once_untold ps pinned pack cs c here) is ran in
+          let here : JudgesAtPush ps force pinned pack cs c None = judged_at (JudgesAtPush ps force pinned pack cs) cs js judges k c None is e in
+          let met = met_at now.refs cs js k c o (once_untold ps force pinned pack cs c here) is ran in
           let none : met.0 ≡ None = some_same (sym met.1 ∙ e) in
           record { untold = here; same = met.2; told_is = met.3 ∙ ap (by_refs (refs_at now.refs cs run k) c) none }
 
@@ -274,7 +276,7 @@ module _ (ps : Patterns) (now : Repository) (pinned : Pinned) (pack : List Conte
   pub done_met : (k : ℕ) (c : Command) → slice_get cs k ≡ Some c → slice_get told k ≡ Some Done → (value now.refs c.name ≡ c.old) × (value (refs_left now.refs cs told) c.name ≡ c.new)
   done_met k c is done =
       let met = done_by_refs k c is done in
-      (sym met.same ∙ met_done (refs_at now.refs cs run k) c met.told_is, left_at now.refs cs told k c (once_untold ps pinned pack cs c met.untold) is done)
+      (sym met.same ∙ met_done (refs_at now.refs cs run k) c met.told_is, left_at now.refs cs told k c (once_untold ps force pinned pack cs c met.untold) is done)
 
   -- where one is told by the refs or beside another's refusal, the outcomes are those in order, together
   pub told_together : (k : ℕ) (o : Outcome) → slice_get told k ≡ Some o → is_by_refs o ≡ true → told ≡ together atomic run

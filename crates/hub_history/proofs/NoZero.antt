@@ -39,7 +39,7 @@ abbrev IsNonzero : Repository → Type 0
 IsNonzero repository = HasNoZero repository.refs
 
 nonzero-pushed : IsKept IsNonzero
-nonzero-pushed ps now pinned pack commands atomic judged within fit judges nonzero done = nonzero-left now.refs commands (outcomes_in now pack commands atomic judged) nonzero
+nonzero-pushed ps force now pinned pack commands atomic judged within fit judges nonzero done = nonzero-left now.refs commands (outcomes_in now pack commands atomic judged) nonzero
 
 module _ (ps : Patterns) (ok : AreTrue ps) where
   replayed_nonzero : (admin : Name) (log : List Entry) → IsLegal admin log → Each IsNonzero (replay admin log).repositories

@@ -17,7 +17,7 @@ none_there : HasNamesOnce []
 none_there i j d lt bound same = absurd (omega (arith, bound))
 
 once-pushed : IsKept IsOnce
-once-pushed ps now pinned pack commands atomic judged within fit judges once done = once-with_pack now.objects pack once
+once-pushed ps force now pinned pack commands atomic judged within fit judges once done = once-with_pack now.objects pack once
 
 module _ (ps : Patterns) (ok : AreTrue ps) where
   replayed_once : (admin : Name) (log : List Entry) → IsLegal admin log → Each IsOnce (replay admin log).repositories

@@ -9,7 +9,7 @@ use Rattle.ref_store.specs.Objects.{with_pack}
 use Rattle.ref_store.specs.Refs.{Refs}
 use Rattle.ref_store.specs.declared.command.Command.{Command}
 use Rattle.hub_history.specs.declared.outcome.Outcome.{Outcome}
-use Rattle.hub_history.specs.declared.outcome.Outcome.TheVariants.{Done, BadName, Twice, NoChange, NotAdvertised, Missing, WrongKind, Denied, ManyPaths, ConfRefused, Stale, DirFile, AtomicOther, Collided, Full}
+use Rattle.hub_history.specs.declared.outcome.Outcome.TheVariants.{Done, BadName, Twice, NoChange, NotAdvertised, Missing, WrongKind, Denied, ManyPaths, ConfRefused, DeniedNow, ManyPathsNow, Stale, DirFile, AtomicOther, Collided, Full}
 use Rattle.hub_history.specs.Collision.{collision}
 use Rattle.hub_history.specs.State.{Repository}
 use Rattle.hub_history.specs.Push.{beside, beside_first, by_refs, in_order, is_done, outcomes_in, refs_after, together, unless_collided, unless_full}
@@ -30,6 +30,8 @@ none_beside first (WrongKind id ∷ os) = none_beside first os
 none_beside first (Denied verdict letter name ∷ os) = none_beside first os
 none_beside first (ManyPaths ∷ os) = none_beside first os
 none_beside first (ConfRefused fault ∷ os) = none_beside first os
+none_beside first (DeniedNow verdict letter name ∷ os) = none_beside first os
+none_beside first (ManyPathsNow ∷ os) = none_beside first os
 none_beside first (Stale id ∷ os) = none_beside first os
 none_beside first (DirFile r ∷ os) = none_beside first os
 none_beside first (AtomicOther i ∷ os) = none_beside first os

@@ -20,7 +20,7 @@ use Rattle.hub_history.specs.Push.{by_directory, by_refs, in_order, refs_after, 
 use Rattle.hub_history.specs.History.{IsLegal, replay}
 use Rattle.hub_history.specs.Laws.{OfEachRepository}
 use Rattle.hub_history.proofs.PushLemmas.{done_in_order}
-use Rattle.hub_history.proofs.JudgeLemmas.{AllJudged, IsRefused, all_along, by_opening, refused}
+use Rattle.hub_history.proofs.JudgeLemmas.{AllJudged, IsRefused, all_along, before_refs, refused}
 use Rattle.hub_history.proofs.EachRepository.{Each, IsKept, each_pinned, each_replayed}
 
 -- I. Where the first ref at odds with a name is none, no ref is
@@ -66,9 +66,9 @@ abbrev IsApart : Repository → Type 0
 IsApart repository = HasRefsApart repository.refs
 
 apart-pushed : IsKept IsApart
-apart-pushed ps now pinned pack commands atomic judged within fit judges apart done =
+apart-pushed ps force now pinned pack commands atomic judged within fit judges apart done =
     subst (λ (os : List Outcome). HasRefsApart (refs_left now.refs commands os)) (sym (done_in_order now pack commands atomic judged done).1)
-    (apart-left now.refs commands judged (all_along (λ c o is. refused o (by_opening ps pinned pack commands c o is)) commands judged judges) apart)
+    (apart-left now.refs commands judged (all_along (λ c o is. refused o (before_refs ps force pinned pack commands c o is)) commands judged judges) apart)
 
 module _ (ps : Patterns) (ok : AreTrue ps) where
   replayed_apart : (admin : Name) (log : List Entry) → IsLegal admin log → Each IsApart (replay admin log).repositories

@@ -60,7 +60,7 @@ set_after repository change.List set = set
 
 module _ (ps : Patterns) (ok : AreTrue ps) where
   sets_replayed : (admin : Name) (log : List Entry) → IsLegal admin log → Each HasRoleSet (replay admin log).repositories
-  sets_replayed = each_replayed HasRoleSet ps ok (λ creator. tt) set_after (λ ps now pinned pack commands atomic judged within fit judges set done. set)
+  sets_replayed = each_replayed HasRoleSet ps ok (λ creator. tt) set_after (λ ps force now pinned pack commands atomic judged within fit judges set done. set)
 
   pub roles_sets : OfEachRepository (λ repository. IsRoleSet repository.roles)
   roles_sets admin log legal = (
@@ -88,7 +88,7 @@ module _ {X : Type 0} (part : Repository → X) where
           ap part after_is ∙ alike user ∙ ap part (sym before_is)
 
   -- what a push leaves of a part that has neither objects nor refs
-  push_keeps : ((r : Repository) (objects : List Content) (refs : Refs) → part (record r { objects = objects; refs = refs }) ≡ part r)
+  pub push_keeps : ((r : Repository) (objects : List Content) (refs : Refs) → part (record r { objects = objects; refs = refs }) ≡ part r)
       → (state : State) (pinned : Pinned) (pack : List Content) (cs : List Command) (os : List Outcome) (made : List Name) → AreLacking state made
       → (q : Name) → part (found_in (changed state (push_change state pinned pack cs os made)).repositories q) ≡ part (found_in state.repositories q)
   unfolding push_change
@@ -111,7 +111,7 @@ module _ {X : Type 0} (part : Repository → X) where
       by_done false = ap part (made_none state made lacking q)
 
 -- a change of roles of one repository leaves each other
-given_apart : (state : State) (repo : Name) (asked : PermChange) (answer : PermsKept) (q : Name) → eq_by_cmp (slice_cmp nat_cmp) q repo ≡ false
+pub given_apart : (state : State) (repo : Name) (asked : PermChange) (answer : PermsKept) (q : Name) → eq_by_cmp (slice_cmp nat_cmp) q repo ≡ false
     → found_in (changed state (given_by state repo asked answer)).repositories q ≡ found_in state.repositories q
 given_apart state repo asked AlreadySo q apart = refl
 given_apart state repo asked NotWild q apart = refl

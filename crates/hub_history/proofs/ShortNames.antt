@@ -88,7 +88,7 @@ abbrev IsShortNamed : Repository → Type 0
 IsShortNamed repository = HasShort repository.refs
 
 short-pushed : IsKept IsShortNamed
-short-pushed ps now pinned pack commands atomic judged within fit judges short done = short-left now.refs commands (outcomes_in now pack commands atomic judged) within.short short
+short-pushed ps force now pinned pack commands atomic judged within fit judges short done = short-left now.refs commands (outcomes_in now pack commands atomic judged) within.short short
 
 module _ (ps : Patterns) (ok : AreTrue ps) where
   replayed_short : (admin : Name) (log : List Entry) → IsLegal admin log → Each IsShortNamed (replay admin log).repositories

@@ -19,7 +19,7 @@ use Rattle.hub_history.specs.History.{History, IsDue, IsDueAfter, IsLegal, Stand
 use Rattle.hub_history.specs.Laws.{OfEachRepository}
 use Rattle.hub_history.specs.Opening.{Opening, Pinned, pins}
 use Rattle.hub_history.specs.Push.{HasWholeRefs, is_done, refs_left}
-use Rattle.hub_history.specs.State.{State, empty_repository, repository_at}
+use Rattle.hub_history.specs.State.{State, empty_repository, in_force, repository_at}
 use Rattle.hub_history.proofs.EachRepository.{Each, each-given, each-opening, each-push, each-start, each_at, each_pinned}
 use Rattle.hub_history.proofs.GrowthLemmas.{Grows, begins_itself, begins_through, grows-step, objects_follow}
 use Rattle.hub_history.proofs.HistoryLemmas.{history-keeps}
@@ -69,7 +69,7 @@ module _ (ps : Patterns) where
       by_opening (Some pinned) is due =
           each-push HasWholeRefs h.state pinned pack commands outcomes made (whole_empty None)
           (λ done. subst (λ (os : List Outcome). WholeIn (with_pack (repository_at h.state pinned.repo).objects pack) (refs_left (repository_at h.state pinned.repo).refs commands os)) (sym due.told)
-          (whole_pushed ps (repository_at h.state pinned.repo) pinned pack commands atomic due.judged due.judges (held.1 place pinned is) (each_at HasWholeRefs h.state pinned.repo (whole_empty None) held.0)
+          (whole_pushed ps (in_force h.state pinned.repo) (repository_at h.state pinned.repo) pinned pack commands atomic due.judged due.judges (held.1 place pinned is) (each_at HasWholeRefs h.state pinned.repo (whole_empty None) held.0)
           (subst (λ (os : List Outcome). list_any is_done os ≡ true) due.told done))) held.0
   each_step h (Permitted user repo asked answer) due held = each-given HasWholeRefs (λ repository roles whole. whole) h.state repo asked answer (whole_empty None) held.0
   each_step h (Looked user) due held = held.0

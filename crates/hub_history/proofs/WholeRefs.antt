@@ -15,12 +15,12 @@ use Rattle.ancestry.specs.Wholeness.{missing, wrong}
 use Rattle.rule_compile.specs.Patterns.{Patterns}
 use Rattle.hub_history.specs.declared.outcome.Outcome.{Outcome}
 use Rattle.hub_history.specs.Collision.{collision}
-use Rattle.hub_history.specs.State.{Repository}
+use Rattle.hub_history.specs.State.{InForce, Repository}
 use Rattle.hub_history.specs.Opening.{Pinned}
-use Rattle.hub_history.specs.Push.{HasWholeRefs, Judges, JudgesAll, by_refs, by_walk, in_order, is_done, kind_at, outcomes_in, refs_after, refs_left}
+use Rattle.hub_history.specs.Push.{HasWholeRefs, JudgesAllAtPush, JudgesAtPush, by_refs, by_walk, in_order, is_done, kind_at, outcomes_in, refs_after, refs_left}
 use Rattle.hub_history.proofs.HistoryLemmas.{some_same}
 use Rattle.hub_history.proofs.PushLemmas.{done_in_order}
-use Rattle.hub_history.proofs.JudgeLemmas.{AllJudged, all_along, by_opening, not_done, untold}
+use Rattle.hub_history.proofs.JudgeLemmas.{AllJudged, all_along, before_refs, not_done, untold}
 use Rattle.hub_history.proofs.GrownObjects.{Extends, IsWhole, extends_beginning, extends_pack, whole_grows}
 
 -- I. The refs that a push leaves
@@ -33,10 +33,10 @@ abbrev Moves : List Content → Command → Option Outcome → Type 0
 Moves objects c None = (same_id c.new zero_id ≡ true) ⊎ IsWhole objects c.new (kind_at c.name)
 Moves objects c (Some outcome) = is_done outcome ≡ false
 
--- a command of which the opening says nothing
-judged_moves : (ps : Patterns) (pinned : Pinned) (pack : List Content) (cs : List Command) (c : Command) (found : Option Outcome) → Judges ps pinned pack cs c found → Moves (pinned.repository.objects ++ pack) c found
-judged_moves ps pinned pack cs c (Some o) judges = not_done o (by_opening ps pinned pack cs c (Some o) judges)
-judged_moves ps pinned pack cs c None judges = by_zero (same_id c.new zero_id) (missing (pinned.repository.objects ++ pack) c.new (kind_at c.name)) (wrong (pinned.repository.objects ++ pack) c.new (kind_at c.name)) refl refl refl (untold ps pinned pack cs c judges).value
+-- a command of which nothing is said before the refs are asked
+judged_moves : (ps : Patterns) (force : InForce) (pinned : Pinned) (pack : List Content) (cs : List Command) (c : Command) (found : Option Outcome) → JudgesAtPush ps force pinned pack cs c found → Moves (pinned.repository.objects ++ pack) c found
+judged_moves ps force pinned pack cs c (Some o) judges = not_done o (before_refs ps force pinned pack cs c (Some o) judges)
+judged_moves ps force pinned pack cs c None judges = by_zero (same_id c.new zero_id) (missing (pinned.repository.objects ++ pack) c.new (kind_at c.name)) (wrong (pinned.repository.objects ++ pack) c.new (kind_at c.name)) refl refl refl (untold ps force pinned pack cs c judges).value
   where
     by_zero : (z : Bool) (m w : Option ObjectId) → same_id c.new zero_id ≡ z → missing (pinned.repository.objects ++ pack) c.new (kind_at c.name) ≡ m → wrong (pinned.repository.objects ++ pack) c.new (kind_at c.name) ≡ w
         → None ≡ cond z None (by_walk m w) → Moves (pinned.repository.objects ++ pack) c None
@@ -91,10 +91,10 @@ module _ (objects : List Content) where
 abbrev pub Begins : List Content → List Content → Type 0
 Begins old new = (more : List Content) × (new ≡ old ++ more)
 
-pub whole_pushed : (ps : Patterns) (now : Repository) (pinned : Pinned) (pack : List Content) (cs : List Command) (atomic : Bool) (js : List (Option Outcome)) → JudgesAll ps pinned pack cs js → Begins pinned.repository.objects now.objects → HasWholeRefs now
+pub whole_pushed : (ps : Patterns) (force : InForce) (now : Repository) (pinned : Pinned) (pack : List Content) (cs : List Command) (atomic : Bool) (js : List (Option Outcome)) → JudgesAllAtPush ps force pinned pack cs js → Begins pinned.repository.objects now.objects → HasWholeRefs now
     → list_any is_done (outcomes_in now pack cs atomic js) ≡ true
     → WholeIn (with_pack now.objects pack) (refs_left now.refs cs (outcomes_in now pack cs atomic js))
-whole_pushed ps now pinned pack cs atomic js judges begins whole done =
+whole_pushed ps force now pinned pack cs atomic js judges begins whole done =
     let ran = done_in_order now pack cs atomic js done in
     let apart : collision (pinned.repository.objects ++ begins.0) pack ≡ None = ap (λ os. collision os pack) (sym begins.1) ∙ ran.0 in
     let extends : Extends (pinned.repository.objects ++ pack) (with_pack now.objects pack) =
@@ -102,4 +102,4 @@ whole_pushed ps now pinned pack cs atomic js judges begins whole done =
     let kept : WholeIn (with_pack now.objects pack) now.refs = λ name id is. whole_grows now.objects (with_pack now.objects pack) (extends_pack now.objects pack) id (kind_at name) (whole name id is) in
     subst (λ (os : List Outcome). WholeIn (with_pack now.objects pack) (refs_left now.refs cs os)) (sym ran.1)
     (whole-left (with_pack now.objects pack) now.refs cs js
-    (all_along (λ c o is. moves_grow (pinned.repository.objects ++ pack) (with_pack now.objects pack) extends c o (judged_moves ps pinned pack cs c o is)) cs js judges) kept)
+    (all_along (λ c o is. moves_grow (pinned.repository.objects ++ pack) (with_pack now.objects pack) extends c o (judged_moves ps force pinned pack cs c o is)) cs js judges) kept)

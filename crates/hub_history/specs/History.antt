@@ -15,9 +15,9 @@ use Rattle.hub_history.specs.declared.entry.Event.TheVariants.{Entered, Pushed, 
 use Rattle.hub_history.specs.declared.entry.PermChange.{PermChange}
 use Rattle.hub_history.specs.declared.entry.PermChange.TheVariants as change
 use Rattle.hub_history.specs.Opening.{IsDueOpening, Opening, Pinned, made_by, pins}
-use Rattle.hub_history.specs.Push.{AreWithinLimits, JudgesAll, Makes, conf_put, repository_left, outcomes_in}
+use Rattle.hub_history.specs.Push.{AreWithinLimits, JudgesAllAtPush, Makes, conf_put, repository_left, outcomes_in}
 use Rattle.hub_history.specs.Roles.{IsDueChange, given_by}
-use Rattle.hub_history.specs.State.{Change, Repository, State, changed, empty_repository, put_in_place, repository_at, start}
+use Rattle.hub_history.specs.State.{Change, Repository, State, changed, empty_repository, in_force, put_in_place, repository_at, start}
 
 -- what a log has led to: the state, and at each place of the log what the opening there pinned, if one stands there that pins
 pub record History : Type 0 where
@@ -90,7 +90,7 @@ pub record IsDuePush (patterns : Patterns) (state : State) (pinned : Pinned) (pa
   pub within : AreWithinLimits commands
   pub fit : FitOnePack pack
   pub judged : List (Option Outcome)
-  pub judges : JudgesAll patterns pinned pack commands judged
+  pub judges : JudgesAllAtPush patterns (in_force state pinned.repo) pinned pack commands judged
   pub told : outcomes ≡ outcomes_in (repository_at state pinned.repo) pack commands atomic judged
   pub makes : Makes patterns state (conf_put pinned pack commands outcomes) made
 

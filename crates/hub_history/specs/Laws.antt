@@ -134,6 +134,14 @@ DoneIsLet =
     → (rules : Flat) × AreInForce patterns pinned.conf rules × ((facts : Facts) → AreFacts (pinned.repository.objects ++ tells.pack) command.name command.old command.new facts
     → LetsBeMade patterns rules.rules (asked patterns rules (wild_of pinned.repository) pinned.repo pinned.user) (pinned.repository.objects ++ tells.pack) command facts)
 
+-- So it was by the rules in force just before the push, by the creator and the roles that the repository had then.
+abbrev pub DoneIsLetNow : Type 0
+DoneIsLetNow =
+    (admin : Name) (before : List Entry) (entry : Entry) (pinned : Pinned) (command : Command) → IsLegal admin (before ++ entry ∷ [])
+    → (tells : TellsCommand admin before entry pinned command Done) → (patterns : Patterns) → AreTrue patterns
+    → (rules : Flat) × AreInForce patterns (replay admin before).conf rules × ((facts : Facts) → AreFacts (pinned.repository.objects ++ tells.pack) command.name command.old command.new facts
+    → LetsBeMade patterns rules.rules (asked patterns rules (wild_of (repository_at (replay admin before) pinned.repo)) pinned.repo pinned.user) (pinned.repository.objects ++ tells.pack) command facts)
+
 -- a command that is done moves its ref from the old value, which that had just before the push, to the new one
 abbrev pub DoneMoves : Type 0
 DoneMoves =

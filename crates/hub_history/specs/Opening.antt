@@ -12,7 +12,7 @@ use Rattle.access_check.specs.declared.verdicts.Want.{Want}
 use Rattle.hub_history.specs.declared.entry.EnterKept.{EnterKept}
 use Rattle.hub_history.specs.declared.entry.EnterKept.TheVariants.{Granted, Created, Denied, NoRepo}
 use Rattle.hub_history.specs.Conf.{AreInForce}
-use Rattle.hub_history.specs.State.{Change, Conf, Repository, State, empty_repository, no_change, put_in_place, repository_at, wild_of}
+use Rattle.hub_history.specs.State.{Change, Conf, InForce, Repository, State, empty_repository, no_change, put_in_place, repository_at, wild_of}
 
 -- ---- answers
 
@@ -60,6 +60,10 @@ pub record Pinned : Type 0 where
 
 abbrev pub pinned_in : State → Name → Name → Want → Pinned
 pinned_in state user repo want = record { user = user; repo = repo; want = want; conf = state.conf; repository = repository_at state repo }
+
+-- what was in force at an opening for the repository that was opened
+abbrev pub pinned_in_force : Pinned → InForce
+pinned_in_force pinned = record { conf = pinned.conf; wild = wild_of pinned.repository }
 
 -- what an opening with this answer pins of the state after it
 abbrev pub pins : State → Name → Name → Want → EnterKept → Option Pinned

@@ -20,11 +20,11 @@ use Rattle.update_check.specs.Table.{End, First}
 use Rattle.update_check.specs.declared.refusal.Refusal.{Refusal}
 use Rattle.update_check.specs.declared.refusal.Refusal.TheVariants as refusal
 use Rattle.hub_history.specs.declared.outcome.Outcome.{Outcome}
-use Rattle.hub_history.specs.declared.outcome.Outcome.TheVariants.{Done, BadName, Twice, NoChange, NotAdvertised, Missing, WrongKind, Denied, ManyPaths, ConfRefused, Stale, DirFile, AtomicOther, Collided, Full}
+use Rattle.hub_history.specs.declared.outcome.Outcome.TheVariants.{Done, BadName, Twice, NoChange, NotAdvertised, Missing, WrongKind, Denied, ManyPaths, ConfRefused, DeniedNow, ManyPathsNow, Stale, DirFile, AtomicOther, Collided, Full}
 use Rattle.hub_history.specs.Collision.{collision}
 use Rattle.hub_history.specs.Conf.{AreInForce, ComesTo}
 use Rattle.hub_history.specs.Opening.{Pinned}
-use Rattle.hub_history.specs.State.{CommitAmong, Repository, State, conf_branch, conf_repository, same_name, wild_of}
+use Rattle.hub_history.specs.State.{CommitAmong, InForce, Repository, State, conf_branch, conf_repository, same_name, wild_of}
 
 -- a push has 1 to 10,000 commands, each with a text of at most 1,024 bytes for its ref
 pub record AreWithinLimits (commands : List Command) : Type 0 where
@@ -111,7 +111,30 @@ Judges patterns pinned pack commands command found =
 abbrev pub JudgesAll : Patterns → Pinned → List Content → List Command → List (Option Outcome) → Type 0
 JudgesAll patterns pinned pack commands found = AllZip (Judges patterns pinned pack commands) commands found
 
--- II. By the refs just before, as the push's earlier commands leave them
+-- II. By the rules just before the push too: a change that they don't let be made, for who opened the repository, is refused as well
+
+abbrev pub outcome_now : Option Refusal → Option Outcome
+outcome_now None = None
+outcome_now (Some (refusal.Denied verdict letter name)) = Some (DeniedNow verdict letter name)
+outcome_now (Some refusal.ManyPaths) = Some ManyPathsNow
+
+abbrev pub ByRulesNow : Patterns → InForce → Pinned → List Content → Command → Option Outcome → Type 0
+ByRulesNow patterns now pinned objects command said =
+    (rules : Flat) × (refused : Option Refusal) × AreInForce patterns now.conf rules
+    × RulesSay patterns rules.rules (asked patterns rules now.wild pinned.repo pinned.user) objects command refused × (said ≡ outcome_now refused)
+
+-- the outcome of one command by the opening and by what is in force just before the push, if there is one: the first of these
+abbrev pub JudgesAtPush : Patterns → InForce → Pinned → List Content → List Command → Command → Option Outcome → Type 0
+JudgesAtPush patterns now pinned pack commands command found =
+    First (Judges patterns pinned pack commands command)
+    (First (ByRulesNow patterns now pinned (pinned.repository.objects ++ pack) command)
+    End) found
+
+-- the outcomes of all commands by both
+abbrev pub JudgesAllAtPush : Patterns → InForce → Pinned → List Content → List Command → List (Option Outcome) → Type 0
+JudgesAllAtPush patterns now pinned pack commands found = AllZip (JudgesAtPush patterns now pinned pack commands) commands found
+
+-- III. By the refs just before, as the push's earlier commands leave them
 
 -- a create beside a ref that is a directory of it or stands below it
 abbrev pub by_directory : Option Name → Outcome
@@ -145,6 +168,8 @@ outcome_number (Stale id) = 11
 outcome_number (DirFile r) = 12
 outcome_number (AtomicOther place) = 13
 outcome_number (Collided id) = 14
+outcome_number (DeniedNow verdict letter name) = 15
+outcome_number ManyPathsNow = 16
 outcome_number (Full count) = 17
 
 -- a command that is done moves its ref
@@ -157,7 +182,7 @@ in_order refs [] judgements = []
 in_order refs (c ∷ cs) [] = []
 in_order refs (c ∷ cs) (j ∷ js) = by_refs refs c j ∷ in_order (refs_after refs c (by_refs refs c j)) cs js
 
--- III. Together, where the push is atomic
+-- IV. Together, where the push is atomic
 
 -- what a command is told beside the first refusal
 abbrev pub beside : ℕ → Outcome → Outcome
@@ -171,7 +196,7 @@ beside_first (Some first) outcomes = map (beside first) outcomes
 abbrev pub together : Bool → List Outcome → List Outcome
 together atomic outcomes = if atomic then beside_first (position (λ o. not (is_done o)) outcomes) outcomes else outcomes
 
--- IV. Before all of that: an object that differs from one of its name, and too many objects. Then every command is told so
+-- V. Before all of that: an object that differs from one of its name, and too many objects. Then every command is told so
 
 abbrev pub unless_collided : Option ObjectId → List Command → List Outcome → List Outcome
 unless_collided (Some id) commands outcomes = map (λ c. Collided id) commands
@@ -187,7 +212,7 @@ outcomes_in now pack commands atomic judgements =
     (unless_full (length (with_pack now.objects pack)) commands
     (together atomic (in_order now.refs commands judgements)))
 
--- V. What the outcomes leave
+-- VI. What the outcomes leave
 
 abbrev pub refs_left : Refs → List Command → List Outcome → Refs
 refs_left refs [] outcomes = refs

@@ -53,6 +53,15 @@ pub record State : Type 0 where
 abbrev pub repository_at : State → Name → Repository
 repository_at state name = unwrap_or (get state.repositories name) (empty_repository None)
 
+-- What is in force for a repository: the conf, and who created the repository and who holds which role in it
+pub record InForce : Type 0 where
+  pub conf : Conf
+  pub wild : WildView
+
+-- what a state has of it
+abbrev pub in_force : State → Name → InForce
+in_force state name = record { conf = state.conf; wild = wild_of (repository_at state name) }
+
 -- how many refs all repositories have together
 unfoldable pub ref_count : State → ℕ
 ref_count state = sum_by (λ (e : Name × Repository). len e.1.refs) (entries state.repositories)

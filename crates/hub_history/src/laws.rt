@@ -1,5 +1,5 @@
 // What holds of the definitions themselves.
-ghost use Rattle.hub_history.specs.Laws.{BeginningIsLegal, ChangesAreDone, ConfChangesAreDone, ConfStaysGood, DirFileIsInTheWay, DoneHasNoneInTheWay, DoneIsLet, DoneMoves, LegalByPlaces, NamesStayOnce, NamesStayShort, ObjectsAreFormed, ObjectsOnlyGrow, OneAnswer, OpeningStays, PinsAreOfOpenings, PinsOfItsPlace, RefsStayApart, RefsStayNonzero, RefsStayWhole, RefusedAtomicChangesNothing, RepositoriesStay, StaleIsStale, StateStays};
+ghost use Rattle.hub_history.specs.Laws.{BeginningIsLegal, ChangesAreDone, ConfChangesAreDone, ConfStaysGood, DirFileIsInTheWay, DoneHasNoneInTheWay, DoneIsLet, DoneIsLetNow, DoneMoves, LegalByPlaces, NamesStayOnce, NamesStayShort, ObjectsAreFormed, ObjectsOnlyGrow, OneAnswer, OpeningStays, PinsAreOfOpenings, PinsOfItsPlace, RefsStayApart, RefsStayNonzero, RefsStayWhole, RefusedAtomicChangesNothing, RepositoriesStay, StaleIsStale, StateStays};
 ghost use Rattle.hub_history.specs.RoleLaws.{AnswersTellOfRoles, ChangesAreOfOneRole, CreatedIsNew, CreatorsOpened, NewIsEmpty, RolesChangeThere, RolesStaySets, UndeclaredStay};
 
 use rule_compile::some_patterns_are_true;
@@ -21,6 +21,7 @@ pub fn hold_laws()
     ensures grow { ObjectsOnlyGrow }
     ensures there { RepositoriesStay }
     ensures allowed { DoneIsLet }
+    ensures allowed_now { DoneIsLetNow }
     ensures moves { DoneMoves }
     ensures changes { ChangesAreDone }
     ensures stale { StaleIsStale }

@@ -26,16 +26,24 @@ pub enum Outcome {
     Missing(ObjectId),
     /// The new value leads to this object, which isn't of the kind that is wanted of it there. Of several it is the least.
     WrongKind(ObjectId),
-    /// The rules don't let the change be made. The name is the ref's, or that of the virtual ref that was asked.
+    /// The rules at the opening don't let the change be made. The name is the ref's, or that of the virtual ref that was asked.
     Denied {
         verdict: Verdict,
         letter: Letter,
         name: Text,
     },
-    /// A rule asks for changed paths, and there are too many.
+    /// A rule at the opening asks for changed paths, and there are too many.
     ManyPaths,
     /// The conf at the new value has this fault.
     ConfRefused(PolicyFault),
+    /// The rules just before the push don't let the change be made. The name is as in `Denied`.
+    DeniedNow {
+        verdict: Verdict,
+        letter: Letter,
+        name: Text,
+    },
+    /// A rule just before the push asks for changed paths, and there are too many.
+    ManyPathsNow,
     /// The ref's value just before, which isn't the command's old value.
     Stale(ObjectId),
     /// A create, and this ref is a directory of its ref or stands below it. Of several it is the least.
@@ -74,6 +82,16 @@ impl Clone for Outcome {
             },
             Outcome::ManyPaths => Outcome::ManyPaths,
             Outcome::ConfRefused(fault) => Outcome::ConfRefused(fault.clone()?),
+            Outcome::DeniedNow {
+                verdict,
+                letter,
+                name,
+            } => Outcome::DeniedNow {
+                verdict: *verdict,
+                letter: *letter,
+                name: name.clone()?,
+            },
+            Outcome::ManyPathsNow => Outcome::ManyPathsNow,
             Outcome::Stale(id) => Outcome::Stale(*id),
             Outcome::DirFile(name) => Outcome::DirFile(name.clone()?),
             Outcome::AtomicOther(first) => Outcome::AtomicOther(*first),
@@ -109,6 +127,8 @@ impl Outcome {
             Outcome::DirFile(_) => 12,
             Outcome::AtomicOther(_) => 13,
             Outcome::Collided(_) => 14,
+            Outcome::DeniedNow { .. } => 15,
+            Outcome::ManyPathsNow => 16,
             Outcome::Full(_) => 17,
         }
     }

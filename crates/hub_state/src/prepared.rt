@@ -60,6 +60,13 @@ impl PreparedPack {
         self.fresh.take()
     }
 
+    /// The repository as it was, with the pack's objects behind its own.
+    pub fn lens(&self) -> &Lens
+        ensures { result.now ≡ self.now.objects }
+    {
+        &self.lens
+    }
+
     /// What walks found out.
     pub fn findings(&self) -> &Findings
         ensures { AreFound self.now.objects result.now }

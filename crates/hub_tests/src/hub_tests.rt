@@ -70,7 +70,7 @@ fn push<D: Desk>(
     let judged = judge(alloc, &pin, &pack, &commands, atomic);
     let judged = judged.expect(rt, "memory for what is judged");
     match desk.push(alloc, pin, pack, commands, atomic, judged) {
-        Pushed::Settled { outcomes, made: _ } => outcomes,
+        Pushed::Settled { outcomes, .. } => outcomes,
         Pushed::NoMemory(_) => panic!(rt; "out of memory"),
     }
 }

@@ -83,8 +83,8 @@ fn number_in(judged: &Judged) -> u8 {
 }
 
 fn rules_in(judged: Judged) -> usize {
-    let (_, mut confs, _) = judged.into_parts();
-    match confs.pop() {
+    let (mut told, _) = judged.into_parts();
+    match told.confs.pop() {
         Some(Some(conf)) => conf.policy().rules().len(),
         _ => 0,
     }

@@ -26,6 +26,7 @@ use Rattle.wild_perms.specs.declared.answer.PermsAnswer.{PermsAnswer}
 use Rattle.repo_listing.specs.declared.lines.LookLine.{LookLine}
 use Rattle.hub.specs.declared.answer.Looked.TheVariants.{Lines}
 use Rattle.hub.specs.declared.answer.Entered as hub_entered
+use Rattle.hub_history.specs.State.{Conf}
 use Rattle.hub.specs.declared.answer.Pushed.TheVariants.{Settled}
 use Rattle.ref_store.specs.Refs.{Name}
 use Rattle.hub_history.specs.Opening.{Opening}
@@ -113,10 +114,10 @@ pub runs_entered : {E : Type 0} (a : LinkState) (d e : DeskView) (user repo : Na
 runs_entered a d e user repo want result answer is enters = runs_made a d e enters.0 (record { caller = d.caller; event = Entered user repo want answer }) (rw is at enters.1)
 
 -- a push was settled
-pub runs_pushed : {E : Type 0} (a : LinkState) (d e : DeskView) (pin : Opening) (contents : List Content) (commands : List Command) (atomic : Bool) (outcomes : List Outcome) (made : List Name)
-    → (pushes : Pushes d e pin contents commands atomic (Settled outcomes made))
+pub runs_pushed : {E : Type 0} (a : LinkState) (d e : DeskView) (pin : Opening) (contents : List Content) (commands : List Command) (atomic : Bool) (outcomes : List Outcome) (made : List Name) (conf : Conf)
+    → (pushes : Pushes d e pin contents commands atomic (Settled outcomes made conf))
     → Runs {E = E} a a d e (ask (Push pin.place contents commands atomic)) (Ok (record { before = pushes.0; entry = record { caller = d.caller; event = Pushed pin.place contents commands atomic outcomes made } }))
-runs_pushed a d e pin contents commands atomic outcomes made pushes = runs_made a d e pushes.0 (record { caller = d.caller; event = Pushed pin.place contents commands atomic outcomes made }) pushes.1
+runs_pushed a d e pin contents commands atomic outcomes made conf pushes = runs_made a d e pushes.0 (record { caller = d.caller; event = Pushed pin.place contents commands atomic outcomes made }) pushes.1
 
 -- roles were changed or listed, or not
 pub runs_permitted : {E : Type 0} (a : LinkState) (d e : DeskView) (user repo : Name) (change : PermChange) (result : PermsAnswer) (answer : PermsKept) → kept_of result ≡ Some answer → (permits : Permits d e user repo change result)

@@ -1,15 +1,16 @@
 // One test of each edge, over the system, and of the door over memory, through its bound.
-use edge_links::{Door, MemoryDoor, Next, StdSink, StdSource, TcpDoor, TcpLink};
+use edge_links::{Door, FileDisk, MemoryDoor, Next, StdSink, StdSource, TcpDoor, TcpLink};
 use pktline_core::{Link, MemoryLink, Put, Sink, Source, Taken};
+use record_file::{Disk, DiskFault};
 use std::alloc::Global;
-use std::fs::File;
-use std::io;
+use std::fs::{File, remove_file};
 use std::io::{ErrorKind, Read, Write};
 use std::net::{Shutdown, TcpListener, TcpStream};
 use std::process::Abort;
 use std::sync::atomic::AtomicU64;
 use std::sync::atomic::Ordering::SeqCst;
 use std::time::Duration;
+use std::{io, process};
 
 fn link_over(rt: &impl Abort, alloc: Global, input: &[u8]) -> MemoryLink {
     MemoryLink::new(
@@ -253,4 +254,32 @@ fn a_tcp_door_gives_the_connections_of_its_listener(rt: HostRuntime) {
     let mut unbound = TcpDoor::new(rt.alloc(), None);
     assert_eq!(rt; serve_next(&mut unbound), b'f');
     assert_eq!(rt; serve_next(&mut unbound), b'f');
+}
+
+// What is done on a disk with an empty file: four bytes are written and one more, one is cut off, and the rest is read.
+fn write_cut_and_read(disk: &mut impl Disk) -> Result<[u8; 4], DiskFault> {
+    disk.write_at(0, b"abcd")?;
+    disk.write_at(4, b"e")?;
+    disk.sync()?;
+    disk.cut(4)?;
+    let mut room = [0u8; 4];
+    disk.read(0, &mut room)?;
+    Ok(room)
+}
+
+#[test]
+fn a_file_disk_keeps_its_file_for_itself(rt: HostRuntime) {
+    let name = format!(in rt.alloc(); "/tmp/file-disk-{}", process::id(rt.process()));
+    let name = name.expect(&rt, "memory for a name");
+    let path = name.as_str();
+    let mut disk = FileDisk::open(&rt, path).expect(&rt, "a new file");
+    assert!(rt; disk.len() == Ok(0));
+    assert!(rt; write_cut_and_read(&mut disk) == Ok(*b"abcd"));
+    let second = FileDisk::open(&rt, path).err().map(|error| error.kind());
+    assert!(rt; second == Some(ErrorKind::WouldBlock));
+    drop(disk);
+    let mut again = FileDisk::open(&rt, path).expect(&rt, "the file");
+    assert!(rt; again.len() == Ok(4));
+    assert!(rt; write_cut_and_read(&mut FileDisk::missing()) == Err(DiskFault));
+    remove_file(&rt, path).expect(&rt, "the file");
 }

@@ -30,11 +30,11 @@ use Rattle.update_check.specs.Rules.{RulesSay}
 use Rattle.update_check.specs.Table.{Counts, End, First, Passes}
 use Rattle.hub_history.specs.declared.outcome.Outcome.{Outcome}
 use Rattle.hub_history.specs.Conf.{ComesTo}
-use Rattle.hub_history.specs.Opening.{Pinned}
-use Rattle.hub_history.specs.Push.{ByRules, Judges, is_named_twice, is_of_conf}
-use Rattle.hub_history.specs.State.{Conf}
+use Rattle.hub_history.specs.Opening.{Pinned, pinned_in_force}
+use Rattle.hub_history.specs.Push.{ByRules, ByRulesNow, Judges, is_named_twice, is_of_conf}
+use Rattle.hub_history.specs.State.{Conf, InForce}
 use Rattle.push_judging.specs.Judged.{conf_at, conf_of, confs_of}
-use Rattle.push_judging.specs.Rows.{IsCheckOf, SaysByRules, Tells, is_memory, is_no_memory}
+use Rattle.push_judging.specs.Rows.{IsCheckOf, SaysByRules, SaysNow, Tells, is_memory, is_no_memory}
 
 -- ---- the conf at a commit
 
@@ -90,8 +90,13 @@ pub conf_there : (pinned : Pinned) (pack : List Content) (c : Command) → is_of
 conf_there pinned pack c there = ap (λ (b : Bool). if b && true then Some (conf_at pinned pack c) else None) there
 
 -- what a check says is what the rules say that were in force
-pub by_check : (ps : Patterns) (ok : AreTrue ps) (pinned : Pinned) (check : CheckView) (objects : List Content) (c : Command) (said : Option Outcome) → IsCheckOf pinned check → SaysByRules ps check objects c said → ByRules ps pinned objects c said
+pub by_check : (ps : Patterns) (ok : AreTrue ps) (pinned : Pinned) (check : CheckView) (objects : List Content) (c : Command) (said : Option Outcome) → IsCheckOf (pinned_in_force pinned) pinned check → SaysByRules ps check objects c said → ByRules ps pinned objects c said
 by_check ps ok pinned check objects c said is says =
+    (check.flat, says.0, is.rules ps ok, subst (λ (a : Asked). RulesSay ps check.flat.rules a objects c says.0) (is.asks ps) says.1, says.2)
+
+pub by_check_now : (ps : Patterns) (ok : AreTrue ps) (force : InForce) (pinned : Pinned) (check : CheckView) (objects : List Content) (c : Command) (said : Option Outcome) → IsCheckOf force pinned check → SaysNow ps check objects c said
+    → ByRulesNow ps force pinned objects c said
+by_check_now ps ok force pinned check objects c said is says =
     (check.flat, says.0, is.rules ps ok, subst (λ (a : Asked). RulesSay ps check.flat.rules a objects c says.0) (is.asks ps) says.1, says.2)
 
 -- the last row of a table
@@ -124,7 +129,7 @@ zip_at R (a ∷ xs) [] i d e all below = absurd all
 zip_at R (a ∷ xs) (b ∷ ys) zero d e all below = all.0
 zip_at R (a ∷ xs) (b ∷ ys) (suc i) d e all below = zip_at R xs ys i d e all.1 (omega (arith, below))
 
-all_zip_pushed : {A B : Type 0} (R : A → B → Type 0) (xs : List A) (ys : List B) (x : A) (y : B) → AllZip R xs ys → R x y → AllZip R (xs ++ x ∷ []) (ys ++ y ∷ [])
+pub all_zip_pushed : {A B : Type 0} (R : A → B → Type 0) (xs : List A) (ys : List B) (x : A) (y : B) → AllZip R xs ys → R x y → AllZip R (xs ++ x ∷ []) (ys ++ y ∷ [])
 all_zip_pushed R [] [] x y all here = (here, tt)
 all_zip_pushed R [] (b ∷ ys) x y all here = absurd all
 all_zip_pushed R (a ∷ xs) [] x y all here = absurd all

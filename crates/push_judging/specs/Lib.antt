@@ -1,3 +1,4 @@
 pub mod Judged
 pub mod Counting
 pub mod Rows
+pub mod Again

@@ -1,16 +1,16 @@
 // All commands of a push.
 ghost use Rattle.std.specs.Prelude.{◌≡◌, ◌++◌, IfOk, IsTrue, false};
 ghost use Rattle.std.specs.FinMap as map;
-ghost use Rattle.std.specs.List.{AllZip};
 ghost use Rattle.std.specs.Option.{option_map_or};
 ghost use Rattle.ancestry.specs.Known.{AreFound, AreKnown};
 ghost use Rattle.ref_store.specs.Refs.{Name};
 ghost use Rattle.rule_compile.specs.Patterns.{AreTrue, Patterns};
 ghost use Rattle.vref.specs.Facts.{AreFacts};
+ghost use Rattle.hub_history.specs.Opening.{pinned_in_force};
 ghost use Rattle.hub_history.specs.Push.{JudgesAll, is_named_twice};
 ghost use Rattle.hub_state.specs.Prepared.{IsPrepared};
 ghost use Rattle.push_judging.specs.Counting.{Counts, TellsOfSeveral};
-ghost use Rattle.push_judging.specs.Judged.{IsJudgement, conf_of, confs_of};
+ghost use Rattle.push_judging.specs.Judged.{AreFactsOf, IsJudgement, conf_of, confs_of};
 ghost use Rattle.push_judging.specs.Rows.{IsCheckOf, Tells};
 
 use crate::rows::{Told, by_command, by_conf, by_new_value, by_rules};
@@ -23,42 +23,79 @@ use std::alloc::Global;
 use std::marker::Model;
 use update_check::UpdateCheck;
 use vref::facts_of_all;
+use wild_perms::Wild;
 
-/// What each command of a push is told by its opening, the pack and the commands alone, if anything; the conf that each would put in force, if it would; and what was found out of the pack on the way.
+/// What each command of a push is told before the refs are asked, if anything, and the conf that each would put in force, if it would.
+#[derive(Drop)]
+pub struct CommandOutcomes {
+    pub outcomes: Vec<Option<Outcome>>,
+    pub confs: Vec<Option<ConfInForce>>,
+}
+
+/// What each command of a push is told by its opening, the pack and the commands alone; the facts of each change; and what was found out of the pack on the way.
 #[derive(Drop)]
 pub struct Judged {
-    outcomes: Vec<Option<Outcome>>,
-    confs: Vec<Option<ConfInForce>>,
+    told: CommandOutcomes,
+    facts: Vec<Facts>,
     pack: PreparedPack,
+    pub(crate) again: Option<Again>,
+}
+
+/// What the commands of a push are told by the conf at its opening, and by this creator and these roles.
+#[derive(Drop)]
+pub struct Again {
+    pub(crate) wild: Wild,
+    pub(crate) told: CommandOutcomes,
 }
 
 impl Model for Judged {
+    ghost use Rattle.push_judging.specs.Again.{view_of};
     ghost use Rattle.push_judging.specs.Judged.{Judgement};
 
     ghost Value = { Judgement };
 
-    ghost view = { λ j. record { outcomes = j.outcomes.items; confs = j.confs.items; before = j.pack.before; objects = j.pack.objects } };
+    ghost view = { λ j. record { outcomes = j.told.outcomes.items; confs = j.told.confs.items; facts = j.facts.items; before = j.pack.before; objects = j.pack.objects; again = view_of j.again } };
 }
 
 impl Judged {
     pub fn outcomes(&self) -> &[Option<Outcome>]
         ensures { result.now ≡ self.now.outcomes }
     {
-        &self.outcomes
+        &self.told.outcomes
     }
 
-    /// The outcomes, the confs, and what was found out of the pack.
-    pub fn into_parts(self) -> (Vec<Option<Outcome>>, Vec<Option<ConfInForce>>, PreparedPack)
-        ensures outcomes { result.0.items ≡ self.outcomes }
-        ensures confs { result.1.items ≡ self.confs }
-        ensures pack { result.2 ≡ record { before = self.before; objects = self.objects } }
+    // The confs, the facts, and the objects among which they were found.
+    pub(crate) fn confs(&self) -> &[Option<ConfInForce>]
+        ensures { result.now ≡ self.now.confs }
+    {
+        &self.told.confs
+    }
+
+    pub(crate) fn facts(&self) -> &[Facts]
+        ensures { result.now ≡ self.now.facts }
+    {
+        &self.facts
+    }
+
+    pub(crate) fn lens(&self) -> &Lens
+        ensures { result.now ≡ self.now.objects }
+    {
+        self.pack.lens()
+    }
+
+    /// The outcomes and the confs, and what was found out of the pack.
+    pub fn into_parts(self) -> (CommandOutcomes, PreparedPack)
+        ensures outcomes { result.0.outcomes.items ≡ self.outcomes }
+        ensures confs { result.0.confs.items ≡ self.confs }
+        ensures pack { result.1 ≡ record { before = self.before; objects = self.objects } }
     {
         let Judged {
-            outcomes,
-            confs,
+            told,
+            facts: _,
             pack,
+            again: _,
         } = self;
-        (outcomes, confs, pack)
+        (told, pack)
     }
 }
 
@@ -78,24 +115,25 @@ pub fn judge(
 {
     let lens = Lens::new(alloc, pin.repo(), pack)?;
     let AllTold {
-        outcomes,
-        confs,
+        told,
+        facts,
         findings,
     } = tell_all(alloc, pin, &lens, pack, commands.as_slice())?;
-    let pending = is_pending(&outcomes, atomic);
+    let pending = is_pending(&told.outcomes, atomic);
     let pack = prepared_pack(alloc, pin, lens, pack, findings, pending)?;
     Ok(Judged {
-        outcomes,
-        confs,
+        told,
+        facts,
         pack,
+        again: None,
     })
 }
 
-// What all commands are told, and what walks found out.
+// What all commands are told, the facts of their changes, and what walks found out.
 #[derive(Drop)]
 struct AllTold {
-    outcomes: Vec<Option<Outcome>>,
-    confs: Vec<Option<ConfInForce>>,
+    told: CommandOutcomes,
+    facts: Vec<Facts>,
     findings: Findings,
 }
 
@@ -107,30 +145,22 @@ fn tell_all(
     commands: &[Command],
 ) -> Result<AllTold, NoMemory>
     requires { lens.now ≡ pin.now.pinned.repository.objects ++ pack.now }
-    ensures outcomes { IfOk result (λ all. (ps : Patterns) → AreTrue ps → JudgesAll ps pin.now.pinned pack.now commands.now all.outcomes.items) }
-    ensures confs { IfOk result (λ all. all.confs.items ≡ confs_of pin.now.pinned pack.now commands.now all.outcomes.items) }
+    ensures outcomes { IfOk result (λ all. (ps : Patterns) → AreTrue ps → JudgesAll ps pin.now.pinned pack.now commands.now all.told.outcomes.items) }
+    ensures confs { IfOk result (λ all. all.told.confs.items ≡ confs_of pin.now.pinned pack.now commands.now all.told.outcomes.items) }
+    ensures facts { IfOk result (λ all. AreFactsOf lens.now commands.now all.facts.items) }
     ensures found { IfOk result (λ all. AreFound lens.now all.findings) }
 {
     let names = names_of(alloc, commands)?;
     let known = known_with(alloc, pin, pack)?;
     let facts = facts_of_all(alloc, lens, &known, commands)?;
     let mut walks = Walks::knowing(alloc, lens, known);
-    let EachTold { outcomes, confs } = tell_each(
-        alloc, pin, lens, pack, commands, &names, &facts, &mut walks,
-    )?;
+    let told = tell_each(alloc, pin, lens, pack, commands, &names, &facts, &mut walks)?;
     let findings = walks.into_findings()?;
     Ok(AllTold {
-        outcomes,
-        confs,
+        told,
+        facts,
         findings,
     })
-}
-
-// What each command is told, and the conf that it would put in force.
-#[derive(Drop)]
-struct EachTold {
-    outcomes: Vec<Option<Outcome>>,
-    confs: Vec<Option<ConfInForce>>,
 }
 
 fn tell_each(
@@ -142,16 +172,23 @@ fn tell_each(
     names: &NameMap<bool>,
     all_facts: &[Facts],
     walks: &mut Walks<'_>,
-) -> Result<EachTold, NoMemory>
+) -> Result<CommandOutcomes, NoMemory>
     requires lens { lens.now ≡ pin.now.pinned.repository.objects ++ pack.now }
     requires names { TellsOfSeveral names.now commands.now }
-    requires facts { AllZip (λ change facts. AreFacts lens.now change.name change.old change.new facts) commands.now all_facts.now }
+    requires facts { AreFactsOf lens.now commands.now all_facts.now }
     requires walks { walks.old ≡ lens.now }
     ensures outcomes { IfOk result (λ each. (ps : Patterns) → AreTrue ps → JudgesAll ps pin.now.pinned pack.now commands.now each.outcomes.items) }
     ensures confs { IfOk result (λ each. each.confs.items ≡ confs_of pin.now.pinned pack.now commands.now each.outcomes.items) }
     ensures walks { walks.new ≡ walks.old }
 {
-    let check = UpdateCheck::new(pin.policy(), pin.wild(), pin.repo_name(), pin.user());
+    let mut check = UpdateCheck::new(
+        alloc,
+        pin.policy(),
+        pin.wild(),
+        pin.repo_name(),
+        pin.user(),
+        lens,
+    );
     let mut outcomes = Vec::with_capacity(alloc, commands.len())?;
     let mut confs = Vec::with_capacity(alloc, commands.len())?;
     for k in 0..commands.len() {
@@ -159,12 +196,12 @@ fn tell_each(
         let facts = &all_facts[k];
         let twice = is_named_twice(names, command);
         let Told { outcome, conf } = tell(
-            alloc, pin, lens, pack, &check, walks, facts, twice, command,
+            alloc, pin, lens, pack, &mut check, walks, facts, twice, command,
         )?;
         outcomes.push(outcome)?;
         confs.push(conf)?;
     }
-    Ok(EachTold { outcomes, confs })
+    Ok(CommandOutcomes { outcomes, confs })
 }
 
 // What one command is told.
@@ -173,7 +210,7 @@ fn tell(
     pin: &Pin,
     lens: &Lens,
     pack: &ObjectList,
-    check: &UpdateCheck<'_>,
+    check: &mut UpdateCheck<'_>,
     walks: &mut Walks<'_>,
     facts: &Facts,
     twice: bool,
@@ -181,11 +218,13 @@ fn tell(
 ) -> Result<Told, NoMemory>
     requires lens { lens.now ≡ pin.now.pinned.repository.objects ++ pack.now }
     requires walks { walks.old ≡ lens.now }
-    requires check { IsCheckOf pin.now.pinned check.now }
+    requires check { IsCheckOf (pinned_in_force pin.now.pinned) pin.now.pinned check.old }
+    requires among { check.old.objects ≡ lens.now }
     requires facts { AreFacts lens.now command.now.name command.now.old command.now.new facts.now }
     ensures said { IfOk result (λ told. (ps : Patterns) → AreTrue ps → Tells ps pin.now.pinned pack.now twice command.now told.outcome) }
     ensures conf { IfOk result (λ told. told.conf ≡ conf_of pin.now.pinned pack.now command.now told.outcome) }
     ensures walks { walks.new ≡ walks.old }
+    ensures check { check.new ≡ check.old }
 {
     if let Some(outcome) = by_command(pin, twice, command) {
         return Ok(Told::refused(outcome));
@@ -193,7 +232,7 @@ fn tell(
     if let Some(outcome) = by_new_value(walks, command)? {
         return Ok(Told::refused(outcome));
     }
-    if let Some(outcome) = by_rules(alloc, check, lens, facts, command)? {
+    if let Some(outcome) = by_rules(alloc, check, facts, command)? {
         return Ok(Told::refused(outcome));
     }
     by_conf(alloc, pin, lens, pack, command)

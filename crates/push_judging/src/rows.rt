@@ -5,9 +5,9 @@ ghost use Rattle.rule_compile.specs.Patterns.{AreTrue, Patterns};
 ghost use Rattle.vref.specs.Facts.{AreFacts};
 ghost use Rattle.hub_history.specs.declared.outcome.Outcome.TheVariants as outcome;
 ghost use Rattle.hub_history.specs.Conf.{ComesTo};
-ghost use Rattle.hub_history.specs.Push.{ByConf, by_command, by_new_value, by_walk, is_of_conf, kind_at, outcome_of};
+ghost use Rattle.hub_history.specs.Push.{ByConf, by_command, by_new_value, by_walk, is_of_conf, kind_at, outcome_now, outcome_of};
 ghost use Rattle.push_judging.specs.Judged.{conf_at, conf_of};
-ghost use Rattle.push_judging.specs.Rows.{SaysByRules, is_no_memory};
+ghost use Rattle.push_judging.specs.Rows.{SaysByRules, SaysNow, is_no_memory};
 
 use ancestry::{Facts, Walks, Wholeness};
 use base_types::NoMemory;
@@ -25,7 +25,7 @@ const CONF_REPO: &[u8] = b"gitolite-admin";
 
 const CONF_BRANCH: &[u8] = b"refs/heads/master";
 
-/// What one command is told by the opening, if anything, and the conf that it would put in force, if it would.
+/// What one command is told before the refs are asked, if anything, and the conf that it would put in force, if it would.
 #[derive(Drop)]
 pub struct Told {
     pub outcome: Option<Outcome>,
@@ -36,9 +36,15 @@ impl Told {
     fn nothing() -> Told
         ensures { result ≡ record { outcome = None; conf = None } }
     {
+        Told::free(None)
+    }
+
+    pub fn free(conf: Option<ConfInForce>) -> Told
+        ensures { result ≡ record { outcome = None; conf = conf } }
+    {
         Told {
             outcome: None,
-            conf: None,
+            conf,
         }
     }
 
@@ -108,18 +114,18 @@ fn by_walk(
     }
 }
 
-/// What the rules say that were in force.
+/// What the rules say that were in force at the opening.
 pub fn by_rules(
     alloc: Global,
-    check: &UpdateCheck<'_>,
-    lens: &Lens,
+    check: &mut UpdateCheck<'_>,
     facts: &Facts,
     command: &Command,
 ) -> Result<Option<Outcome>, NoMemory>
-    requires { AreFacts lens.now command.now.name command.now.old command.now.new facts.now }
-    ensures { IfOk result (λ o. (ps : Patterns) → AreTrue ps → SaysByRules ps check.now lens.now command.now o) }
+    requires { AreFacts check.old.objects command.now.name command.now.old command.now.new facts.now }
+    ensures said { IfOk result (λ o. (ps : Patterns) → AreTrue ps → SaysByRules ps check.old check.old.objects command.now o) }
+    ensures check { check.new ≡ check.old }
 {
-    Ok(outcome_of(check.refusal(alloc, lens, facts, command)?))
+    Ok(outcome_of(check.refusal(alloc, facts, command)?))
 }
 
 fn outcome_of(refusal: Option<Refusal>) -> Option<Outcome>
@@ -138,6 +144,40 @@ fn outcome_of(refusal: Option<Refusal>) -> Option<Outcome>
             name,
         }),
         Some(Refusal::ManyPaths) => Some(Outcome::ManyPaths),
+        None => None,
+    }
+}
+
+/// What the rules say that are in force just before the push.
+pub fn by_rules_now(
+    alloc: Global,
+    check: &mut UpdateCheck<'_>,
+    facts: &Facts,
+    command: &Command,
+) -> Result<Option<Outcome>, NoMemory>
+    requires { AreFacts check.old.objects command.now.name command.now.old command.now.new facts.now }
+    ensures said { IfOk result (λ o. (ps : Patterns) → AreTrue ps → SaysNow ps check.old check.old.objects command.now o) }
+    ensures check { check.new ≡ check.old }
+{
+    Ok(outcome_now(check.refusal(alloc, facts, command)?))
+}
+
+fn outcome_now(refusal: Option<Refusal>) -> Option<Outcome>
+    ensures { result ≡ outcome_now refusal }
+{
+    match refusal {
+        Some(
+            Refusal::Denied {
+                verdict,
+                letter,
+                name,
+            },
+        ) => Some(Outcome::DeniedNow {
+            verdict,
+            letter,
+            name,
+        }),
+        Some(Refusal::ManyPaths) => Some(Outcome::ManyPathsNow),
         None => None,
     }
 }

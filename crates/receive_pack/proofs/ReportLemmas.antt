@@ -15,16 +15,16 @@ pub errors_left : List Command → List ℕ
 errors_left commands = flat_map packet (map unpacker_error commands)
 
 -- what is still to be written of a push's report, with these of its commands and outcomes left
-pub statuses_left : List Rule → ReportedPush → List Command → List Outcome → List ℕ
-statuses_left rules push commands outcomes = flat_map packet (status_lines rules push commands outcomes)
+pub statuses_left : List Rule → List Rule → ReportedPush → List Command → List Outcome → List ℕ
+statuses_left rules later push commands outcomes = flat_map packet (status_lines rules later push commands outcomes)
 
 pub errors_all : (commands : List Command) → errors_left commands ≡ flat_map packet (map unpacker_error commands)
 unfolding errors_left
 errors_all commands = refl
 
-pub statuses_all : (rules : List Rule) (push : ReportedPush) (outcomes : List Outcome) → statuses_left rules push push.commands outcomes ≡ flat_map packet (status_lines rules push push.commands outcomes)
+pub statuses_all : (rules later : List Rule) (push : ReportedPush) (outcomes : List Outcome) → statuses_left rules later push push.commands outcomes ≡ flat_map packet (status_lines rules later push push.commands outcomes)
 unfolding statuses_left
-statuses_all rules push outcomes = refl
+statuses_all rules later push outcomes = refl
 
 -- from a place on: the command there, and those behind it
 commands_from : (commands : List Command) (place : ℕ) (command : Command) → place < length commands → command ≡ get_or commands place command → drop place commands ≡ command ∷ drop (place + 1) commands
@@ -45,22 +45,22 @@ module _ (commands : List Command) (place : ℕ) where
   unfolding errors_left
   errors_end past = ap errors_left (nothing_left commands place past)
 
-module _ (rules : List Rule) (push : ReportedPush) (place : ℕ) where
+module _ (rules later : List Rule) (push : ReportedPush) (place : ℕ) where
   pub statuses_more : (command : Command) (outcome : Outcome) (outcomes more : List Outcome) → place < length push.commands → command ≡ get_or push.commands place command → outcomes ≡ outcome ∷ more
-      → statuses_left rules push (drop place push.commands) outcomes ≡ packet (status_text rules push command.name outcome) ++ statuses_left rules push (drop (place + 1) push.commands) more
+      → statuses_left rules later push (drop place push.commands) outcomes ≡ packet (status_text rules later push command.name outcome) ++ statuses_left rules later push (drop (place + 1) push.commands) more
   unfolding statuses_left
   statuses_more command outcome outcomes more within is steps =
-      ap (λ (cs : List Command). statuses_left rules push cs outcomes) (commands_from push.commands place command within is) ∙ ap (statuses_left rules push (command ∷ drop (place + 1) push.commands)) steps
+      ap (λ (cs : List Command). statuses_left rules later push cs outcomes) (commands_from push.commands place command within is) ∙ ap (statuses_left rules later push (command ∷ drop (place + 1) push.commands)) steps
 
-  pub statuses_end : (outcomes : List Outcome) → length push.commands ≤ place → statuses_left rules push (drop place push.commands) outcomes ≡ []
+  pub statuses_end : (outcomes : List Outcome) → length push.commands ≤ place → statuses_left rules later push (drop place push.commands) outcomes ≡ []
   unfolding statuses_left
-  statuses_end outcomes past = ap (λ (cs : List Command). statuses_left rules push cs outcomes) (nothing_left push.commands place past)
+  statuses_end outcomes past = ap (λ (cs : List Command). statuses_left rules later push cs outcomes) (nothing_left push.commands place past)
 
-pub statuses_none : (rules : List Rule) (push : ReportedPush) (commands : List Command) (outcomes : List Outcome) → length outcomes ≡ 0 → statuses_left rules push commands outcomes ≡ []
+pub statuses_none : (rules later : List Rule) (push : ReportedPush) (commands : List Command) (outcomes : List Outcome) → length outcomes ≡ 0 → statuses_left rules later push commands outcomes ≡ []
 unfolding statuses_left
-statuses_none rules push [] outcomes none = refl
-statuses_none rules push (c ∷ cs) [] none = refl
-statuses_none rules push (c ∷ cs) (o ∷ os) none = absurd (omega (arith, none))
+statuses_none rules later push [] outcomes none = refl
+statuses_none rules later push (c ∷ cs) [] none = refl
+statuses_none rules later push (c ∷ cs) (o ∷ os) none = absurd (omega (arith, none))
 
 -- a ref among short ones is short
 pub short_here : (commands : List Command) (place : ℕ) (command : Command) → HaveShortNames commands → place < length commands → command ≡ get_or commands place command → HasShortName command

@@ -1,5 +1,5 @@
 -- A push, as an interaction: what follows an opening for writing.
-use Rattle.std.specs.Prelude.{ℕ, zero, suc, ◌+◌, Bool, List, [], ◌∷◌, Option, Some, None, Result, Ok, Err, codes, if◌then◌else◌}
+use Rattle.std.specs.Prelude.{ℕ, zero, suc, ◌+◌, Bool, List, [], ◌∷◌, length, Option, Some, None, Result, Ok, Err, codes, if◌then◌else◌}
 use Rattle.pktline_core.specs.Packets as packets
 use Rattle.raw_pack.specs.declared.fault.PackFault.{PackFault}
 use Rattle.git_object.specs.Content.{Content}
@@ -114,11 +114,11 @@ recorded_outcomes (Looked user) = []
 abbrev pub reported_push : Opening → List Command → ReportedPush
 reported_push opening commands = record { user = opening.pinned.user; repo = opening.pinned.repo; commands = commands }
 
--- the push, and the report of the outcomes that its entry records, by the rules that were in force at the opening
+-- the push, and the report of the outcomes that its entry records, by the rules that were in force at the opening, and by those just before the entry
 unfoldable pub pushing : Rulebook → Opening → Capabilities → List Command → List Content → Interaction SessionEnd (Unit {0})
 pushing book opening capabilities commands pack = do
   own ← ask (Push opening.place pack commands capabilities.atomic)
-  write (reported capabilities (report (book.rules (opening.place + 1)).rules (reported_push opening commands) (recorded_outcomes own.entry.event)))
+  write (reported capabilities (report (book.rules (opening.place + 1)).rules (book.rules (length own.before)).rules (reported_push opening commands) (recorded_outcomes own.entry.event)))
 
 -- the commands behind the first, the pack, and the push
 unfoldable pub taking_push : Rulebook → Opening → Capabilities → Command → ℕ → Interaction SessionEnd (Unit {0})

@@ -10,7 +10,7 @@ use Rattle.raw_pack.specs.declared.fault.PackFault.{PackFault}
 use Rattle.raw_pack.specs.Faults.{fault_text}
 use Rattle.ref_store.specs.declared.command.Command.{Command}
 use Rattle.hub_history.specs.declared.outcome.Outcome.{Outcome}
-use Rattle.hub_history.specs.declared.outcome.Outcome.TheVariants.{Done, BadName, Twice, NoChange, NotAdvertised, Missing, WrongKind, Denied, ManyPaths, ConfRefused, Stale, DirFile, AtomicOther, Collided, Full}
+use Rattle.hub_history.specs.declared.outcome.Outcome.TheVariants.{Done, BadName, Twice, NoChange, NotAdvertised, Missing, WrongKind, Denied, ManyPaths, ConfRefused, DeniedNow, ManyPathsNow, Stale, DirFile, AtomicOther, Collided, Full}
 use Rattle.access_check.specs.Verdicts.{rule_of}
 use Rattle.rule_compile.specs.Faults.{policy_text}
 use Rattle.rule_compile.specs.declared.rule.Rule.{Rule}
@@ -53,38 +53,40 @@ advertisement refs = flat_map packet (advertised_lines (advertised (entries refs
 abbrev pub ref_at : List Command → ℕ → List ℕ
 ref_at commands place = option_map_or (λ (c : Command). c.name) (slice_get commands place) []
 
--- why a command isn't done, by the rules that were in force at the push's opening
-abbrev pub reason : List Rule → ReportedPush → Outcome → List ℕ
-reason rules push Done = []
-reason rules push BadName = codes "bad ref name"
-reason rules push Twice = codes "named twice"
-reason rules push NoChange = codes "no change"
-reason rules push (NotAdvertised id) = codes "not advertised, it was " ++ hex_of id
-reason rules push (Missing id) = codes "missing object " ++ hex_of id
-reason rules push (WrongKind id) = codes "wrong kind of object " ++ hex_of id
-reason rules push (Denied verdict letter name) = denial (change_text letter name) push.repo push.user (rule_of rules verdict)
-reason rules push ManyPaths = codes "too many paths"
-reason rules push (ConfRefused fault) = codes "conf refused: " ++ shown (policy_text fault)
-reason rules push (Stale id) = codes "stale, it is " ++ hex_of id
-reason rules push (DirFile ref) = codes "conflicts with " ++ ref
-reason rules push (AtomicOther place) = codes "atomic push refused with " ++ ref_at push.commands place
-reason rules push (Collided id) = codes "name collision " ++ hex_of id
-reason rules push (Full count) = codes "repository would have " ++ decimal count ++ codes " objects"
+-- why a command isn't done, by the rules that were in force at the push's opening, and by those just before it
+abbrev pub reason : List Rule → List Rule → ReportedPush → Outcome → List ℕ
+reason rules later push Done = []
+reason rules later push BadName = codes "bad ref name"
+reason rules later push Twice = codes "named twice"
+reason rules later push NoChange = codes "no change"
+reason rules later push (NotAdvertised id) = codes "not advertised, it was " ++ hex_of id
+reason rules later push (Missing id) = codes "missing object " ++ hex_of id
+reason rules later push (WrongKind id) = codes "wrong kind of object " ++ hex_of id
+reason rules later push (Denied verdict letter name) = denial (change_text letter name) push.repo push.user (rule_of rules verdict)
+reason rules later push ManyPaths = codes "too many paths"
+reason rules later push (ConfRefused fault) = codes "conf refused: " ++ shown (policy_text fault)
+reason rules later push (DeniedNow verdict letter name) = denial (change_text letter name) push.repo push.user (rule_of later verdict) ++ codes " (rules at push)"
+reason rules later push ManyPathsNow = codes "too many paths (rules at push)"
+reason rules later push (Stale id) = codes "stale, it is " ++ hex_of id
+reason rules later push (DirFile ref) = codes "conflicts with " ++ ref
+reason rules later push (AtomicOther place) = codes "atomic push refused with " ++ ref_at push.commands place
+reason rules later push (Collided id) = codes "name collision " ++ hex_of id
+reason rules later push (Full count) = codes "repository would have " ++ decimal count ++ codes " objects"
 
 -- what is reported of a ref
-abbrev pub status_text : List Rule → ReportedPush → Name → Outcome → List ℕ
-status_text rules push ref Done = codes "ok " ++ ref ++ 10 ∷ []
-status_text rules push ref outcome = codes "ng " ++ ref ++ 32 ∷ reason rules push outcome ++ 10 ∷ []
+abbrev pub status_text : List Rule → List Rule → ReportedPush → Name → Outcome → List ℕ
+status_text rules later push ref Done = codes "ok " ++ ref ++ 10 ∷ []
+status_text rules later push ref outcome = codes "ng " ++ ref ++ 32 ∷ reason rules later push outcome ++ 10 ∷ []
 
 -- a line for each of these commands of a push
-abbrev pub status_lines : List Rule → ReportedPush → List Command → List Outcome → List (List ℕ)
-status_lines rules push [] outcomes = []
-status_lines rules push (c ∷ cs) [] = []
-status_lines rules push (c ∷ cs) (o ∷ os) = status_text rules push c.name o ∷ status_lines rules push cs os
+abbrev pub status_lines : List Rule → List Rule → ReportedPush → List Command → List Outcome → List (List ℕ)
+status_lines rules later push [] outcomes = []
+status_lines rules later push (c ∷ cs) [] = []
+status_lines rules later push (c ∷ cs) (o ∷ os) = status_text rules later push c.name o ∷ status_lines rules later push cs os
 
 -- that the pack was taken, a line for each command, and a flush
-unfoldable pub report : List Rule → ReportedPush → List Outcome → List ℕ
-report rules push outcomes = flat_map packet (codes "unpack ok\n" ∷ status_lines rules push push.commands outcomes) ++ spelling Flush
+unfoldable pub report : List Rule → List Rule → ReportedPush → List Outcome → List ℕ
+report rules later push outcomes = flat_map packet (codes "unpack ok\n" ∷ status_lines rules later push push.commands outcomes) ++ spelling Flush
 
 -- why a pack isn't taken
 abbrev pub unpack_text : PackFault → List ℕ

@@ -101,9 +101,19 @@ fn push<L: Link, K: Desk>(
         return Err(SessionEnd::NoMemory);
     };
     match desk.push(alloc, pin, pack, commands, capabilities.atomic, judged) {
-        Pushed::Settled { outcomes, made: _ } => {
-            tell(alloc, link, capabilities, conf.policy(), &told, &outcomes)
-        }
+        Pushed::Settled {
+            outcomes,
+            made: _,
+            conf: later,
+        } => tell(
+            alloc,
+            link,
+            capabilities,
+            conf.policy(),
+            later.policy(),
+            &told,
+            &outcomes,
+        ),
         Pushed::NoMemory(_) => Err(SessionEnd::NoMemory),
     }
 }

@@ -30,21 +30,22 @@ pub struct ReportedPush {
     pub commands: CommandList,
 }
 
-/// The report of a push, where the client asked for one, by the rules that were in force at its opening.
+/// The report of a push, where the client asked for one, by the rules that were in force at its opening and by those just before it.
 pub fn tell<L: Link>(
     alloc: Global,
     link: &mut L,
     capabilities: Capabilities,
     policy: &Policy,
+    later: &Policy,
     push: &ReportedPush,
     outcomes: &OutcomeList,
 ) -> Result<(), SessionEnd>
     requires short { HaveShortNames push.now.commands }
-    ensures runs { (desk : DeskView) → Runs (L.state link.old) (L.state link.new) desk desk (write (reported capabilities (report policy.now.rules push.now outcomes.now))) (outcome_of result) }
+    ensures runs { (desk : DeskView) → Runs (L.state link.old) (L.state link.new) desk desk (write (reported capabilities (report policy.now.rules later.now.rules push.now outcomes.now))) (outcome_of result) }
     ensures tells { TellsLink (L.state link.old) (L.state link.new) result }
 {
     if capabilities.report_status {
-        return report(alloc, link, policy, push, outcomes);
+        return report(alloc, link, policy, later, push, outcomes);
     }
     Ok(())
 }
@@ -53,15 +54,16 @@ fn report<L: Link>(
     alloc: Global,
     link: &mut L,
     policy: &Policy,
+    later: &Policy,
     push: &ReportedPush,
     outcomes: &OutcomeList,
 ) -> Result<(), SessionEnd>
     requires short { HaveShortNames push.now.commands }
-    ensures runs { (desk : DeskView) → Runs (L.state link.old) (L.state link.new) desk desk (write (report policy.now.rules push.now outcomes.now)) (outcome_of result) }
+    ensures runs { (desk : DeskView) → Runs (L.state link.old) (L.state link.new) desk desk (write (report policy.now.rules later.now.rules push.now outcomes.now)) (outcome_of result) }
     ensures tells { TellsLink (L.state link.old) (L.state link.new) result }
 {
     say(link, b"unpack ok\n")?;
-    report_all(alloc, link, policy, push, outcomes)?;
+    report_all(alloc, link, policy, later, push, outcomes)?;
     say_flush(link)
 }
 
@@ -70,11 +72,12 @@ fn report_all<L: Link>(
     alloc: Global,
     link: &mut L,
     policy: &Policy,
+    later: &Policy,
     push: &ReportedPush,
     outcomes: &OutcomeList,
 ) -> Result<(), SessionEnd>
     requires short { HaveShortNames push.now.commands }
-    ensures runs { (desk : DeskView) → Runs (L.state link.old) (L.state link.new) desk desk (write (flat_map packet (status_lines policy.now.rules push.now push.now.commands outcomes.now))) (outcome_of result) }
+    ensures runs { (desk : DeskView) → Runs (L.state link.old) (L.state link.new) desk desk (write (flat_map packet (status_lines policy.now.rules later.now.rules push.now push.now.commands outcomes.now))) (outcome_of result) }
     ensures tells { TellsLink (L.state link.old) (L.state link.new) result }
 {
     let mut told = outcomes.as_slice().iter();
@@ -82,7 +85,7 @@ fn report_all<L: Link>(
         let Some(outcome) = told.next() else {
             return Ok(());
         };
-        report_one(alloc, link, policy, push, command, outcome)?;
+        report_one(alloc, link, policy, later, push, command, outcome)?;
     }
     Ok(())
 }
@@ -91,16 +94,17 @@ fn report_one<L: Link>(
     alloc: Global,
     link: &mut L,
     policy: &Policy,
+    later: &Policy,
     push: &ReportedPush,
     command: &Command,
     outcome: &Outcome,
 ) -> Result<(), SessionEnd>
     requires short { HaveShortNames push.now.commands }
     requires one { HasShortName command.now }
-    ensures runs { (desk : DeskView) → Runs (L.state link.old) (L.state link.new) desk desk (write (packet (status_text policy.now.rules push.now command.now.name outcome.now))) (outcome_of result) }
+    ensures runs { (desk : DeskView) → Runs (L.state link.old) (L.state link.new) desk desk (write (packet (status_text policy.now.rules later.now.rules push.now command.now.name outcome.now))) (outcome_of result) }
     ensures tells { TellsLink (L.state link.old) (L.state link.new) result }
 {
-    let line = status_line(alloc, policy, push, command, outcome)?;
+    let line = status_line(alloc, policy, later, push, command, outcome)?;
     say(link, &line)
 }
 

@@ -70,16 +70,17 @@ pub fn ref_line(
     Ok(text)
 }
 
-/// What is reported of a command of a push, by the rules that were in force at its opening.
+/// What is reported of a command of a push, by the rules that were in force at its opening and by those just before it.
 pub fn status_line(
     alloc: Global,
     policy: &Policy,
+    later: &Policy,
     push: &ReportedPush,
     command: &Command,
     outcome: &Outcome,
 ) -> Result<Vec<u8>, AllocError>
     requires short { HaveShortNames push.now.commands }
-    ensures text { IfOk result (λ v. v.items ≡ status_text policy.now.rules push.now command.now.name outcome.now) }
+    ensures text { IfOk result (λ v. v.items ≡ status_text policy.now.rules later.now.rules push.now command.now.name outcome.now) }
     ensures size { IfOk result (λ v. length v.items ≤ length command.now.name + 61000) }
 {
     if outcome.is_done() {
@@ -89,7 +90,7 @@ pub fn status_line(
     }
     let mut text = status_front(alloc, b"ng ", &command.name)?;
     text.extend_from_slice(b" ")?;
-    push_reason(&mut text, alloc, policy, push, outcome)?;
+    push_reason(&mut text, alloc, policy, later, push, outcome)?;
     text.extend_from_slice(b"\n")?;
     Ok(text)
 }
@@ -109,12 +110,13 @@ fn push_reason(
     text: &mut Vec<u8>,
     alloc: Global,
     policy: &Policy,
+    later: &Policy,
     push: &ReportedPush,
     outcome: &Outcome,
 ) -> Result<(), AllocError>
     requires short { HaveShortNames push.now.commands }
-    ensures text { OnOk result (text.new.items ≡ text.old.items ++ reason policy.now.rules push.now outcome.now) }
-    ensures size { OnOk result (length text.new.items ≤ length text.old.items + 60000) }
+    ensures text { OnOk result (text.new.items ≡ text.old.items ++ reason policy.now.rules later.now.rules push.now outcome.now) }
+    ensures size { OnOk result (length text.new.items ≤ length text.old.items + 60100) }
 {
     match outcome {
         Outcome::Done => Ok(()),
@@ -131,6 +133,12 @@ fn push_reason(
         } => push_denied(text, alloc, policy, push, *verdict, *letter, name),
         Outcome::ManyPaths => text.extend_from_slice(b"too many paths"),
         Outcome::ConfRefused(fault) => push_conf_fault(text, alloc, fault),
+        Outcome::DeniedNow {
+            verdict,
+            letter,
+            name,
+        } => push_denied_now(text, alloc, later, push, *verdict, *letter, name),
+        Outcome::ManyPathsNow => text.extend_from_slice(b"too many paths (rules at push)"),
         Outcome::Stale(id) => push_named(text, b"stale, it is ", *id),
         Outcome::DirFile(other) => push_conflict(text, other),
         Outcome::AtomicOther(place) => push_other(text, &push.commands, *place),
@@ -166,6 +174,22 @@ fn push_denied(
         Ok(()) => Ok(()),
         Err(_) => Err(AllocError),
     }
+}
+
+fn push_denied_now(
+    text: &mut Vec<u8>,
+    alloc: Global,
+    later: &Policy,
+    push: &ReportedPush,
+    verdict: Verdict,
+    letter: Letter,
+    name: &Text,
+) -> Result<(), AllocError>
+    ensures text { OnOk result (text.new.items ≡ text.old.items ++ (denial (change_text letter name.now) push.now.repo push.now.user (rule_of later.now.rules verdict) ++ codes " (rules at push)")) }
+    ensures size { OnOk result (length text.new.items ≤ length text.old.items + 60100) }
+{
+    push_denied(text, alloc, later, push, verdict, letter, name)?;
+    text.extend_from_slice(b" (rules at push)")
 }
 
 fn push_conf_fault(text: &mut Vec<u8>, alloc: Global, fault: &PolicyFault) -> Result<(), AllocError>

@@ -367,15 +367,15 @@ fn command_of(rt: &impl Abort, alloc: Global, ids: &[ObjectId], change: Change) 
     }
 }
 
-// Why a change isn't let be made, if it isn't.
-fn refusal_of(
+// Why a change isn't let be made, if it isn't, asked twice of one check: what is said of paths is kept for the second time.
+fn refusals_of(
     rt: &impl Abort,
     alloc: Global,
     lens: &Lens,
     policy: &Policy,
     asked: &Asked,
     change: &Command,
-) -> Option<Refusal> {
+) -> (Option<Refusal>, Option<Refusal>) {
     let known = Known::nothing(alloc);
     let facts = facts_of(
         alloc,
@@ -386,9 +386,11 @@ fn refusal_of(
         change.new,
     );
     let facts = facts.expect(rt, "memory for facts");
-    let check = UpdateCheck::new(policy, &asked.wild, &asked.name, &asked.asker);
-    let refusal = check.refusal(alloc, lens, &facts, change);
-    refusal.expect(rt, "memory for a refusal")
+    let mut check = UpdateCheck::new(alloc, policy, &asked.wild, &asked.name, &asked.asker, lens);
+    let found = check.refusal(alloc, &facts, change);
+    let found = found.expect(rt, "memory for a refusal");
+    let again = check.refusal(alloc, &facts, change);
+    (found, again.expect(rt, "memory for a refusal"))
 }
 
 // Whether a change comes to the text that is due.
@@ -401,8 +403,8 @@ fn is_answered(
     change: &Command,
     due: &str,
 ) -> bool {
-    let refusal = refusal_of(rt, alloc, lens, policy, asked, change);
-    is_told(alloc, policy, asked, &refusal, due)
+    let (found, again) = refusals_of(rt, alloc, lens, policy, asked, change);
+    is_told(alloc, policy, asked, &found, due) && is_told(alloc, policy, asked, &again, due)
 }
 
 fn check_under(

@@ -25,6 +25,7 @@ use Rattle.hub_state.specs.contracts.conf.ConfInForce as Conf
 use Rattle.hub_state.specs.contracts.hosted.HostedRepo as Hosted
 use Rattle.hub_state.specs.contracts.pin.Pin as Pin
 use Rattle.hub.specs.contracts.table.RepoTable as RepoTable
+use Rattle.hub.specs.contracts.since.Since as Since
 use Rattle.hub.specs.contracts.hub.Hub as Hub
 use Rattle.hub.specs.contracts.hub.Hub.TheInside as Inside
 use Rattle.atomic_table.proofs.shared.Seat.TheSendSync as seat
@@ -104,6 +105,9 @@ pin_send = search (conf_send, hosted_send, heap.crosses, sendable) depth 60
 table_send : IsSend (RepoTable.the_field).row
 table_send = search (hosted_send, heap.crosses, maps.crosses, sendable) depth 100 fits 50000
 
+since_send : IsSend Since.the_row
+since_send = search (heap.crosses, maps.crosses, sendable) depth 100 fits 50000
+
 fault_send : IsSend (Fault.the_field).row
 fault_send = search (heap.crosses, sendable) depth 60
 
@@ -123,7 +127,7 @@ hub_send : IsSend Hub.the_row
 hub_send =
     let inside = struct_send (shape Inside.the_type) (
       search (conf_send, sendable) depth 30,
-      (table_send, (search (log_send, sendable) depth 30, tt)),
+      (table_send, (search (log_send, sendable) depth 30, (search (since_send, sendable) depth 30, tt))),
     ) in
     let whole : IsSend (row Inside.the_type) = recorded_send _ _ _ (Inside.the_type).to_one inside in
     view_send (row Inside.the_type) _ _ _ _ whole

@@ -17,15 +17,17 @@ use Rattle.hub.specs.declared.answer.Entered.{Entered}
 use Rattle.hub.specs.declared.answer.Entered.TheVariants.{Granted, Created, Denied, NoRepo, NoMemory}
 use Rattle.hub.specs.declared.answer.Looked.{Looked}
 use Rattle.hub.specs.declared.answer.Pushed.{Pushed}
-use Rattle.hub.specs.Answer.{AnswersChange, AnswersLook, AnswersOpening, kept, looked, opened, permitted, settled}
+use Rattle.hub.specs.Answer.{AnswersChange, AnswersLook, AnswersOpening, AnswersPush, kept, looked, opened, permitted, settled}
 use Rattle.hub.specs.Desk.{Calls, DeskView, Enters, IsOfAnother, IsSound, KeepsPins, Looks, Permits, Pushes, known}
 use Rattle.hub.specs.Hub.{HubView}
 use Rattle.shared_hub.specs.declared.kept.KeptEntry.{KeptEntry}
 use Rattle.shared_hub.specs.declared.kept.KeptEntry.TheVariants.{Admin, Logged}
 use Rattle.shared_hub.specs.declared.steps.Asked.{Asked}
 use Rattle.shared_hub.specs.Kept.{NamesAdmin, admin_in, caller_of, hub_in, log_in}
-use Rattle.shared_hub.specs.Steps.{Adds, RunsChange, RunsLook, RunsOpening, RunsPush}
-use Rattle.shared_hub.specs.Desk.{desk_of}
+use Rattle.shared_hub.specs.declared.steps.PushTurn.{PushTurn}
+use Rattle.shared_hub.specs.declared.steps.PushTurn.TheVariants.{Settled, Again}
+use Rattle.shared_hub.specs.Steps.{Adds, RunsChange, RunsLook, RunsOpening, RunsPush, RunsPushTurn}
+use Rattle.shared_hub.specs.Desk.{EndsTurn, desk_of}
 use Rattle.shared_hub.specs.Shared.{IsHubPass, log_seen}
 use Rattle.shared_hub.proofs.ListLemmas.{NamesAdmin-append, admin_in-append, log_in-append, no_more}
 
@@ -107,6 +109,10 @@ module _ (old new : PassState KeptEntry) (between after : List KeptEntry) (names
     legal = subst (λ (h : HubView). IsLegal h.admin h.log) (left_hub event adds ∙ sym (ap known (new_desk event adds (inr sees)))) adds.1;
   }
 
+  pub turn_stays : IsLegal (admin_in old.at_new) (log_seen old) → (asked : Asked) (turn : PushTurn) → RunsPushTurn old.caller asked (seen old ++ between) after turn → Leaves → IsHubPass new
+  turn_stays legal asked (Settled result) runs leaves = stays_pass legal (settled asked.pin asked.pack asked.commands asked.atomic result) runs.0 leaves
+  turn_stays legal asked (Again back wild) runs leaves = stays_pass legal None runs.0 leaves
+
   pub keeps_pins : Contains old.numbers old.caller → AreOthers caller_of old.numbers between → (event : Option Event) → Adds old.caller (seen old ++ between) after event → Leaves → KeepsPins (desk_of old) (desk_of new)
   keeps_pins own others event adds leaves = calls_keep (desk_of old) (desk_of new) found event (called own others event adds leaves)
 
@@ -130,7 +136,13 @@ module _ (old new : PassState KeptEntry) (between after : List KeptEntry) (names
     enters user repo want result runs leaves = (found, called own others (opened user repo want (kept result)) runs.0 leaves, answered user repo want result runs leaves)
 
     pub pushes : (asked : Asked) (result : Pushed) → RunsPush old.caller asked (seen old ++ between) after result → Leaves → Pushes (desk_of old) (desk_of new) asked.pin asked.pack asked.commands asked.atomic result
-    pushes asked result runs leaves = (found, called own others (settled asked.pin asked.pack asked.commands asked.atomic result) runs.0 leaves, runs.1)
+    pushes asked result runs leaves = (found, called own others (settled asked.pin asked.pack asked.commands asked.atomic result) runs.0 leaves, subst (λ (h : HubView). AnswersPush h asked.pin result) found_hub runs.1)
+
+    -- a turn of a push
+    pub pushed_turn : (asked : Asked) (turn : PushTurn) → RunsPushTurn old.caller asked (seen old ++ between) after turn → Leaves → EndsTurn old new asked turn
+    pushed_turn asked (Settled result) runs leaves = (pushes asked result runs leaves, keeps_pins own others (settled asked.pin asked.pack asked.commands asked.atomic result) runs.0 leaves)
+    pushed_turn asked (Again back wild) runs (inl left) = (left.1, runs.1)
+    pushed_turn asked (Again back wild) runs (inr sees) = absurd (no_more (seen old ++ between) sees.entry (sym sees.added ∙ runs.0))
 
     pub permits : (user repo : Name) (change : PermChange) (result : PermsAnswer) → RunsChange old.caller user repo change (seen old ++ between) after result → Leaves → Permits (desk_of old) (desk_of new) user repo change result
     permits user repo change result runs leaves = (found, called own others (permitted user repo change (kept_of result)) runs.0 leaves, subst (λ (h : HubView). AnswersChange h repo result) found_hub runs.1)

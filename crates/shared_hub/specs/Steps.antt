@@ -18,6 +18,8 @@ use Rattle.hub.specs.Answer.{AnswersChange, AnswersLook, AnswersOpening, Answers
 use Rattle.shared_hub.specs.declared.kept.KeptEntry.{KeptEntry}
 use Rattle.shared_hub.specs.declared.kept.KeptEntry.TheVariants.{Logged}
 use Rattle.shared_hub.specs.declared.steps.Asked.{Asked}
+use Rattle.shared_hub.specs.declared.steps.PushTurn.{PushTurn}
+use Rattle.shared_hub.specs.declared.steps.PushTurn.TheVariants as turn
 use Rattle.shared_hub.specs.Kept.{NamesAdmin, admin_in, hub_in, log_in}
 
 -- the list goes on with this event's entry, and its log is legal; or the list is as it was
@@ -30,10 +32,15 @@ abbrev pub RunsOpening : ℕ → Name → Name → Want → List KeptEntry → L
 RunsOpening caller user repo want before after result =
     Adds caller before after (opened user repo want (kept result)) × AnswersOpening (hub_in before) (hub_in after) user repo want result
 
--- a push
+-- a push, by the list that it found
 abbrev pub RunsPush : ℕ → Asked → List KeptEntry → List KeptEntry → Pushed → Type 0
 RunsPush caller asked before after result =
-    Adds caller before after (settled asked.pin asked.pack asked.commands asked.atomic result) × AnswersPush asked.pin result
+    Adds caller before after (settled asked.pin asked.pack asked.commands asked.atomic result) × AnswersPush (hub_in before) asked.pin result
+
+-- a turn of a push: it is settled; or the list is as it was, and the push comes back, to be judged again
+abbrev pub RunsPushTurn : ℕ → Asked → List KeptEntry → List KeptEntry → PushTurn → Type 0
+RunsPushTurn caller asked before after (turn.Settled result) = RunsPush caller asked before after result
+RunsPushTurn caller asked before after (turn.Again back wild) = (after ≡ before) × (back ≡ asked)
 
 -- a change or a listing of roles
 abbrev pub RunsChange : ℕ → Name → Name → PermChange → List KeptEntry → List KeptEntry → PermsAnswer → Type 0

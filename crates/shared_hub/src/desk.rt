@@ -7,11 +7,11 @@ ghost use Rattle.git_object.specs.Object.{FitOnePack};
 ghost use Rattle.hub_history.specs.Push.{AreWithinLimits};
 ghost use Rattle.push_judging.specs.Judged.{IsJudgement};
 ghost use Rattle.hub.specs.Desk.{Enters, IsSound, KeepsPins, Looks, Permits, Pushes};
-ghost use Rattle.shared_hub.specs.Desk.{desk_of};
+ghost use Rattle.shared_hub.specs.Desk.{EndsTurn, desk_of};
 ghost use Rattle.shared_hub.specs.Shared.{IsHubPass};
 
 use crate::shared::{SharedHub, SharedPass};
-use crate::steps::{Asked, Enter, Look, Permit, Push};
+use crate::steps::{Asked, Enter, Look, Permit, Push, PushTurn};
 use git_object::ObjectList;
 use hub::{
     Desk, Entered, Judged, Looked, PermChange, Permitted, Pin, Pushed, RepoName, UserName, Want,
@@ -66,6 +66,26 @@ impl<'a, R: Wait> SharedDesk<'a, R> {
     }
 }
 
+impl<'a, R: Wait> SharedDesk<'a, R> {
+    // One turn of a push. Where it ends without an entry the pass is as it was.
+    fn push_in_turn(&mut self, alloc: Global, asked: Asked) -> PushTurn
+        requires stands { Stands asked.pin (desk_of self.old).admin (desk_of self.old).seen }
+        requires write { asked.pin.pinned.want ≡ want.Write }
+        requires within { AreWithinLimits asked.commands }
+        requires fit { FitOnePack asked.pack }
+        requires judged { IsJudgement asked.pin.pinned asked.pack asked.commands asked.judged }
+        ensures turn { EndsTurn self.old self.new asked result }
+        ensures goes { IsSamePass self.old self.new }
+    {
+        let mut step = Push::new(alloc, self.pass.caller(), &self.pass, asked);
+        let hub = self.hub;
+        let Some(turn) = hub.lock.with_turn(self.rt, &mut self.pass, &mut step) else {
+            unreachable!()
+        };
+        turn
+    }
+}
+
 impl<'a, R: Wait> Desk for SharedDesk<'a, R> {
     ghost use Rattle.std.specs.Prelude.{refl};
     ghost use Rattle.std.proofs.Common.{◌∙◌};
@@ -95,19 +115,25 @@ impl<'a, R: Wait> Desk for SharedDesk<'a, R> {
         atomic: bool,
         judged: Judged,
     ) -> Pushed {
-        let asked = Asked {
+        let mut asked = Asked {
             pin,
             pack,
             commands,
             atomic,
             judged,
         };
-        let mut step = Push::new(alloc, self.pass.caller(), &self.pass, asked);
-        let hub = self.hub;
-        let Some(pushed) = hub.lock.with_turn(self.rt, &mut self.pass, &mut step) else {
-            unreachable!()
-        };
-        pushed
+        let rt = self.rt;
+        for _ in rt.forever() {
+            let (mut back, wild) = match self.push_in_turn(alloc, asked) {
+                PushTurn::Settled(pushed) => return pushed,
+                PushTurn::Again(back, wild) => (back, wild),
+            };
+            if back.judge_again(alloc, wild).is_err() {
+                return Pushed::NoMemory(back.pin);
+            }
+            asked = back;
+        }
+        unreachable!()
     }
 
     fn permit(

@@ -1,12 +1,14 @@
 // What each call of a desk does while it has the turn.
-ghost use Rattle.std.specs.Prelude.{[]};
+ghost use Rattle.std.specs.Prelude.{◌≡◌, []};
 ghost use Rattle.std.specs.Option.{ForSome};
 ghost use Rattle.hub_history.specs.History.{HasShortRole};
 ghost use Rattle.turn_lock.specs.Lock.{seen};
-ghost use Rattle.shared_hub.specs.Steps.{RunsChange, RunsLook, RunsOnce, RunsOpening, RunsPush};
+ghost use Rattle.shared_hub.specs.Steps.{RunsChange, RunsLook, RunsOnce, RunsOpening, RunsPushTurn};
+ghost use Rattle.push_judging.specs.Judged.{IsJudgement};
 
 use crate::kept::KeptHub;
 use crate::shared::SharedPass;
+use base_types::NoMemory;
 use git_object::ObjectList;
 use hub::{Entered, Judged, Looked, PermChange, Permitted, Pin, Pushed, RepoName, UserName, Want};
 use ref_store::CommandList;
@@ -14,6 +16,7 @@ use std::alloc::Global;
 use std::marker::Model;
 use std::snapshot::Snapshot;
 use turn_lock::Step;
+use wild_perms::Wild;
 
 /// An opening.
 #[derive(Drop)]
@@ -48,6 +51,26 @@ pub struct Asked {
     pub commands: CommandList,
     pub atomic: bool,
     pub judged: Judged,
+}
+
+impl Asked {
+    /// Judges the push again, by this creator and these roles, before it takes the turn once more.
+    pub fn judge_again(&mut self, alloc: Global, wild: Wild) -> Result<(), NoMemory>
+        requires { IsJudgement self.old.pin.pinned self.old.pack self.old.commands self.old.judged }
+        ensures same { self.new ≡ record self.old { judged = self.new.judged } }
+        ensures judged { IsJudgement self.old.pin.pinned self.old.pack self.old.commands self.new.judged }
+    {
+        self.judged
+            .judge_again(alloc, &self.pin, &self.pack, &self.commands, wild)
+    }
+}
+
+/// How a push's turn ended.
+#[derive(Drop)]
+pub enum PushTurn {
+    Settled(Pushed),
+    /// Nothing was done: the push is to be judged by this creator and these roles first.
+    Again(Asked, Wild),
 }
 
 /// A push, which has something to push until it is run, and what its caller had seen before.
@@ -91,28 +114,33 @@ impl Push {
 }
 
 impl Step<KeptHub> for Push {
-    type Answer = Option<Pushed>;
+    type Answer = Option<PushTurn>;
 
     ghost knows = { λ s. s.known };
 
     ghost caller = { λ s. s.caller };
 
-    ghost relates = { λ s before after answer. RunsOnce (RunsPush s.caller) s.asked before after answer };
+    ghost relates = { λ s before after answer. RunsOnce (RunsPushTurn s.caller) s.asked before after answer };
 
-    fn run(&mut self, held: &mut KeptHub) -> Option<Pushed> {
-        let Some(
-            Asked {
-                pin,
-                pack,
-                commands,
-                atomic,
-                judged,
-            },
-        ) = self.asked.take()
-        else {
+    fn run(&mut self, held: &mut KeptHub) -> Option<PushTurn> {
+        let Some(asked) = self.asked.take() else {
             return None;
         };
-        Some(held.hub.settle(self.alloc, self.caller, pin, pack, commands, atomic, judged))
+        if let Ok(Some(wild)) = held
+            .hub
+            .wild_to_judge(self.alloc, &asked.pin, &asked.judged)
+        {
+            return Some(PushTurn::Again(asked, wild));
+        }
+        let Asked {
+            pin,
+            pack,
+            commands,
+            atomic,
+            judged,
+        } = asked;
+        let pushed = held.hub.settle(self.alloc, self.caller, pin, pack, commands, atomic, judged);
+        Some(PushTurn::Settled(pushed))
     }
 }
 

@@ -64,6 +64,7 @@ outcomes_of (Looked user) = []
 -- a command was denied by the rules
 abbrev pub is_denied : Outcome → Bool
 is_denied (outcome.Denied verdict letter name) = true
+is_denied (outcome.DeniedNow verdict letter name) = true
 is_denied other = false
 
 -- it was refused otherwise

@@ -41,7 +41,7 @@ fn openings_denied(event: &Event) -> u64
 fn is_denied(outcome: &Outcome) -> bool
     ensures { result ≡ is_denied outcome.now }
 {
-    matches!(outcome, Outcome::Denied { .. })
+    matches!(outcome, Outcome::Denied { .. } | Outcome::DeniedNow { .. })
 }
 
 fn count_done(outcomes: &[Outcome]) -> u64

@@ -15,11 +15,12 @@ use std::test::Fail;
 
 const ONES: ObjectId = ObjectId { bytes: [0x11; 20] };
 
-static LINES: [&str; 4] = [
+static LINES: [&str; 5] = [
     "ng refs/heads/a stale, it is 1111111111111111111111111111111111111111\n",
     "ng refs/heads/a name collision 1111111111111111111111111111111111111111\n",
     "ng refs/heads/a repository would have 4294967296 objects\n",
     "ng refs/heads/a too many paths\n",
+    "ng refs/heads/a too many paths (rules at push)\n",
 ];
 
 // The outcome of which a line tells.
@@ -28,7 +29,8 @@ fn outcome_at(place: usize) -> Outcome {
         0 => Outcome::Stale(ONES),
         1 => Outcome::Collided(ONES),
         2 => Outcome::Full(4_294_967_296),
-        _ => Outcome::ManyPaths,
+        3 => Outcome::ManyPaths,
+        _ => Outcome::ManyPathsNow,
     }
 }
 
@@ -81,7 +83,7 @@ fn is_told(
 ) -> Result<bool, Fail>
     requires { HaveShortNames push.now.commands }
 {
-    let text = status_line(alloc, policy, push, command, &outcome_at(place))?;
+    let text = status_line(alloc, policy, policy, push, command, &outcome_at(place))?;
     Ok(text.as_slice() == line.as_bytes())
 }
 

@@ -1,2 +1,3 @@
 mod LawLemmas
 mod CheckLemmas
+mod PathLemmas

@@ -1,5 +1,6 @@
 -- A check of changes, as contracts see it.
 use Rattle.std.specs.Prelude.{◌≡◌, ℕ, Bool, List}
+use Rattle.git_object.specs.Content.{Content}
 use Rattle.rule_compile.specs.Patterns.{AreTrue, Patterns}
 use Rattle.rule_compile.specs.Flat.{Flat}
 use Rattle.access_check.specs.Letters.{flags_of}
@@ -9,12 +10,13 @@ use Rattle.wild_perms.specs.Roles.{WildView}
 use Rattle.access_check.specs.declared.letters.Flags.{Flags}
 use Rattle.access_check.specs.declared.verdicts.Vref.TheVariants.{Name, MergeCheck}
 
--- the rules, and who asks of which repository, which has this creator and these roles
+-- the rules, who asks of which repository, which has this creator and these roles, and the objects
 pub record CheckView : Type 0 where
   pub flat : Flat
   pub wild : WildView
   pub repo : List ℕ
   pub user : List ℕ
+  pub objects : List Content
 
 abbrev pub asked_by : Patterns → CheckView → Asked
 asked_by patterns check = asked patterns check.flat check.wild check.repo check.user

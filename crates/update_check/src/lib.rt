@@ -9,6 +9,7 @@
 
 mod check;
 mod laws;
+mod path_verdicts;
 mod refusal;
 
 pub use access_check::{Letter, Policy, RepoName, UserName, Verdict, Wild};

@@ -1,6 +1,9 @@
 // Why a change isn't let be made.
+ghost use Rattle.std.specs.Prelude.{◌≡◌};
+
 use access_check::{Letter, Verdict};
 use base_types::Text;
+use std::alloc::AllocError;
 
 /// Why the rules don't let a change of a ref be made.
 #[derive(Drop)]
@@ -13,4 +16,23 @@ pub enum Refusal {
     },
     /// A rule asks for changed paths, and the trees differ at more than 200,000 paths, or at one of more than 4,096 bytes.
     ManyPaths,
+}
+
+impl Clone for Refusal {
+    ghost is_clone = { λ refusal copy. copy ≡ refusal };
+
+    fn clone(&self) -> Result<Refusal, AllocError> {
+        Ok(match self {
+            Refusal::Denied {
+                verdict,
+                letter,
+                name,
+            } => Refusal::Denied {
+                verdict: *verdict,
+                letter: *letter,
+                name: name.clone()?,
+            },
+            Refusal::ManyPaths => Refusal::ManyPaths,
+        })
+    }
 }

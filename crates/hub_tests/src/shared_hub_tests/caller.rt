@@ -100,7 +100,7 @@ fn push<D: Desk>(alloc: Global, desk: &mut D, pin: Pin, job: &Job) -> Result<Out
         return Err(NoMemory);
     }
     match desk.push(alloc, pin, pack, commands, false, judged) {
-        Pushed::Settled { outcomes, made: _ } => Ok(outcomes),
+        Pushed::Settled { outcomes, .. } => Ok(outcomes),
         Pushed::NoMemory(_) => Err(NoMemory),
     }
 }

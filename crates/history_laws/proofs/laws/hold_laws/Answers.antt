@@ -1,5 +1,5 @@
 use Rattle.history_laws.proofs.AtomicLemmas.{names_the_first}
-use Rattle.history_laws.proofs.DeniedLemmas.{denied_is_not_let, many_is_not_let}
+use Rattle.history_laws.proofs.DeniedLemmas.{denied_is_not_let, denied_now_is_not_let, many_is_not_let, many_now_is_not_let}
 use Rattle.history_laws.proofs.LetLemmas.{past_is_let}
 use Rattle.history_laws.proofs.NamedLemmas.{all_are_named}
 use Rattle.history_laws.proofs.OpenedLemmas.{opened_is_let, refused_is_not_let}
@@ -17,6 +17,12 @@ returns-clause-denied c = denied_is_not_let c.hold_laws.ensures.exactly c.hold_l
 
 pub returns-clause-many : goal.returns-clause-many
 returns-clause-many c = many_is_not_let c.hold_laws.ensures.exactly
+
+pub returns-clause-denied_now : goal.returns-clause-denied_now
+returns-clause-denied_now c = denied_now_is_not_let c.hold_laws.ensures.exactly c.hold_laws.ensures.denials
+
+pub returns-clause-many_now : goal.returns-clause-many_now
+returns-clause-many_now c = many_now_is_not_let c.hold_laws.ensures.exactly
 
 pub returns-clause-past : goal.returns-clause-past
 returns-clause-past c = past_is_let c.hold_laws.ensures.exactly

@@ -10,7 +10,7 @@ use Rattle.hub_history.proofs.GrowthLemmas.{log_grows, objects_follow, stays_the
 use Rattle.hub_history.proofs.WholeLogs.{refs_whole}
 use Rattle.hub_history.proofs.InTheWay.{directory_is, done_clear}
 use Rattle.hub_history.proofs.NoZero.{refs_nonzero}
-use Rattle.hub_history.proofs.MovedLogs.{changes_are_done, done_let, done_moves, refused_atomic, stale_is}
+use Rattle.hub_history.proofs.MovedLogs.{changes_are_done, done_let, done_let_now, done_moves, refused_atomic, stale_is}
 use Rattle.hub_history.proofs.RoleLemmas.{answers_tell, change_of_one, created_is_new, creators_opened, new_is_empty, roles_change_there, roles_sets, undeclared_stay}
 use Rattle.hub_history.proofs.ObjectLemmas.{names_once}
 use Rattle.hub_history.proofs.FormedObjects.{objects_formed}
@@ -64,6 +64,9 @@ returns-clause-there c = λ admin log more legal repo was there.
 
 pub returns-clause-allowed : goal.returns-clause-allowed
 returns-clause-allowed c = λ admin before entry pinned command legal tells patterns true_ps. done_let c.hold_laws.ensures.exactly patterns true_ps admin before entry legal pinned command tells
+
+pub returns-clause-allowed_now : goal.returns-clause-allowed_now
+returns-clause-allowed_now c = λ admin before entry pinned command legal tells patterns true_ps. done_let_now c.hold_laws.ensures.exactly patterns true_ps admin before entry legal pinned command tells
 
 pub returns-clause-moves : goal.returns-clause-moves
 returns-clause-moves c = λ admin before entry pinned command legal tells.

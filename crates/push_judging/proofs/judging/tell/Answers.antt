@@ -1,6 +1,7 @@
 use Rattle.std.proofs.Common.{◌≡◌, List, ◌++◌, sym, ◌∙◌, ap, subst}
 use Rattle.std.specs.Prelude.{Option, Some, None}
 use Rattle.git_object.specs.Content.{Content}
+use Rattle.vref.specs.Facts.{AreFacts}
 use Rattle.update_check.specs.Table.{Counts, Passes}
 use Rattle.hub_history.specs.declared.outcome.Outcome.{Outcome}
 use Rattle.hub_history.specs.Push.{ByConf, by_new_value}
@@ -38,7 +39,8 @@ returns-in-Some-3-clause-said c = λ ps ok.
     let all = pinned.repository.objects ++ c.args.pack.now in
     let objects : c.args.walks.now ≡ all = c.requires.walks ∙ c.requires.lens in
     let says : SaysByRules ps c.args.check.now c.args.lens.now c.args.command.now (Some c.in-Some-3.outcome) =
-    subst (λ (o : Option Outcome). SaysByRules ps c.args.check.now c.args.lens.now c.args.command.now o) c.in-Some-3.is (c.in_ok-outcome-2.ensures ps ok) in
+    subst (λ (o : Option Outcome). SaysByRules ps c.args.check.now c.args.lens.now c.args.command.now o) c.in-Some-3.is
+    (subst (λ (os : List Content). SaysByRules ps c.args.check.now os c.args.command.now c.in_ok-outcome-2.field-0) c.requires.among (c.in_ok-outcome-2.ensures.said ps ok)) in
     subst (λ (t : Told). Tells ps pinned c.args.pack.now c.args.twice c.args.command.now t.outcome) (sym c.refused-in-Some-3.ensures)
     (Passes (Some c.in-Some-3.outcome) (sym c.in_default.is ∙ c.by_command.ensures)
     (Passes (Some c.in-Some-3.outcome) (sym c.in_default-2.is ∙ c.in_ok-outcome.ensures.outcome ∙ ap (λ (os : List Content). by_new_value os c.args.command.now) objects)
@@ -59,9 +61,13 @@ returns-clause-said c =
     (λ told said ps ok.
     let row : ByConf ps pinned all c.args.command.now told.outcome = subst (λ (os : List Content). ByConf ps pinned os c.args.command.now told.outcome) c.requires.lens (said ps ok) in
     let says : SaysByRules ps c.args.check.now c.args.lens.now c.args.command.now None =
-    subst (λ (o : Option Outcome). SaysByRules ps c.args.check.now c.args.lens.now c.args.command.now o) c.in_default-3.is (c.in_ok-outcome-2.ensures ps ok) in
+    subst (λ (o : Option Outcome). SaysByRules ps c.args.check.now c.args.lens.now c.args.command.now o) c.in_default-3.is
+    (subst (λ (os : List Content). SaysByRules ps c.args.check.now os c.args.command.now c.in_ok-outcome-2.field-0) c.requires.among (c.in_ok-outcome-2.ensures.said ps ok)) in
     Passes told.outcome (sym c.in_default.is ∙ c.by_command.ensures)
     (Passes told.outcome (sym c.in_default-2.is ∙ c.in_ok-outcome.ensures.outcome ∙ ap (λ (os : List Content). by_new_value os c.args.command.now) objects)
     (Passes told.outcome (by_check ps ok pinned c.args.check.now all c.args.command.now None c.requires.check (subst (λ (os : List Content). SaysByRules ps c.args.check.now os c.args.command.now None) c.requires.lens says))
     (last_row (ByConf ps pinned all c.args.command.now) told.outcome row))))
     c.by_conf.ensures.said
+
+pub by_rules-requires : goal.by_rules-requires
+by_rules-requires c = subst (λ (os : List Content). AreFacts os c.args.command.now.name c.args.command.now.old c.args.command.now.new c.args.facts.now) (sym c.requires.among) c.requires.facts

@@ -48,6 +48,7 @@ loop-k-preserved c =
           ∙ ap (λ (l : List Command). confs_of pinned pack l (c.loop-k.outcomes.items ++ told ∷ [])) (ap (λ (d : Command). take c.loop-k.k commands ++ d ∷ []) c.index-commands-k.is ∙ sym (take_more commands c.loop-k.k command c.loop-k-test.true))
           ∙ ap (confs_of pinned pack (take (c.loop-k.k + 1) commands)) (sym outcomes);
       walks = c.in_ok-outcome.ensures.walks ∙ c.loop-k.invariant.walks;
+      check = c.in_ok-outcome.ensures.check ∙ c.loop-k.invariant.check;
     }
 
 pub returns-clause-outcomes : goal.returns-clause-outcomes

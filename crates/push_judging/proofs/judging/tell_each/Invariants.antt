@@ -11,4 +11,5 @@ invariant-loop-k l = record {
   long : length l.outcomes.items ≡ l.k;
   confs : l.confs.items ≡ confs_of l.pin.pinned l.pack (take l.k l.commands) l.outcomes.items;
   walks : l.walks ≡ l.fn.walks;
+  check : l.check ≡ l.initial.check;
 }

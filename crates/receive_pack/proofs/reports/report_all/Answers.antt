@@ -9,7 +9,7 @@ loop-command-init g c = record { writes = λ b desk out ran. rw (c.iter-told.ens
 
 pub returns-in_default-clause-runs : goal.returns-in_default-clause-runs
 returns-in_default-clause-runs g c = λ desk.
-    rw (← statuses_all c.args.policy.now.rules c.args.push.now c.args.outcomes.now) (c.loop-command.invariant.writes _ desk _ (rw (statuses_none c.args.policy.now.rules c.args.push.now _ _ c.in_default.ensures.steps.0) (says_nothing _ desk)))
+    rw (← statuses_all c.args.policy.now.rules c.args.later.now.rules c.args.push.now c.args.outcomes.now) (c.loop-command.invariant.writes _ desk _ (rw (statuses_none c.args.policy.now.rules c.args.later.now.rules c.args.push.now _ _ c.in_default.ensures.steps.0) (says_nothing _ desk)))
 
 pub report_one-requires : goal.report_one-requires
 report_one-requires g c =
@@ -22,8 +22,8 @@ returns-in_err-report_one-clause-runs g c = λ desk.
     let is : c.command-item.result ≡ get_or c.args.push.now.commands c.loop-command.command-index c.command-item.result = search rules in
     let within : c.loop-command.command-index < length c.args.push.now.commands = search rules in
     let p = err_from_is_err_and c.from_residual.result c.from_residual.ensures.1 in
-    rw (← statuses_all c.args.policy.now.rules c.args.push.now c.args.outcomes.now) (c.loop-command.invariant.writes _ desk _
-    (rw (statuses_more c.args.policy.now.rules c.args.push.now c.loop-command.command-index _ c.in-Some.outcome.now _ _ within is c.in-Some.ensures.steps) (says_exits _ _ desk _ _ c.report_one.result _ _ _ c.in_err-report_one.was p.1 p.2 (c.report_one.ensures.runs desk))))
+    rw (← statuses_all c.args.policy.now.rules c.args.later.now.rules c.args.push.now c.args.outcomes.now) (c.loop-command.invariant.writes _ desk _
+    (rw (statuses_more c.args.policy.now.rules c.args.later.now.rules c.args.push.now c.loop-command.command-index _ c.in-Some.outcome.now _ _ within is c.in-Some.ensures.steps) (says_exits _ _ desk _ _ c.report_one.result _ _ _ c.in_err-report_one.was p.1 p.2 (c.report_one.ensures.runs desk))))
 
 pub loop-command-preserved : goal.loop-command-preserved
 loop-command-preserved g c =
@@ -32,7 +32,7 @@ loop-command-preserved g c =
     record {
       writes = λ b desk out ran.
           c.loop-command.invariant.writes b desk out
-          (rw (statuses_more c.args.policy.now.rules c.args.push.now c.loop-command.command-index _ c.in-Some.outcome.now _ _ within is c.in-Some.ensures.steps) (says _ _ desk _ _ c.report_one.result b c.in_ok-report_one.field-0 out c.in_ok-report_one.was (c.report_one.ensures.runs desk) ran));
+          (rw (statuses_more c.args.policy.now.rules c.args.later.now.rules c.args.push.now c.loop-command.command-index _ c.in-Some.outcome.now _ _ within is c.in-Some.ensures.steps) (says _ _ desk _ _ c.report_one.result b c.in_ok-report_one.field-0 out c.in_ok-report_one.was (c.report_one.ensures.runs desk) ran));
       reads = c.in_ok-report_one.ensures.tells.0 ∙ c.loop-command.invariant.reads;
       puts = c.in_ok-report_one.ensures.tells.1 ∙ c.loop-command.invariant.puts;
     }
@@ -40,4 +40,4 @@ loop-command-preserved g c =
 pub returns-clause-runs : goal.returns-clause-runs
 returns-clause-runs g c = λ desk.
     let past : length c.args.push.now.commands ≤ c.loop-command.command-index = search rules in
-    rw (← statuses_all c.args.policy.now.rules c.args.push.now c.args.outcomes.now) (c.loop-command.invariant.writes _ desk _ (rw (statuses_end c.args.policy.now.rules c.args.push.now c.loop-command.command-index _ past) (says_nothing _ desk)))
+    rw (← statuses_all c.args.policy.now.rules c.args.later.now.rules c.args.push.now c.args.outcomes.now) (c.loop-command.invariant.writes _ desk _ (rw (statuses_end c.args.policy.now.rules c.args.later.now.rules c.args.push.now c.loop-command.command-index _ past) (says_nothing _ desk)))

@@ -12,8 +12,8 @@ use Rattle.receive_pack.proofs.reports.report_all.Given as goal
 abbrev pub invariant-loop-command : goal.invariant-loop-command
 invariant-loop-command g l = record {
   writes : (b : LinkState) (desk : DeskView) (out : Result (Unit {0}) (Halt SessionEnd))
-      → Runs (g.L.Endpoint.state l.link) b desk desk (write (statuses_left l.policy.rules l.push (drop l.command-index l.push.commands) (iter_rest l.told))) out
-      → Runs (g.L.Endpoint.state l.initial.link) b desk desk (write (statuses_left l.policy.rules l.push l.push.commands l.outcomes)) out;
+      → Runs (g.L.Endpoint.state l.link) b desk desk (write (statuses_left l.policy.rules l.later.rules l.push (drop l.command-index l.push.commands) (iter_rest l.told))) out
+      → Runs (g.L.Endpoint.state l.initial.link) b desk desk (write (statuses_left l.policy.rules l.later.rules l.push l.push.commands l.outcomes)) out;
   reads : (g.L.Endpoint.state l.link).read_faults ≡ (g.L.Endpoint.state l.initial.link).read_faults;
   puts : (g.L.Endpoint.state l.link).write_faults ≡ (g.L.Endpoint.state l.initial.link).write_faults;
 }

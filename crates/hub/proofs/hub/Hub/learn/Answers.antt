@@ -27,4 +27,4 @@ invariant_of-self-2 c =
     ∙ ap (λ (x : ByName Repository). insert x c.in_ok-name.name c.in-Some.same) (ap map_of c.reserve.ensures.same)
     ∙ ap (λ (n : Name). insert m n c.in-Some.same) c.in_ok-name.ensures.cases
     ∙ insert_same m name c.in-Some.same (there ∙ ap (λ (r : Repository). Some r) (sym is)) in
-    (c.self.invariant.0, ap (λ (x : ByName Repository). stored x c.self.inside.conf) put ∙ state)
+    (c.self.invariant.0, ap (λ (x : ByName Repository). stored x c.self.inside.conf) put ∙ state, c.self.invariant.2)

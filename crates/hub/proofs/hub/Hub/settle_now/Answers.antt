@@ -4,8 +4,8 @@ use Rattle.ref_store.specs.Objects.{with_pack}
 use Rattle.ref_store.specs.Refs.{Name}
 use Rattle.ref_store.specs.Store.{Store}
 use Rattle.ancestry.specs.Known.{Extends}
-use Rattle.hub_history.specs.Push.{Judges}
-use Rattle.hub_history.specs.State.{Repository, repository_at}
+use Rattle.hub_history.specs.Push.{JudgesAtPush}
+use Rattle.hub_history.specs.State.{Repository, in_force, repository_at}
 use Rattle.hub_history.proofs.JudgeLemmas.{as_many}
 use Rattle.hub_history.proofs.WholeLogs.{pinned_first}
 use Rattle.hub_history.proofs.WholeRefs.{Begins}
@@ -16,11 +16,11 @@ use Rattle.hub.proofs.hub.Hub.settle_now.Goals as goal
 
 pub settle-requires-clause-alike : goal.settle-requires-clause-alike
 settle-requires-clause-alike c =
-    as_many (Judges c.some_patterns_are_true.ensures.0 c.args.pin.now.pinned c.args.pack.now c.args.commands.now) c.args.commands.now c.args.judged.now (c.requires.judged c.some_patterns_are_true.ensures.0 c.some_patterns_are_true.ensures.1)
+    as_many (JudgesAtPush c.some_patterns_are_true.ensures.0 (in_force (state_of c.args.self.now) c.args.pin.now.pinned.repo) c.args.pin.now.pinned c.args.pack.now c.args.commands.now) c.args.commands.now c.args.judged.now (c.requires.judged c.some_patterns_are_true.ensures.0 c.some_patterns_are_true.ensures.1)
 
 pub settle-requires-clause-fit : goal.settle-requires-clause-fit
 settle-requires-clause-fit c =
-    judgement_fits c.some_patterns_are_true.ensures.0 c.args.pin.now.pinned c.args.pack.now c.args.commands.now c.args.judged.now (c.requires.judged c.some_patterns_are_true.ensures.0 c.some_patterns_are_true.ensures.1)
+    judgement_fits c.some_patterns_are_true.ensures.0 (in_force (state_of c.args.self.now) c.args.pin.now.pinned.repo) c.args.pin.now.pinned c.args.pack.now c.args.commands.now c.args.judged.now (c.requires.judged c.some_patterns_are_true.ensures.0 c.some_patterns_are_true.ensures.1)
 
 pub settle-requires-clause-same : goal.settle-requires-clause-same
 settle-requires-clause-same c = λ is.

@@ -2,16 +2,25 @@ use Rattle.std.proofs.Common.{ap, subst, sym}
 use Rattle.std.specs.Prelude.{Some}
 use mathlib.Core.List.{IsPrefix}
 use Rattle.turn_lock.specs.Lock.{seen}
-use Rattle.hub.specs.Answer.{settled}
-use Rattle.hub.specs.Hub.{Logs}
+use Rattle.hub.specs.Answer.{AnswersPush, settled}
+use Rattle.hub.specs.Hub.{HubView, Logs}
 use Rattle.shared_hub.specs.Kept.{listed}
-use Rattle.shared_hub.specs.Steps.{MayPushAny, PushState, RunsOnce, RunsPush}
-use Rattle.shared_hub.proofs.StepLemmas.{adds, adds_one, stands_in}
+use Rattle.shared_hub.specs.declared.steps.PushTurn.TheVariants as turn
+use Rattle.shared_hub.specs.Steps.{MayPushAny, PushState, RunsOnce, RunsPush, RunsPushTurn}
+use Rattle.shared_hub.proofs.StepLemmas.{adds, adds_one, of_list, stands_in}
 use Rattle.shared_hub.proofs.steps.PushStepKeptHub.run.Goals as goal
 
-pub settle-requires-clause-stands : goal.settle-requires-clause-stands
-settle-requires-clause-stands c =
-    let asked = c.in-Some.field-0 in
+pub wild_to_judge-requires : goal.wild_to_judge-requires
+wild_to_judge-requires c =
+    let asked = c.in-Some.asked in
+    let known = seen c.self.inside.known.value in
+    let may = subst (λ o. MayPushAny known o) (sym c.in-Some.ensures.value) c.self.invariant in
+    let begins = subst (λ l. IsPrefix l (listed c.args.held.now.hub)) (sym (ap (λ (s : PushState). s.known) c.self.view_is)) c.requires in
+    stands_in known c.args.held.now.hub asked.pin may.admin begins may.stands
+
+pub settle-pushed-requires-clause-stands : goal.settle-pushed-requires-clause-stands
+settle-pushed-requires-clause-stands c =
+    let asked = c.in-Some.asked in
     let known = seen c.self.inside.known.value in
     let may = subst (λ o. MayPushAny known o) (sym c.in-Some.ensures.value) c.self.invariant in
     let begins = subst (λ l. IsPrefix l (listed c.args.held.now.hub)) (sym (ap (λ (s : PushState). s.known) c.self.view_is)) c.requires in
@@ -19,17 +28,17 @@ settle-requires-clause-stands c =
 
 pub returns-clause-adds : goal.returns-clause-adds
 returns-clause-adds c =
-    let asked = c.in-Some.field-0 in
-    let event = settled asked.pin asked.pack asked.commands asked.atomic c.settle.result in
+    let asked = c.in-Some.asked in
+    let event = settled asked.pin asked.pack asked.commands asked.atomic c.settle-pushed.result in
     let caller = ap (λ (s : PushState). s.caller) c.self.view_is in
-    adds_one c.args.held.now (record { hub = c.settle.new.self }) c.args.self.now.caller event (subst (λ n. Logs c.args.held.now.hub c.settle.new.self n event) caller c.settle.ensures.logs)
+    adds_one c.args.held.now (record { hub = c.settle-pushed.new.self }) c.args.self.now.caller event (subst (λ n. Logs c.args.held.now.hub c.settle-pushed.new.self n event) caller c.settle-pushed.ensures.logs)
 
 pub returns-clause-relates : goal.returns-clause-relates
 returns-clause-relates c =
-    let asked = c.in-Some.field-0 in
+    let asked = c.in-Some.asked in
     let old = c.args.held.now.hub in
-    let new = c.settle.new.self in
-    let event = settled asked.pin asked.pack asked.commands asked.atomic c.settle.result in
-    let runs : RunsPush c.self.inside.caller asked (listed old) (listed new) c.settle.result = (adds old new c.self.inside.caller event c.settle.ensures.logs c.settle.ensures.legal, c.settle.ensures.answers) in
-    subst (λ (s : PushState). RunsOnce (RunsPush s.caller) s.asked (listed old) (listed new) (Some c.settle.result)) c.self.view_is
-    (subst (λ o. RunsOnce (RunsPush c.self.inside.caller) o (listed old) (listed new) (Some c.settle.result)) c.in-Some.ensures.value runs)
+    let new = c.settle-pushed.new.self in
+    let event = settled asked.pin asked.pack asked.commands asked.atomic c.settle-pushed.result in
+    let runs : RunsPush c.self.inside.caller asked (listed old) (listed new) c.settle-pushed.result = (adds old new c.self.inside.caller event c.settle-pushed.ensures.logs c.settle-pushed.ensures.legal, of_list (λ (h : HubView). AnswersPush h asked.pin c.settle-pushed.result) old c.settle-pushed.ensures.answers) in
+    subst (λ (s : PushState). RunsOnce (RunsPushTurn s.caller) s.asked (listed old) (listed new) (Some (turn.Settled c.settle-pushed.result))) c.self.view_is
+    (subst (λ o. RunsOnce (RunsPushTurn c.self.inside.caller) o (listed old) (listed new) (Some (turn.Settled c.settle-pushed.result))) c.in-Some.ensures.value runs)

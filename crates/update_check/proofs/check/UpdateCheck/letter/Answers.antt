@@ -8,5 +8,5 @@ use Rattle.update_check.proofs.check.UpdateCheck.letter.Goals as goal
 pub returns : goal.returns
 returns c = λ ps ok.
     c.letter_of.ensures
-    ∙ ap (λ (f : Flags). letter_of f c.args.facts.now) (c.self.invariant.letters ps ok)
+    ∙ ap (λ (f : Flags). letter_of f c.args.facts.now) (c.self.invariant.0.letters ps ok)
     ∙ ap (λ (v : CheckView). letter_for ps v.flat.rules (asked_by ps v) c.args.facts.now) c.self.view_is

@@ -1,14 +1,15 @@
-use Rattle.std.proofs.Common.{◌∙◌, sym, Some}
+use Rattle.std.proofs.Common.{◌≡◌, ◌∙◌, sym, subst, Bool, true}
 use Rattle.access_check.specs.Verdicts.{holds_vref}
 use Rattle.access_check.specs.declared.verdicts.Vref.TheVariants.{Name}
 use Rattle.update_check.specs.Check.{asked_by}
-use Rattle.update_check.proofs.CheckLemmas.{if_ok, says_asked}
+use Rattle.update_check.specs.Rules.{SaysIf}
+use Rattle.update_check.proofs.CheckLemmas.{if_ok}
 use Rattle.update_check.proofs.check.UpdateCheck.refusal_of_paths.Goals as goal
 
-pub returns-in-Listed : goal.returns-in-Listed
-returns-in-Listed c =
-    if_ok c.refusal_of_first.result c.refusal_of_first.ensures (λ said is ps ok.
+pub returns-clause-says : goal.returns-clause-says
+returns-clause-says c =
+    if_ok c.refusal_of_asked.result c.refusal_of_asked.ensures.says (λ said is ps ok.
     let rules = c.args.self.now.flat.rules in
     let a = asked_by ps c.args.self.now in
-    says_asked ps rules a c.args.letter c.args.lens.now c.args.change.now (Some c.in-Listed.paths) c.in-Listed.ensures (holds_vref ps rules a Name)
-    (sym (c.asks.ensures ps ok) ∙ c.if-not-asks.false) said (is ps ok))
+    let holds : true ≡ holds_vref ps rules a Name = sym c.if-not-asks.false ∙ c.asks.ensures ps ok in
+    subst (λ (b : Bool). SaysIf ps rules a b c.args.self.now.objects c.args.letter c.args.change.now said) holds (is ps ok))

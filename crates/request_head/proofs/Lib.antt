@@ -1,0 +1,5 @@
+pub mod FrontLemmas
+pub mod LawLemmas
+mod HeadLemmas
+pub mod PieceLemmas
+pub mod ReadLemmas
