@@ -1,0 +1,6 @@
+mod NameLemmas
+mod Loop
+mod FieldLaws
+mod PackLaws
+mod BodyLaws
+mod FoundLemmas

@@ -1,0 +1,128 @@
+// The record of an event, as it will be written.
+ghost use Rattle.std.specs.Prelude.{◌≡◌, ◌∷◌, ◌++◌, [], IfOk, OnOk};
+ghost use Rattle.std.specs.Int.{w64, to_be_bytes};
+ghost use Rattle.git_object.specs.Object.{FitOnePack};
+ghost use Rattle.hub_history.specs.History.{HasShortRole};
+ghost use Rattle.hub_history.specs.Push.{AreWithinLimits};
+ghost use Rattle.hub_history.specs.Requests.{Enter, Push, Permit, Look};
+ghost use Rattle.event_record.specs.Bodies.{body_of, change_bytes, flag_byte, want_byte};
+ghost use Rattle.event_record.specs.Writing.{Adds};
+
+use crate::NoMemory;
+use crate::writing::{put_commands, put_number, put_pack, put_repo, put_text, put_user};
+use access_check::Want;
+use conf_lex::{RepoName, UserName};
+use git_object::ObjectList;
+use hub_history::PermChange;
+use record_file::{RecordBuilder, RecordGroup};
+use ref_store::CommandList;
+use std::alloc::Global;
+
+// A record that has its caller, and the byte that says what was asked.
+fn begun(alloc: Global, caller: u64, kind: u8) -> Result<RecordBuilder, NoMemory>
+    ensures { IfOk result (λ builder. builder ≡ record { bodies = []; body = to_be_bytes w64 caller ++ kind ∷ [] }) }
+{
+    let mut builder = RecordBuilder::new(alloc)?;
+    put_number(&mut builder, caller)?;
+    builder.push(kind)?;
+    Ok(builder)
+}
+
+fn want_byte(want: Want) -> u8
+    ensures { result ≡ want_byte want }
+{
+    match want {
+        Want::Read => 0,
+        Want::Write => 1,
+    }
+}
+
+fn put_change(builder: &mut RecordBuilder, change: &PermChange) -> Result<(), NoMemory>
+    requires { HasShortRole change.now }
+    ensures { OnOk result (Adds builder.old builder.new (change_bytes change.now)) }
+{
+    match change {
+        PermChange::Grant { role, user } => {
+            builder.push(0)?;
+            put_text(builder, role.bytes())?;
+            put_user(builder, user)
+        }
+        PermChange::Revoke { role, user } => {
+            builder.push(1)?;
+            put_text(builder, role.bytes())?;
+            put_user(builder, user)
+        }
+        PermChange::List => builder.push(2),
+    }
+}
+
+/// The record of an opening.
+pub fn enter_record(
+    alloc: Global,
+    caller: u64,
+    user: &UserName,
+    repo: &RepoName,
+    want: Want,
+) -> Result<RecordGroup, NoMemory>
+    ensures { IfOk result (λ group. group ≡ body_of caller (Enter user.now repo.now want) ∷ []) }
+{
+    let mut builder = begun(alloc, caller, 1)?;
+    put_user(&mut builder, user)?;
+    put_repo(&mut builder, repo)?;
+    builder.push(want_byte(want))?;
+    builder.finish()
+}
+
+/// The record of a push after the opening at a place. It costs the bytes of the pack's bodies.
+pub fn push_record(
+    alloc: Global,
+    caller: u64,
+    place: u64,
+    pack: &ObjectList,
+    commands: &CommandList,
+    atomic: bool,
+) -> Result<RecordGroup, NoMemory>
+    requires within { AreWithinLimits commands.now }
+    requires fit { FitOnePack pack.now }
+    ensures { IfOk result (λ group. group ≡ body_of caller (Push place pack.now commands.now atomic) ∷ []) }
+{
+    let mut builder = begun(alloc, caller, 2)?;
+    put_number(&mut builder, place)?;
+    builder.push(flag_byte(atomic))?;
+    put_commands(&mut builder, commands)?;
+    put_pack(&mut builder, pack)?;
+    builder.finish()
+}
+
+fn flag_byte(flag: bool) -> u8
+    ensures { result ≡ flag_byte flag }
+{
+    if flag { 1 } else { 0 }
+}
+
+/// The record of a change or a listing of roles.
+pub fn permit_record(
+    alloc: Global,
+    caller: u64,
+    user: &UserName,
+    repo: &RepoName,
+    change: &PermChange,
+) -> Result<RecordGroup, NoMemory>
+    requires { HasShortRole change.now }
+    ensures { IfOk result (λ group. group ≡ body_of caller (Permit user.now repo.now change.now) ∷ []) }
+{
+    let mut builder = begun(alloc, caller, 3)?;
+    put_user(&mut builder, user)?;
+    put_repo(&mut builder, repo)?;
+    put_change(&mut builder, change)?;
+    builder.finish()
+}
+
+/// The record of a listing.
+pub fn look_record(alloc: Global, caller: u64, user: &UserName) -> Result<RecordGroup, NoMemory>
+    ensures { IfOk result (λ group. group ≡ body_of caller (Look user.now) ∷ []) }
+{
+    let mut builder = begun(alloc, caller, 4)?;
+    put_user(&mut builder, user)?;
+    builder.finish()
+}

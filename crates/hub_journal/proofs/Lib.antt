@@ -1,0 +1,4 @@
+pub mod JournalLemmas
+mod DeskLemmas
+mod ReplayLemmas
+mod RecoveryLemmas

@@ -1,0 +1,5 @@
+pub mod Events
+pub mod Replay
+pub mod Journal
+pub mod Faults
+pub mod Recovery
