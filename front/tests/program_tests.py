@@ -6,7 +6,7 @@ import subprocess
 from cerolimau.packets import packet
 
 SCRIPT = "script", "--admin", "admin"
-USAGE = b"usage: gitolite_shell script --admin NAME | serve --admin NAME --workers K --sessions N | check | load N START\n"
+USAGE = b"usage: gitolite_shell script --admin NAME | serve --admin NAME --workers K --sessions N | check | load N START | keep --admin NAME\n"
 EMPTY = b"session 0\n\n"
 SERVED = b"session 1 truncated 0\n\n"
 

@@ -1,16 +1,20 @@
-//! The program: `shell_main` of `shell_program` over the words, streams and clients that the system gives.
+//! The program: `shell_main` of `shell_program` over the words, streams, clients and files that the system gives.
 #![tactic(auto)]
 
-use edge_links::{StdSink, StdSource};
+use edge_links::{FileDisk, StdSink, StdSource};
 use shell_program::{Status, behind_name, posts_at, shell_main, words_given};
 use std::alloc::Global;
 use std::env;
+use std::fs::{File, Files};
 use std::io::BufReader;
 use std::net::TcpListener;
 use std::process::ExitCode;
 
 // Where the program serves.
 const ADDRESS: &str = "127.0.0.1:9418";
+
+// The file of `keep`, in the folder where the program runs.
+const JOURNAL: &str = "gitolite.journal";
 
 // How many workers may serve at most.
 const POSTS: usize = 8;
@@ -20,6 +24,18 @@ fn posts_wanted(words: &[String]) -> usize {
     match words.first() {
         Some(word) if word.as_str() == "serve" => POSTS,
         _ => 0,
+    }
+}
+
+// The disk that the words want: the journal's file where they begin with `keep`, otherwise none. Where the file can't be
+// opened each call of the disk fails.
+fn disk_wanted<R: Files<File = File>>(files: &R, words: &[String]) -> FileDisk {
+    match words.first() {
+        Some(word) if word.as_str() == "keep" => match FileDisk::open(files, JOURNAL) {
+            Ok(disk) => disk,
+            Err(_) => FileDisk::missing(),
+        },
+        _ => FileDisk::missing(),
     }
 }
 
@@ -45,8 +61,17 @@ fn main(rt: HostRuntime) -> ExitCode {
     let Ok(mut posts) = posts_at(alloc, count, listener.as_ref()) else {
         return out_of_memory();
     };
+    let mut disk = disk_wanted(&rt, words);
     let mut input = StdSource::new(reader);
     let mut output = StdSink::new(rt.stdout());
-    let ended = shell_main(&rt, alloc, words, &mut input, &mut output, &mut posts);
+    let ended = shell_main(
+        &rt,
+        alloc,
+        words,
+        &mut input,
+        &mut output,
+        &mut posts,
+        &mut disk,
+    );
     ExitCode::from(ended.status)
 }

@@ -112,20 +112,20 @@ fn replay_all(alloc: Global, admin: &UserName, records: &[StoredRecord]) -> Resu
     Ok(hub)
 }
 
-fn replay_record(alloc: Global, replay: Replay, record: &StoredRecord) -> Result<Replay, OpenFault>
+fn replay_record(alloc: Global, replay: Replay, stored: &StoredRecord) -> Result<Replay, OpenFault>
     ensures admin { IfOk result (λ after. after.admin ≡ replay.admin) }
     ensures legal { IfOk result (λ after. IsLegal after.admin after.log) }
-    ensures event { IfOk result (λ after. bodies_in after.log ≡ bodies_in replay.log ++ record.now.body ∷ []) }
-    ensures refused { IfErr result (λ fault. RefusesRecord replay record.now fault) }
+    ensures event { IfOk result (λ after. bodies_in after.log ≡ bodies_in replay.log ++ stored.now.body ∷ []) }
+    ensures refused { IfErr result (λ fault. RefusesRecord replay stored.now fault) }
 {
-    let request = match read_body(alloc, record.body.bytes()) {
+    let request = match read_body(alloc, stored.body.bytes()) {
         Ok(request) => request,
-        Err(BodyFault::BadBody) => return Err(OpenFault::BadRecord(record.offset)),
+        Err(BodyFault::BadBody) => return Err(OpenFault::BadRecord(stored.offset)),
         Err(BodyFault::NoMemory) => return Err(OpenFault::NoMemory),
     };
     match replay.next(alloc, request) {
         Ok(replay) => Ok(replay),
-        Err(ReplayFault::Impossible) => Err(OpenFault::BadRecord(record.offset)),
+        Err(ReplayFault::Impossible) => Err(OpenFault::BadRecord(stored.offset)),
         Err(ReplayFault::NoMemory) => Err(OpenFault::NoMemory),
     }
 }

@@ -4,7 +4,7 @@ use std::alloc::Global;
 use std::str;
 use std::test::Fail;
 
-const ROWS: [(&str, &str); 44] = [
+const ROWS: [(&str, &str); 47] = [
     ("script --admin ann", "script ann"),
     ("script --admin=ann", "script ann"),
     ("script --admin=a-._@+9", "script a-._@+9"),
@@ -21,6 +21,9 @@ const ROWS: [(&str, &str); 44] = [
         "serve ann 3 20",
     ),
     ("check", "check"),
+    ("keep --admin ann", "keep ann"),
+    ("keep", "usage"),
+    ("keep --admin ann --workers 1", "usage"),
     ("load 1 0", "load 1 0"),
     ("load 5000 4294967295", "load 5000 4294967295"),
     ("", "usage"),
@@ -65,6 +68,9 @@ fn shown(alloc: Global, read: Result<Asked, WordsFault>) -> Result<String, Fail>
     Ok(match read {
         Ok(Asked::Script { admin }) => {
             format!(in alloc; "script {}", str::from_utf8(admin.bytes())?)?
+        }
+        Ok(Asked::Keep { admin }) => {
+            format!(in alloc; "keep {}", str::from_utf8(admin.bytes())?)?
         }
         Ok(
             Asked::Serve {

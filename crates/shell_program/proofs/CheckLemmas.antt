@@ -60,6 +60,7 @@ module _ (source source' sink sink' : LinkState) where
       → StopsWriting sink sink' text f → EndsCheck source source' sink sink' (status_of (Err f))
   printed_part input text has_rules fault.BadScript reads due stops = absurd stops
   printed_part input text has_rules fault.InputFault reads due stops = absurd stops
+  printed_part input text has_rules fault.DiskFault reads due stops = absurd stops
   printed_part input text has_rules fault.OutputFault reads due stops =
       (record { input = input; text = text; has_rules = has_rules; reads = reads; due = due; part = stops.0 }, stops.1)
   printed_part input text has_rules fault.NoMemory reads due stops =
@@ -69,6 +70,7 @@ module _ (source source' sink sink' : LinkState) where
       → TellsStatus source source' sink sink' (status_number (status_of (Err f)))
   part_told text fault.BadScript stops tells read = absurd stops
   part_told text fault.InputFault stops tells read = absurd stops
+  part_told text fault.DiskFault stops tells read = absurd stops
   part_told text fault.OutputFault stops tells read = (inr read, inl refl)
   part_told text fault.NoMemory stops tells read = (inr read, inr tells)
 
@@ -76,6 +78,7 @@ module _ (source source' sink sink' : LinkState) where
 pub usage_stopped : (sink sink' : LinkState) (f : ScriptFault) → StopsWriting sink sink' usage_line f → EndsUsage sink sink' (status_of (Err f))
 usage_stopped sink sink' fault.BadScript stops = absurd stops
 usage_stopped sink sink' fault.InputFault stops = absurd stops
+usage_stopped sink sink' fault.DiskFault stops = absurd stops
 usage_stopped sink sink' fault.OutputFault stops = stops
 usage_stopped sink sink' fault.NoMemory stops = (stops.0, inr stops.1)
 
@@ -83,5 +86,6 @@ usage_stopped sink sink' fault.NoMemory stops = (stops.0, inr stops.1)
 pub usage_lacks : (sink sink' : LinkState) (f : ScriptFault) → StopsWriting sink sink' usage_line f → status_number (status_of (Err f)) ≡ 4 → IsTrue sink.may_lack
 usage_lacks sink sink' fault.BadScript stops four = absurd stops
 usage_lacks sink sink' fault.InputFault stops four = absurd stops
+usage_lacks sink sink' fault.DiskFault stops four = absurd stops
 usage_lacks sink sink' fault.OutputFault stops four = absurd (omega arith)
 usage_lacks sink sink' fault.NoMemory stops four = stops.1

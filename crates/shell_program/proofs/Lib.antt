@@ -1,4 +1,5 @@
 mod ScriptLemmas
+mod KeepLemmas
 mod LoneLemmas
 mod ScriptRows
 mod CheckLemmas

@@ -175,6 +175,7 @@ module _ (count start : ℕ) (sink sink' : LinkState) (log : List Entry) where
   ends_loaded (Ok unit) loaded ok err = (loaded, ok)
   ends_loaded (Err fault.BadScript) loaded ok err = absurd err
   ends_loaded (Err fault.InputFault) loaded ok err = absurd err
+  ends_loaded (Err fault.DiskFault) loaded ok err = absurd err
   ends_loaded (Err fault.OutputFault) loaded ok err = (loaded, err.0, err.1)
   ends_loaded (Err fault.NoMemory) loaded ok err = inr (loaded, err)
 

@@ -1,6 +1,6 @@
 -- One session more of a script, and its end.
 use Rattle.std.proofs.Common.{◌≡◌, ◌⊎◌, inl, inr, ℕ, ◌+◌, ◌<◌, ◌≤◌, true, false, IsTrue, List, [], ◌∷◌, ◌++◌, length, Option, Some, None, Result, Ok, Err, refl, sym, ◌∙◌, ap, subst, arith, append_assoc, length-append}
-use Rattle.std.specs.Prelude.{IfOk, IfErr, is_some, codes, decimal}
+use Rattle.std.specs.Prelude.{is_some, codes, decimal}
 use Rattle.std.specs.List.{flat_map}
 use Rattle.std.proofs.lemmas.List.{append-nil}
 use Rattle.std.proofs.lemmas.List.Concat.{flat_map-append}
@@ -31,9 +31,9 @@ use Rattle.git_session.specs.Session.{session}
 use Rattle.script_frames.specs.Frames.{head_text, frame_text, AreBodies, BeginsNoFrame}
 use Rattle.script_frames.specs.ReadingFrames.{Takes, IsRest, TakesFrame, TakesNoFrame, GoesNoFurther}
 use Rattle.shell_program.specs.Script.{end_word, stop_word, reply_text, fault_text, served_alone, Printed, sessions, bad_offset, last_line, script}
-use Rattle.shell_program.specs.RunningScripts.{Serves, Advances, AdvancesOne, FindsEnd, FindsBad, MayLackAfter, FailsAtRead, LacksAtRead, LacksSession, LacksServing, ServesPart, TellsPart, StopsAdvancing, RunsScript, StopsAtRead, StopsServing, StopsTelling, StopsAtWrite, StopsForMemory, StopsScript}
+use Rattle.shell_program.specs.RunningScripts.{Serves, Advances, AdvancesOne, FindsEnd, FindsBad, MayLackAfter, FailsAtRead, LacksAtRead, LacksSession, LacksServing, ServesPart, ServesUnkept, TellsPart, StopsAdvancing, RunsScript, StopsAtRead, StopsServing, StopsTelling, StopsAtDisk, StopsAtWrite, StopsForMemory, StopsScript}
 use Rattle.shell_program.specs.declared.script.ScriptFault.{ScriptFault}
-use Rattle.shell_program.specs.declared.script.ScriptFault.TheVariants.{BadScript, InputFault, OutputFault, NoMemory}
+use Rattle.shell_program.specs.declared.script.ScriptFault.TheVariants.{BadScript, InputFault, OutputFault, DiskFault, NoMemory}
 use Rattle.script_frames.proofs.FrameLemmas.{begins_none}
 use Rattle.script_frames.proofs.ReadingLemmas.{takes_more, no_rest}
 
@@ -104,14 +104,6 @@ only_memory a b own admin log end.Truncated failure cannot cause is turn = absur
 -- a session that was served, whose reply had no room
 pub serves_unsaid : (old new : DeskView) (number : ℕ) (body text : List ℕ) → Begins old.seen new.seen → Serves old new number body text → LacksSession old new body
 serves_unsaid old new number body text goes_on served = record { goes_on = goes_on; within = λ recorded of. ([], sym (served.seen recorded of) ∙ sym (append-nil new.seen)) }
-
-pub if_ok : {V E : Type 0} (P Q : V → Type 0) (result : Result V E) → ((v : V) → P v → Q v) → IfOk result P → IfOk result Q
-if_ok P Q (Ok v) more p = more v p
-if_ok P Q (Err e) more p = tt
-
-pub if_err : {V E : Type 0} (P : Type 0) (result : Result V E) → P → IfErr result (λ e. P)
-if_err P (Ok v) p = tt
-if_err P (Err e) p = p
 
 -- II. Sessions one after the other
 
@@ -377,6 +369,20 @@ module _ (s s' s'' k k' k'' : LinkState) (d d' d'' : DeskView) (bodies : List (L
   stops_write number offset count place later (inr tells) risen =
       record { done = bodies; more = tells.part.bytes; written = λ recorded of. wrote tells.part.bytes tells.part.written recorded (unmoved tells.desk_is recorded of); stops = inr (told offset place tells); risen = risen_later k.write_faults k'.write_faults k''.write_faults later.write_faults risen }
 
+  stops_disk : (number : ℕ) → number ≡ 1 + length bodies → ServesUnkept s' s'' k' k'' d' d'' number → StopsAtDisk s s'' k k'' d.admin d.seen d''.seen
+  stops_disk number count unkept =
+      let before : (recorded : Recorded) → IsRecorded d.admin d''.seen recorded → IsRecorded d.admin d'.seen recorded = λ recorded of.
+      subst (λ (a : Name). IsRecorded a d'.seen recorded) advances.admin
+      (before_served recorded d'.admin unkept.body d'.seen d''.seen (unkept.serves.seen recorded (there d''.seen recorded of)) (there d''.seen recorded of)) in
+      record {
+        done = bodies;
+        body = unkept.body;
+        small = bodies_more bodies (unkept.body ∷ []) advances.small (unkept.read.small, tt);
+        takes = subst (λ (l : List ℕ). Takes s s'' l) (frames_more unkept.body) (takes_more s s' s'' (flat_map frame_text bodies) (frame_text unkept.body) advances.takes unkept.read.takes);
+        written = λ recorded of. rw unkept.sink_is (advances.written recorded (before recorded of));
+        log_is = λ recorded of. rw (one_more number count unkept.body recorded (before recorded of)) (unkept.serves.seen recorded (there d''.seen recorded of));
+      }
+
   may_lack : (bytes : List ℕ) → IsLater k k' → MayLackAfter k' bytes → MayLackAfter k bytes
   may_lack bytes later may = rw later.may_lack at may
 
@@ -433,4 +439,5 @@ pub stops : (s s' s'' k k' k'' : LinkState) (d d' d'' : DeskView) (bodies : List
 stops s s' s'' k k' k'' d d' d'' bodies number offset BadScript advances count place input output stop = runs_bad s s' s'' k k' k'' d d' d'' bodies offset advances place stop
 stops s s' s'' k k' k'' d d' d'' bodies number offset InputFault advances count place input output stop = stops_read s s' s'' k k' k'' d d' d'' bodies advances input stop
 stops s s' s'' k k' k'' d d' d'' bodies number offset OutputFault advances count place input output stop = stops_write s s' s'' k k' k'' d d' d'' bodies advances number offset count place output stop.0 stop.1
+stops s s' s'' k k' k'' d d' d'' bodies number offset DiskFault advances count place input output stop = stops_disk s s' s'' k k' k'' d d' d'' bodies advances number count stop
 stops s s' s'' k k' k'' d d' d'' bodies number offset NoMemory advances count place input output stop = stops_memory s s' s'' k k' k'' d d' d'' bodies advances number offset count place output stop

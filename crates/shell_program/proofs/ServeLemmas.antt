@@ -52,6 +52,7 @@ module _ {L D G : Type 0} (state : L → LinkState) (door : D → DoorState L) (
   ends_served sessions false false (Ok unit) serves ok err = (sessions, (serves, ok))
   ends_served sessions failed lacked (Err fault.BadScript) serves ok err = absurd err
   ends_served sessions failed lacked (Err fault.InputFault) serves ok err = absurd err
+  ends_served sessions failed lacked (Err fault.DiskFault) serves ok err = absurd err
   ends_served sessions failed lacked (Err fault.OutputFault) serves ok err = (record { sessions = sessions; failed = failed; lacked = lacked; serves = serves; part = err.0 }, err.1)
   ends_served sessions failed lacked (Err fault.NoMemory) serves ok err = inr (inr (record { sessions = sessions; failed = failed; lacked = lacked; serves = serves; part = err.0 }, err.1))
 
@@ -75,6 +76,7 @@ module _ {L D G : Type 0} (state : L → LinkState) (door : D → DoorState L) (
   surely_served sessions false false (Ok unit) serves err doors writes = inl refl
   surely_served sessions failed lacked (Err fault.BadScript) serves err doors writes = absurd err
   surely_served sessions failed lacked (Err fault.InputFault) serves err doors writes = absurd err
+  surely_served sessions failed lacked (Err fault.DiskFault) serves err doors writes = absurd err
   surely_served sessions failed lacked (Err fault.OutputFault) serves err doors writes = absurd (writes err.1)
   surely_served sessions failed lacked (Err fault.NoMemory) serves err doors writes = inr refl
 
@@ -107,6 +109,7 @@ pub served_told : (sink sink' : LinkState) (text : List ℕ) (failed lacked : Bo
 served_told sink sink' text failed lacked (Ok unit) err tells = inr tells
 served_told sink sink' text failed lacked (Err fault.BadScript) err tells = absurd err
 served_told sink sink' text failed lacked (Err fault.InputFault) err tells = absurd err
+served_told sink sink' text failed lacked (Err fault.DiskFault) err tells = absurd err
 served_told sink sink' text failed lacked (Err fault.OutputFault) err tells = inl refl
 served_told sink sink' text failed lacked (Err fault.NoMemory) err tells = inr tells
 

@@ -9,7 +9,7 @@ use Rattle.shell_program.specs.RunningScripts.{WritesPart}
 use Rattle.shell_program.specs.declared.check.ReadAllFault.{ReadAllFault}
 use Rattle.shell_program.specs.declared.check.ReadAllFault.TheVariants as fault
 use Rattle.shell_program.specs.declared.status.Status.{Status}
-use Rattle.shell_program.specs.declared.status.Status.TheVariants.{Done, Usage, InputFault, OutputFault, NoMemory, DoorFault, ConfRefused, BadScript}
+use Rattle.shell_program.specs.declared.status.Status.TheVariants.{Done, Usage, InputFault, OutputFault, NoMemory, DoorFault, ConfRefused, BadScript, DiskFault, BadJournal}
 
 -- the input was read to its end
 pub record ReadsAll (source source' : LinkState) (input : List ℕ) : Type 0 where
@@ -53,6 +53,8 @@ EndsCheck source source' sink sink' NoMemory = (LacksInput source source' × (si
 EndsCheck source source' sink sink' Usage = ⊥
 EndsCheck source source' sink sink' DoorFault = ⊥
 EndsCheck source source' sink sink' BadScript = ⊥
+EndsCheck source source' sink sink' DiskFault = ⊥
+EndsCheck source source' sink sink' BadJournal = ⊥
 
 -- why the input was not read to its end
 abbrev pub StopsReading : LinkState → LinkState → ReadAllFault → Type 0

@@ -2,7 +2,7 @@
 use Rattle.std.specs.Prelude.{ℕ, zero, suc, List, Option, Some, None, codes, nat_le, if◌then◌else◌, option_and_then}
 use Rattle.ref_store.specs.Refs.{Name}
 use Rattle.shell_words.specs.declared.commands.Asked.{Asked}
-use Rattle.shell_words.specs.declared.commands.Asked.TheVariants.{Script, Serve, Check, Load}
+use Rattle.shell_words.specs.declared.commands.Asked.TheVariants.{Script, Serve, Check, Load, Keep}
 use Rattle.shell_words.specs.Commands.{asked}
 use Rattle.shell_program.specs.Load.{loader}
 
@@ -17,6 +17,7 @@ built posts (Script admin) = Some (Script admin)
 built posts (Serve admin workers sessions) = served_at posts admin workers sessions
 built posts Check = Some Check
 built posts (Load count start) = Some (Load count start)
+built posts (Keep admin) = Some (Keep admin)
 
 -- the command that these words are, where it is done; other words are refused
 abbrev pub command : ℕ → List (List ℕ) → Option Asked
@@ -29,7 +30,8 @@ admin_of (Some (Script admin)) = Some admin
 admin_of (Some (Serve admin workers sessions)) = Some admin
 admin_of (Some Check) = None
 admin_of (Some (Load count start)) = Some loader
+admin_of (Some (Keep admin)) = Some admin
 
 -- what is printed where the words are refused
 abbrev pub usage_line : List ℕ
-usage_line = codes "usage: gitolite_shell script --admin NAME | serve --admin NAME --workers K --sessions N | check | load N START\n"
+usage_line = codes "usage: gitolite_shell script --admin NAME | serve --admin NAME --workers K --sessions N | check | load N START | keep --admin NAME\n"

@@ -6,5 +6,6 @@ pub mod Status
 pub mod Check
 pub mod Serve
 pub mod Command
+pub mod Keep
 pub mod Lone
 pub mod Shell

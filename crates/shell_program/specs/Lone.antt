@@ -11,14 +11,15 @@ use Rattle.session_core.specs.Recorded.{IsRecorded, Recorded}
 use Rattle.shell_words.specs.declared.commands.WordsFault.{WordsFault}
 use Rattle.shell_words.specs.declared.commands.WordsFault.TheVariants as words
 use Rattle.shell_words.specs.declared.commands.Asked.{Asked}
-use Rattle.shell_words.specs.declared.commands.Asked.TheVariants.{Script, Serve, Check, Load}
+use Rattle.shell_words.specs.declared.commands.Asked.TheVariants.{Script, Serve, Check, Load, Keep}
 use Rattle.shell_program.specs.Command.{admin_of, usage_line}
-use Rattle.shell_program.specs.RunningScripts.{MayLackAfter, RunsScript, StopsAtRead, StopsAtWrite, StopsForMemory, WritesPart}
+use Rattle.shell_program.specs.RunningScripts.{EndsScript, MayLackAfter, WritesPart}
 use Rattle.shell_program.specs.Check.{EndsCheck}
 use Rattle.shell_program.specs.Load.{EndsLoad}
+use Rattle.shell_program.specs.Keep.{DiskRun, EndsKeep}
 use Rattle.shell_program.specs.Status.{status_number}
 use Rattle.shell_program.specs.declared.status.Status.{Status}
-use Rattle.shell_program.specs.declared.status.Status.TheVariants.{Done, Usage, InputFault, OutputFault, NoMemory, BadScript}
+use Rattle.shell_program.specs.declared.status.Status.TheVariants.{Usage, OutputFault, NoMemory}
 
 -- the desk of a new hub's only caller
 abbrev pub new_desk : Name → DeskView
@@ -42,42 +43,40 @@ abbrev pub RefusesSurely : Option Asked → LinkState → ℕ → Type 0
 RefusesSurely None sink number = number ≡ 4 → IsTrue sink.may_lack
 RefusesSurely (Some command) sink number = ⊤
 
--- What holds where a script at a new hub of this admin ended with this status; it ends with no other. Memory may run out before anything is read.
-abbrev pub EndsScript : Name → LinkState → LinkState → LinkState → LinkState → List Entry → Status → Type 0
-EndsScript admin source source' sink sink' log Done = RunsScript source source' sink sink' admin [] log false
-EndsScript admin source source' sink sink' log BadScript = RunsScript source source' sink sink' admin [] log true
-EndsScript admin source source' sink sink' log InputFault = StopsAtRead source source' sink sink' admin [] log
-EndsScript admin source source' sink sink' log OutputFault = StopsAtWrite source source' sink sink' admin [] log
-EndsScript admin source source' sink sink' log NoMemory = StopsForMemory source source' sink sink' admin [] log
-EndsScript admin source source' sink sink' log other = ⊥
-
--- The command decides: a check, which logs nothing; a script; the sessions of a generated installation, which reads nothing; or none, and then the words are
--- refused, and nothing is read or logged. One caller alone does no other.
-abbrev pub EndsBy : Option Asked → LinkState → LinkState → LinkState → LinkState → List Entry → Status → Type 0
-EndsBy (Some Check) source source' sink sink' log status = EndsCheck source source' sink sink' status × (log ≡ [])
-EndsBy (Some (Script admin)) source source' sink sink' log status = EndsScript admin source source' sink sink' log status
-EndsBy (Some (Serve admin workers sessions)) source source' sink sink' log status = ⊥
-EndsBy (Some (Load count start)) source source' sink sink' log status = EndsLoad count start sink sink' log status × (source' ≡ source)
-EndsBy None source source' sink sink' log status = EndsUsage sink sink' status × (source' ≡ source) × (log ≡ [])
+-- The command decides: a check, which logs nothing; a script at a new hub; the sessions of a generated installation, which reads nothing; a script at the hub of
+-- a journal; or none, and then the words are refused, and nothing is read or logged. One caller alone does no other. Only the last of them uses the disk.
+abbrev pub EndsBy : Option Asked → DiskRun → LinkState → LinkState → LinkState → LinkState → List Entry → Status → Type 0
+EndsBy (Some Check) disk source source' sink sink' log status = EndsCheck source source' sink sink' status × (log ≡ []) × (disk.new ≡ disk.old)
+EndsBy (Some (Script admin)) disk source source' sink sink' log status = EndsScript admin [] source source' sink sink' log status × (disk.new ≡ disk.old)
+EndsBy (Some (Serve admin workers sessions)) disk source source' sink sink' log status = ⊥
+EndsBy (Some (Load count start)) disk source source' sink sink' log status = EndsLoad count start sink sink' log status × (source' ≡ source) × (disk.new ≡ disk.old)
+EndsBy (Some (Keep admin)) disk source source' sink sink' log status = EndsKeep admin disk source source' sink sink' log status
+EndsBy None disk source source' sink sink' log status = EndsUsage sink sink' status × (source' ≡ source) × (log ≡ []) × (disk.new ≡ disk.old)
 
 -- A run of this command ended with this number and this log.
-pub record EndsRun (found : Option Asked) (source source' sink sink' : LinkState) (number : ℕ) (log : List Entry) : Type 0 where
+pub record EndsRun (found : Option Asked) (disk : DiskRun) (source source' sink sink' : LinkState) (number : ℕ) (log : List Entry) : Type 0 where
   pub status : Status
   pub number_is : number ≡ status_number status
-  pub ends : EndsBy found source source' sink sink' log status
+  pub ends : EndsBy found disk source source' sink sink' log status
 
--- unless memory runs out, a check ends with 0 or 6, a script with 0 or 7, `serve` and `load` with 0, and refused words with 1
+-- unless memory runs out, a check ends with 0 or 6, a script with 0 or 7, `keep` with 0, 7 or 9, `serve` and `load` with 0, and refused words with 1
 abbrev pub IsDue : Option Asked → ℕ → Type 0
 IsDue (Some Check) number = (number ≡ 0) ⊎ (number ≡ 6) ⊎ (number ≡ 4)
 IsDue (Some (Script admin)) number = (number ≡ 0) ⊎ (number ≡ 7) ⊎ (number ≡ 4)
 IsDue (Some (Serve admin workers sessions)) number = (number ≡ 0) ⊎ (number ≡ 4)
 IsDue (Some (Load count start)) number = (number ≡ 0) ⊎ (number ≡ 4)
+IsDue (Some (Keep admin)) number = (number ≡ 0) ⊎ (number ≡ 7) ⊎ (number ≡ 9) ⊎ (number ≡ 4)
 IsDue None number = (number ≡ 1) ⊎ (number ≡ 4)
 
+-- a call of the disk failed, of a command that uses it
+abbrev pub AUsedDiskFailed : Option Asked → DiskRun → Type 0
+AUsedDiskFailed (Some (Keep admin)) disk = HasRisen disk.old.disk_faults disk.new.disk_faults
+AUsedDiskFailed other disk = ⊥
+
 -- that is so where no fault is counted
-abbrev pub EndsSurely : Option Asked → LinkState → LinkState → LinkState → LinkState → ℕ → Type 0
-EndsSurely found source source' sink sink' number =
-    (HasRisen source.read_faults source'.read_faults → ⊥) → (HasRisen sink.write_faults sink'.write_faults → ⊥) → IsDue found number
+abbrev pub EndsSurely : Option Asked → DiskRun → LinkState → LinkState → LinkState → LinkState → ℕ → Type 0
+EndsSurely found disk source source' sink sink' number =
+    (HasRisen source.read_faults source'.read_faults → ⊥) → (HasRisen sink.write_faults sink'.write_faults → ⊥) → (AUsedDiskFailed found disk → ⊥) → IsDue found number
 
 -- A run that doesn't end with 2 had no failed read of its input, and one that doesn't end with 3 no failed write of its output.
 abbrev pub TellsStatus : LinkState → LinkState → LinkState → LinkState → ℕ → Type 0

@@ -1,5 +1,5 @@
 -- What running a script does.
-use Rattle.std.specs.Prelude.{◌≡◌, ◌⊎◌, ⊤, ℕ, ◌<◌, Option, List, [], ◌∷◌, ◌++◌, length, Bool, true, IsTrue, is_some, Result, Err}
+use Rattle.std.specs.Prelude.{◌≡◌, ◌⊎◌, ⊤, ℕ, ◌<◌, Option, List, [], ◌∷◌, ◌++◌, length, Bool, true, false, IsTrue, is_some, Result, Err}
 use Rattle.std.specs.List.{flat_map}
 use Rattle.std.specs.Io.KnownBytes.{Appends, IsAtEnd}
 use Rattle.base_types.specs.Counts.{HasRisen}
@@ -14,7 +14,9 @@ use Rattle.script_frames.specs.Frames.{frame_text, AreBodies, BeginsNoFrame, IsS
 use Rattle.script_frames.specs.ReadingFrames.{Takes, IsRest, TakesFrame, TakesNoFrame, IsInBody, GoesNoFurther, WantsMore, FailsInFrame, LacksInFrame}
 use Rattle.shell_program.specs.Script.{stop_word, reply_text, fault_text, served_alone, sessions, bad_offset, script}
 use Rattle.shell_program.specs.declared.script.ScriptFault.{ScriptFault}
-use Rattle.shell_program.specs.declared.script.ScriptFault.TheVariants.{BadScript, InputFault, OutputFault, NoMemory}
+use Rattle.shell_program.specs.declared.script.ScriptFault.TheVariants.{BadScript, InputFault, OutputFault, DiskFault, NoMemory}
+use Rattle.shell_program.specs.declared.status.Status.{Status}
+use Rattle.shell_program.specs.declared.status.Status.TheVariants as status
 
 -- One session was served, and this is printed of it: what the session gives at a hub that answers as the log afterwards records.
 pub record Serves (old new : DeskView) (number : ℕ) (body text : List ℕ) : Type 0 where
@@ -67,6 +69,7 @@ abbrev pub StopsWriting : LinkState → LinkState → List ℕ → ScriptFault �
 StopsWriting sink sink' text BadScript = ⊥
 StopsWriting sink sink' text InputFault = ⊥
 StopsWriting sink sink' text OutputFault = WritesPart sink sink' text × HasRisen sink.write_faults sink'.write_faults
+StopsWriting sink sink' text DiskFault = ⊥
 StopsWriting sink sink' text NoMemory = WritesPart sink sink' text × IsTrue sink.may_lack
 
 -- a read failed before the next frame or inside it, and nothing else was done
@@ -85,6 +88,12 @@ pub record LacksAtRead (source source' sink sink' : LinkState) (old new : DeskVi
 pub record LacksSession (old new : DeskView) (body : List ℕ) : Type 0 where
   pub goes_on : Begins old.seen new.seen
   pub within : AsRecorded old.admin new.seen (λ recorded. Begins new.seen (served_alone recorded old.admin body old.seen).log)
+
+-- why nothing is printed of a session: memory lacked; or it was served, and the desk broke
+abbrev pub StopsSession : DeskView → DeskView → ℕ → List ℕ → ScriptFault → Type 0
+StopsSession old new number body NoMemory = LacksSession old new body
+StopsSession old new number body DiskFault = (text : List ℕ) × Serves old new number body text
+StopsSession old new number body other = ⊥
 
 -- the next frame was read, and memory lacked in its session, of which nothing was printed
 pub record LacksServing (source source' sink sink' : LinkState) (old new : DeskView) : Type 0 where
@@ -109,12 +118,22 @@ pub record TellsPart (source source' sink sink' : LinkState) (old new : DeskView
   pub part : WritesPart sink sink' (fault_text offset)
   pub desk_is : new ≡ old
 
+-- the next session was served, in which the desk broke, and nothing was printed of it
+pub record ServesUnkept (source source' sink sink' : LinkState) (old new : DeskView) (number : ℕ) : Type 0 where
+  pub taken : ℕ
+  pub body : List ℕ
+  pub text : List ℕ
+  pub read : TakesFrame source source' taken body
+  pub serves : Serves old new number body text
+  pub sink_is : sink' ≡ sink
+
 -- why there is no next session: a bad frame, or a fault with its cause
 abbrev pub StopsAdvancing : LinkState → LinkState → LinkState → LinkState → DeskView → DeskView → ℕ → ℕ → ScriptFault → Type 0
 StopsAdvancing source source' sink sink' old new number offset BadScript = FindsBad source source' sink sink' old new offset
 StopsAdvancing source source' sink sink' old new number offset InputFault = FailsAtRead source source' sink sink' old new
 StopsAdvancing source source' sink sink' old new number offset OutputFault =
     (ServesPart source source' sink sink' old new number ⊎ TellsPart source source' sink sink' old new offset) × HasRisen sink.write_faults sink'.write_faults
+StopsAdvancing source source' sink sink' old new number offset DiskFault = ServesUnkept source source' sink sink' old new number
 StopsAdvancing source source' sink sink' old new number offset NoMemory =
     LacksAtRead source source' sink sink' old new
     ⊎ LacksServing source source' sink sink' old new
@@ -218,12 +237,31 @@ pub record StopsForMemory (source source' sink sink' : LinkState) (admin : Name)
       ⊎ StopsServing source source' admin log log' done more
       ⊎ StopsTelling source source' admin log log' done more
 
+-- The desk broke. The sessions of these frames were served and printed whole; then the next session was served, in which it broke, and nothing was printed of it.
+pub record StopsAtDisk (source source' sink sink' : LinkState) (admin : Name) (log log' : List Entry) : Type 0 where
+  pub done : List (List ℕ)
+  pub body : List ℕ
+  pub small : AreBodies (done ++ body ∷ [])
+  pub takes : Takes source source' (flat_map frame_text (done ++ body ∷ []))
+  pub written : AsRecorded admin log' (λ recorded. Appends sink.written sink'.written (sessions recorded admin 1 done log).output)
+  pub log_is : AsRecorded admin log' (λ recorded. log' ≡ (sessions recorded admin 1 (done ++ body ∷ []) log).log)
+
 -- why a script ended before its input did
 abbrev pub StopsScript : LinkState → LinkState → LinkState → LinkState → Name → List Entry → List Entry → ScriptFault → Type 0
 StopsScript source source' sink sink' admin log log' BadScript = RunsScript source source' sink sink' admin log log' true
 StopsScript source source' sink sink' admin log log' InputFault = StopsAtRead source source' sink sink' admin log log'
 StopsScript source source' sink sink' admin log log' OutputFault = StopsAtWrite source source' sink sink' admin log log'
+StopsScript source source' sink sink' admin log log' DiskFault = StopsAtDisk source source' sink sink' admin log log'
 StopsScript source source' sink sink' admin log log' NoMemory = StopsForMemory source source' sink sink' admin log log'
+
+-- What holds where a script behind this log ended with this status, at a desk that can't break; it ends with no other. Memory may run out before anything is read.
+abbrev pub EndsScript : Name → List Entry → LinkState → LinkState → LinkState → LinkState → List Entry → Status → Type 0
+EndsScript admin before source source' sink sink' log status.Done = RunsScript source source' sink sink' admin before log false
+EndsScript admin before source source' sink sink' log status.BadScript = RunsScript source source' sink sink' admin before log true
+EndsScript admin before source source' sink sink' log status.InputFault = StopsAtRead source source' sink sink' admin before log
+EndsScript admin before source source' sink sink' log status.OutputFault = StopsAtWrite source source' sink sink' admin before log
+EndsScript admin before source source' sink sink' log status.NoMemory = StopsForMemory source source' sink sink' admin before log
+EndsScript admin before source source' sink sink' log other = ⊥
 
 -- no failed read of the input is hidden, and no failed write of the output
 abbrev pub TellsInput : {V : Type 0} → LinkState → LinkState → Result V ScriptFault → Type 0
@@ -233,3 +271,9 @@ TellsInput old new answer = new.read_faults ≡ old.read_faults
 abbrev pub TellsOutput : {V : Type 0} → LinkState → LinkState → Result V ScriptFault → Type 0
 TellsOutput old new (Err OutputFault) = ⊤
 TellsOutput old new answer = new.write_faults ≡ old.write_faults
+
+-- whether the desk is broken, by how a script went on: it is where that ended it, and where memory lacked it may be
+abbrev pub TellsBroken : {V : Type 0} → Bool → Result V ScriptFault → Type 0
+TellsBroken broken (Err DiskFault) = IsTrue broken
+TellsBroken broken (Err NoMemory) = ⊤
+TellsBroken broken answer = broken ≡ false

@@ -7,24 +7,25 @@ use Rattle.hub_history.specs.declared.entry.Entry.{Entry}
 use Rattle.shell_words.specs.declared.commands.Asked.{Asked}
 use Rattle.shell_words.specs.declared.commands.Asked.TheVariants.{Serve}
 use Rattle.session_workers.specs.declared.post.Post.{Post}
-use Rattle.shell_program.specs.Lone.{EndsBy, IsDue}
+use Rattle.shell_program.specs.Keep.{DiskRun}
+use Rattle.shell_program.specs.Lone.{AUsedDiskFailed, EndsBy, IsDue}
 use Rattle.shell_program.specs.Serve.{ADoorFailed, EndsServe}
 use Rattle.shell_program.specs.Status.{status_number}
 use Rattle.shell_program.specs.declared.status.Status.{Status}
 
 module _ {L D G : Type 0} (state : L → LinkState) (door : D → DoorState L) (old new : List (Post D G)) where
-  -- The command decides: `serve` takes its sessions through the first posts, reads nothing else, and leaves the other posts as they were. Each other command
-  -- leaves all posts so, and ends as with one caller.
-  abbrev pub EndsShellBy : Option Asked → LinkState → LinkState → LinkState → LinkState → List Entry → Status → Type 0
-  EndsShellBy (Some (Serve admin workers each)) source source' sink sink' log status =
-      EndsServe state door admin each (take workers old) (take workers new) sink sink' log status × (drop workers new ≡ drop workers old) × (source' ≡ source)
-  EndsShellBy other source source' sink sink' log status = EndsBy other source source' sink sink' log status × (new ≡ old)
+  -- The command decides: `serve` takes its sessions through the first posts, reads nothing else, and leaves the other posts and the disk as they were. Each
+  -- other command leaves all posts so, and ends as with one caller.
+  abbrev pub EndsShellBy : Option Asked → DiskRun → LinkState → LinkState → LinkState → LinkState → List Entry → Status → Type 0
+  EndsShellBy (Some (Serve admin workers each)) disk source source' sink sink' log status =
+      EndsServe state door admin each (take workers old) (take workers new) sink sink' log status × (drop workers new ≡ drop workers old) × (source' ≡ source) × (disk.new ≡ disk.old)
+  EndsShellBy other disk source source' sink sink' log status = EndsBy other disk source source' sink sink' log status × (new ≡ old)
 
   -- A run of this command ended with this number and this log.
-  pub record EndsShell (found : Option Asked) (source source' sink sink' : LinkState) (number : ℕ) (log : List Entry) : Type 0 where
+  pub record EndsShell (found : Option Asked) (disk : DiskRun) (source source' sink sink' : LinkState) (number : ℕ) (log : List Entry) : Type 0 where
     pub status : Status
     pub number_is : number ≡ status_number status
-    pub ends : EndsShellBy found source source' sink sink' log status
+    pub ends : EndsShellBy found disk source source' sink sink' log status
 
   -- a door failed at which the command serves
   abbrev pub AUsedDoorFailed : Option Asked → Type 0
@@ -32,6 +33,7 @@ module _ {L D G : Type 0} (state : L → LinkState) (door : D → DoorState L) (
   AUsedDoorFailed other = ⊥
 
   -- with what the program ends where no fault is counted
-  abbrev pub EndsShellSurely : Option Asked → LinkState → LinkState → LinkState → LinkState → ℕ → Type 0
-  EndsShellSurely found source source' sink sink' number =
-      (HasRisen source.read_faults source'.read_faults → ⊥) → (HasRisen sink.write_faults sink'.write_faults → ⊥) → (AUsedDoorFailed found → ⊥) → IsDue found number
+  abbrev pub EndsShellSurely : Option Asked → DiskRun → LinkState → LinkState → LinkState → LinkState → ℕ → Type 0
+  EndsShellSurely found disk source source' sink sink' number =
+      (HasRisen source.read_faults source'.read_faults → ⊥) → (HasRisen sink.write_faults sink'.write_faults → ⊥) → (AUsedDiskFailed found disk → ⊥) → (AUsedDoorFailed found → ⊥)
+      → IsDue found number

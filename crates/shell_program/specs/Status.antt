@@ -3,7 +3,7 @@ use Rattle.std.specs.Prelude.{ℕ, Bool, true, false, Result, Ok, Err}
 use Rattle.shell_program.specs.declared.script.ScriptFault.{ScriptFault}
 use Rattle.shell_program.specs.declared.script.ScriptFault.TheVariants as fault
 use Rattle.shell_program.specs.declared.status.Status.{Status}
-use Rattle.shell_program.specs.declared.status.Status.TheVariants.{Done, Usage, InputFault, OutputFault, NoMemory, DoorFault, ConfRefused, BadScript}
+use Rattle.shell_program.specs.declared.status.Status.TheVariants.{Done, Usage, InputFault, OutputFault, NoMemory, DoorFault, ConfRefused, BadScript, DiskFault, BadJournal}
 
 -- the number with which the program ends
 abbrev pub status_number : Status → ℕ
@@ -15,6 +15,8 @@ status_number NoMemory = 4
 status_number DoorFault = 5
 status_number ConfRefused = 6
 status_number BadScript = 7
+status_number DiskFault = 8
+status_number BadJournal = 9
 
 -- how a script's end is told
 abbrev pub status_of : Result (Unit {0}) ScriptFault → Status
@@ -22,6 +24,7 @@ status_of (Ok unit) = Done
 status_of (Err fault.BadScript) = BadScript
 status_of (Err fault.InputFault) = InputFault
 status_of (Err fault.OutputFault) = OutputFault
+status_of (Err fault.DiskFault) = DiskFault
 status_of (Err fault.NoMemory) = NoMemory
 
 -- how the end of `serve` is told: a door's failure comes before want of memory in a session

@@ -1,6 +1,7 @@
 //! What the program does: sessions from a script, from connections or generated, and confs that are checked.
 //!
 //! - `script`: sessions one after the other, and what is printed of them;
+//! - `keep`: a script at the hub of a journal on a disk;
 //! - `serve`: workers at their posts, and what is printed behind them;
 //! - `check`: a conf, and what is printed of it;
 //! - `load`, `tally`: the sessions of a generated installation, and what they came to in numbers;
@@ -9,10 +10,11 @@
 //! - `lone`, `program`: the program run by one caller, and the program.
 //!
 //! A session is of the crate `git_session`, workers of `session_workers`, the frames of a script of `script_frames`, the
-//! words of a command of `shell_words`, a generated installation of `installation`, and the edges of `edge_links`.
+//! words of a command of `shell_words`, a journal of `hub_journal`, a generated installation of `installation`, and the edges of `edge_links`.
 #![tactic(auto)]
 
 mod check;
+mod keep;
 mod load;
 mod lone;
 mod posts;

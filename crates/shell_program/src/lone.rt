@@ -1,16 +1,18 @@
 // The program, run by one caller.
-ghost use Rattle.std.specs.Prelude.{◌≡◌, ◌⊎◌, [], IfOk, IsTrue, Some, map, string_bytes};
+ghost use Rattle.std.specs.Prelude.{◌≡◌, ◌⊎◌, [], IfOk, IsTrue, map, string_bytes};
 ghost use Rattle.hub.specs.LoneDesk.{desk_of};
 ghost use Rattle.shell_words.specs.Commands.{IsWithinLimits};
-ghost use Rattle.shell_words.specs.declared.commands.Asked.TheVariants.{Script, Check};
 ghost use Rattle.shell_words.specs.Commands.{asked};
 ghost use Rattle.shell_program.specs.Command.{built, command};
+ghost use Rattle.shell_program.specs.Check.{EndsCheck};
+ghost use Rattle.shell_program.specs.RunningScripts.{EndsScript};
 ghost use Rattle.shell_program.specs.Lone.{RefusesSurely, EndsRun, EndsSurely, EndsUnread, EndsUsage, IsLegalRun, IsRecordedRun, TellsStatus, new_desk};
 ghost use Rattle.shell_program.specs.Status.{status_number};
 ghost use Rattle.shell_program.specs.declared.status.Status.{Status};
 ghost use Rattle.hub_history.specs.History.{IsLegal};
 
 use crate::check::run_check;
+use crate::keep::run_keep;
 use crate::load::run_load;
 use crate::script::{run_script, write_text};
 use crate::status::{Status, status_of};
@@ -18,6 +20,7 @@ use base_types::NoMemory;
 use conf_lex::UserName;
 use hub::{Desk, EntryList, Hub, LoneDesk};
 use pktline_core::{Sink, Source};
+use record_file::Disk;
 use shell_words::{Asked, USAGE, WordsFault, read_words};
 use std::alloc::Global;
 
@@ -86,8 +89,9 @@ pub fn unread<O: Sink>(alloc: Global, fault: WordsFault, output: &mut O) -> Ende
 
 /// Checks a conf.
 pub fn check_alone<I: Source, O: Sink>(alloc: Global, input: &mut I, output: &mut O) -> Ended
-    ensures ends { EndsRun (Some Check) (I.state input.old) (I.state input.new) (O.state output.old) (O.state output.new) result.status result.log }
+    ensures ends { (status : Status) × (result.status ≡ status_number status) × EndsCheck (I.state input.old) (I.state input.new) (O.state output.old) (O.state output.new) status }
     ensures tells { TellsStatus (I.state input.old) (I.state input.new) (O.state output.old) (O.state output.new) result.status }
+    ensures log { result.log ≡ [] }
 {
     let status = run_check(alloc, input, output);
     Ended::without_log(alloc, status)
@@ -100,7 +104,7 @@ pub fn run_alone<I: Source, O: Sink>(
     input: &mut I,
     output: &mut O,
 ) -> Ended
-    ensures ends { EndsRun (Some (Script admin.now)) (I.state input.old) (I.state input.new) (O.state output.old) (O.state output.new) result.status result.log }
+    ensures ends { (status : Status) × (result.status ≡ status_number status) × EndsScript admin.now [] (I.state input.old) (I.state input.new) (O.state output.old) (O.state output.new) result.log status }
     ensures tells { TellsStatus (I.state input.old) (I.state input.new) (O.state output.old) (O.state output.new) result.status }
     ensures legal { IsLegal admin.now result.log }
 {
@@ -117,16 +121,17 @@ pub fn run_alone<I: Source, O: Sink>(
 }
 
 // Does what is asked with one caller.
-fn run_asked<I: Source, O: Sink>(
+fn run_asked<I: Source, O: Sink, Y: Disk>(
     alloc: Global,
     asked: Asked,
     input: &mut I,
     output: &mut O,
+    disk: &mut Y,
 ) -> Ended
     requires { IsWithinLimits asked }
-    ensures ends { EndsRun (built 0 asked) (I.state input.old) (I.state input.new) (O.state output.old) (O.state output.new) result.status result.log }
+    ensures ends { EndsRun (built 0 asked) (record { modeled = Y.is_modeled; old = Y.state disk.old; new = Y.state disk.new }) (I.state input.old) (I.state input.new) (O.state output.old) (O.state output.new) result.status result.log }
     ensures tells { TellsStatus (I.state input.old) (I.state input.new) (O.state output.old) (O.state output.new) result.status }
-    ensures sure { EndsSurely (built 0 asked) (I.state input.old) (I.state input.new) (O.state output.old) (O.state output.new) result.status }
+    ensures sure { EndsSurely (built 0 asked) (record { modeled = Y.is_modeled; old = Y.state disk.old; new = Y.state disk.new }) (I.state input.old) (I.state input.new) (O.state output.old) (O.state output.new) result.status }
     ensures legal { IsLegalRun (built 0 asked) result.log }
 {
     match asked {
@@ -134,21 +139,23 @@ fn run_asked<I: Source, O: Sink>(
         Asked::Script { admin } => run_alone(alloc, &admin, input, output),
         Asked::Serve { .. } => refuse(alloc, output),
         Asked::Load { count, start } => run_load(alloc, count, start, output),
+        Asked::Keep { admin } => run_keep(alloc, &admin, input, output, disk),
     }
 }
 
 /// Runs the program as the words ask, with one caller: prints the usage, checks a conf, or runs at a new hub a script or
-/// the sessions of a generated installation.
-/// `serve` is refused, since it wants posts.
-pub fn lone_main<I: Source, O: Sink>(
+/// the sessions of a generated installation, or a script at the hub of a journal on the disk. No other command uses the
+/// disk. `serve` is refused, since it wants posts.
+pub fn lone_main<I: Source, O: Sink, Y: Disk>(
     alloc: Global,
     words: &[String],
     input: &mut I,
     output: &mut O,
+    disk: &mut Y,
 ) -> Ended
-    ensures ends { EndsRun (command 0 (map string_bytes words.now)) (I.state input.old) (I.state input.new) (O.state output.old) (O.state output.new) result.status result.log }
+    ensures ends { EndsRun (command 0 (map string_bytes words.now)) (record { modeled = Y.is_modeled; old = Y.state disk.old; new = Y.state disk.new }) (I.state input.old) (I.state input.new) (O.state output.old) (O.state output.new) result.status result.log }
     ensures tells { TellsStatus (I.state input.old) (I.state input.new) (O.state output.old) (O.state output.new) result.status }
-    ensures sure { EndsSurely (command 0 (map string_bytes words.now)) (I.state input.old) (I.state input.new) (O.state output.old) (O.state output.new) result.status }
+    ensures sure { EndsSurely (command 0 (map string_bytes words.now)) (record { modeled = Y.is_modeled; old = Y.state disk.old; new = Y.state disk.new }) (I.state input.old) (I.state input.new) (O.state output.old) (O.state output.new) result.status }
     ensures legal { IsLegalRun (command 0 (map string_bytes words.now)) result.log }
     ensures refuses { RefusesSurely (asked (map string_bytes words.now)) (O.state output.old) result.status }
     ensures recorded { IsRecordedRun (command 0 (map string_bytes words.now)) result.log }
@@ -157,7 +164,7 @@ pub fn lone_main<I: Source, O: Sink>(
     session_core::hold_laws();
     shell_words::hold_laws();
     match read_words(alloc, words) {
-        Ok(asked) => run_asked(alloc, asked, input, output),
+        Ok(asked) => run_asked(alloc, asked, input, output, disk),
         Err(fault) => unread(alloc, fault, output),
     }
 }

@@ -5,11 +5,13 @@ ghost use Rattle.shell_program.specs.Command.{built, command};
 ghost use Rattle.shell_program.specs.Lone.{IsLegalRun, IsRecordedRun, RefusesSurely, TellsStatus};
 ghost use Rattle.shell_program.specs.Shell.{EndsShell, EndsShellSurely};
 
+use crate::keep::run_keep;
 use crate::load::run_load;
 use crate::lone::{Ended, check_alone, refuse, run_alone, unread};
 use crate::serve::run_serve;
 use edge_links::Door;
 use pktline_core::{Link, Sink, Source};
+use record_file::Disk;
 use session_core::Gate;
 use session_workers::Post;
 use shell_words::{Asked, read_words};
@@ -25,6 +27,7 @@ fn run_asked<
     D: Door<L> + Send,
     G: Gate + Send,
     R: Threads + Wait + Sync,
+    Y: Disk,
 >(
     rt: &R,
     alloc: Global,
@@ -32,11 +35,12 @@ fn run_asked<
     input: &mut I,
     output: &mut O,
     posts: &mut [Post<D, G>],
+    disk: &mut Y,
 ) -> Ended
     requires limits { IsWithinLimits asked }
-    ensures ends { EndsShell L.state D.state posts.old posts.new (built (length posts.old) asked) (I.state input.old) (I.state input.new) (O.state output.old) (O.state output.new) result.status result.log }
+    ensures ends { EndsShell L.state D.state posts.old posts.new (built (length posts.old) asked) (record { modeled = Y.is_modeled; old = Y.state disk.old; new = Y.state disk.new }) (I.state input.old) (I.state input.new) (O.state output.old) (O.state output.new) result.status result.log }
     ensures tells { TellsStatus (I.state input.old) (I.state input.new) (O.state output.old) (O.state output.new) result.status }
-    ensures sure { EndsShellSurely L.state D.state posts.old posts.new (built (length posts.old) asked) (I.state input.old) (I.state input.new) (O.state output.old) (O.state output.new) result.status }
+    ensures sure { EndsShellSurely L.state D.state posts.old posts.new (built (length posts.old) asked) (record { modeled = Y.is_modeled; old = Y.state disk.old; new = Y.state disk.new }) (I.state input.old) (I.state input.new) (O.state output.old) (O.state output.new) result.status }
     ensures legal { IsLegalRun (built (length posts.old) asked) result.log }
 {
     match asked {
@@ -55,11 +59,12 @@ fn run_asked<
             run_serve(rt, alloc, output, used, &admin, sessions)
         }
         Asked::Load { count, start } => run_load(alloc, count, start, output),
+        Asked::Keep { admin } => run_keep(alloc, &admin, input, output, disk),
     }
 }
 
 /// Runs the program as the words ask. `serve` takes its sessions through the first posts, as many as it has workers; it
-/// is refused where there are fewer.
+/// is refused where there are fewer. `keep` keeps its log in a journal on the disk; no other command uses the disk.
 pub fn shell_main<
     I: Source,
     O: Sink,
@@ -67,6 +72,7 @@ pub fn shell_main<
     D: Door<L> + Send,
     G: Gate + Send,
     R: Threads + Wait + Sync,
+    Y: Disk,
 >(
     rt: &R,
     alloc: Global,
@@ -74,10 +80,11 @@ pub fn shell_main<
     input: &mut I,
     output: &mut O,
     posts: &mut [Post<D, G>],
+    disk: &mut Y,
 ) -> Ended
-    ensures ends { EndsShell L.state D.state posts.old posts.new (command (length posts.old) (map string_bytes words.now)) (I.state input.old) (I.state input.new) (O.state output.old) (O.state output.new) result.status result.log }
+    ensures ends { EndsShell L.state D.state posts.old posts.new (command (length posts.old) (map string_bytes words.now)) (record { modeled = Y.is_modeled; old = Y.state disk.old; new = Y.state disk.new }) (I.state input.old) (I.state input.new) (O.state output.old) (O.state output.new) result.status result.log }
     ensures tells { TellsStatus (I.state input.old) (I.state input.new) (O.state output.old) (O.state output.new) result.status }
-    ensures sure { EndsShellSurely L.state D.state posts.old posts.new (command (length posts.old) (map string_bytes words.now)) (I.state input.old) (I.state input.new) (O.state output.old) (O.state output.new) result.status }
+    ensures sure { EndsShellSurely L.state D.state posts.old posts.new (command (length posts.old) (map string_bytes words.now)) (record { modeled = Y.is_modeled; old = Y.state disk.old; new = Y.state disk.new }) (I.state input.old) (I.state input.new) (O.state output.old) (O.state output.new) result.status }
     ensures legal { IsLegalRun (command (length posts.old) (map string_bytes words.now)) result.log }
     ensures refuses { RefusesSurely (asked (map string_bytes words.now)) (O.state output.old) result.status }
     ensures recorded { IsRecordedRun (command (length posts.old) (map string_bytes words.now)) result.log }
@@ -86,7 +93,7 @@ pub fn shell_main<
     session_core::hold_laws();
     shell_words::hold_laws();
     match read_words(alloc, words) {
-        Ok(asked) => run_asked(rt, alloc, asked, input, output, posts),
+        Ok(asked) => run_asked(rt, alloc, asked, input, output, posts, disk),
         Err(fault) => unread(alloc, fault, output),
     }
 }

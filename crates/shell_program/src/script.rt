@@ -1,15 +1,15 @@
 // A script: sessions one after the other on one desk, and what is printed of them.
-ghost use Rattle.std.specs.Prelude.{◌≡◌, IfOk, IfErr, IfSome, IfNone, IsTrue, OnOk, false};
+ghost use Rattle.std.specs.Prelude.{◌≡◌, Bool, IfOk, IfErr, IfSome, IfNone, IsTrue, OnOk, false};
 ghost use Rattle.std.specs.Io.KnownBytes.{Appends};
 ghost use Rattle.pktline_core.specs.Links.{IsLater};
 ghost use Rattle.interaction_tree.specs.Traces.{Ended, Failed, Failure};
 ghost use Rattle.session_core.specs.End.{halt_of};
 ghost use Rattle.shell_program.specs.Script.{end_word, fault_text, reply_text};
-ghost use Rattle.shell_program.specs.RunningScripts.{AdvancesOne, FindsEnd, LacksSession, RunsScript, Serves, StopsAdvancing, StopsScript, StopsWriting, TellsInput, TellsOutput};
+ghost use Rattle.shell_program.specs.RunningScripts.{AdvancesOne, FindsEnd, RunsScript, Serves, StopsAdvancing, StopsScript, StopsSession, StopsWriting, TellsBroken, TellsInput, TellsOutput};
 
 use base_types::NoMemory;
 use git_session::{SessionBuffer, session};
-use hub::Desk;
+use hub::{Desk, LoneDesk};
 use itoa::Buffer;
 use pktline_core::{MemoryLink, Sink, Source, WriteFault, write_all};
 use script_frames::{FrameFault, read_frame};
@@ -25,7 +25,26 @@ pub enum ScriptFault {
     InputFault,
     /// A write of the output failed.
     OutputFault,
+    /// What the desk answered in a session may not be kept.
+    DiskFault,
     NoMemory,
+}
+
+/// A desk at which a script runs. It may have lost the disk on which its log is kept.
+pub trait ScriptDesk: Desk {
+    ghost is_broken: { Self → Bool };
+
+    /// Whether what it answered may not be kept.
+    fn is_broken(&self) -> bool
+        ensures { result ≡ is_broken self.now };
+}
+
+impl ScriptDesk for LoneDesk {
+    ghost is_broken = { λ _. false };
+
+    fn is_broken(&self) -> bool {
+        false
+    }
 }
 
 impl From<NoMemory> for ScriptFault {
@@ -110,30 +129,37 @@ pub fn write_text<O: Sink>(output: &mut O, text: &[u8]) -> Result<(), ScriptFaul
 }
 
 // Serves one session, whose input is at hand, and gives what is printed of it.
-fn serve<K: Desk>(
+fn serve<K: ScriptDesk>(
     alloc: Global,
     number: u64,
     body: Vec<u8>,
     desk: &mut K,
     buffer: &mut SessionBuffer,
-) -> Result<Vec<u8>, NoMemory>
+) -> Result<Vec<u8>, ScriptFault>
     requires { IsTrue (K.view desk.old).alone }
     ensures ok { IfOk result (λ text. Serves (K.view desk.old) (K.view desk.new) number body.items text.items) }
-    ensures lacks { IfErr result (λ _. LacksSession (K.view desk.old) (K.view desk.new) body.items) }
+    ensures err { IfErr result (StopsSession (K.view desk.old) (K.view desk.new) number body.items) }
+    ensures tells { TellsBroken (K.is_broken desk.new) result }
     ensures admin { (K.view desk.new).admin ≡ (K.view desk.old).admin }
     ensures goes { K.goes_on desk.old desk.new }
 {
     let mut link = MemoryLink::new(body, MOST_MOVED, Vec::new(alloc), Vec::new(alloc));
     let end = session(alloc, &mut link, desk, &mut OpenGate, buffer);
     let Some(word) = word(end) else {
-        return Err(NoMemory);
+        return Err(ScriptFault::NoMemory);
     };
-    reply_text(alloc, number, word, link.written())
+    if desk.is_broken() {
+        return Err(ScriptFault::DiskFault);
+    }
+    match reply_text(alloc, number, word, link.written()) {
+        Ok(text) => Ok(text),
+        Err(NoMemory) => Err(ScriptFault::NoMemory),
+    }
 }
 
 // Reads the next frame, serves its session and prints that, and gives how many bytes the frame takes; or `None` at the
 // end of the input. A bad frame is printed with its offset.
-fn advance<I: Source, O: Sink, K: Desk>(
+fn advance<I: Source, O: Sink, K: ScriptDesk>(
     alloc: Global,
     number: u64,
     offset: u64,
@@ -142,12 +168,14 @@ fn advance<I: Source, O: Sink, K: Desk>(
     desk: &mut K,
     buffer: &mut SessionBuffer,
 ) -> Result<Option<u64>, ScriptFault>
-    requires { IsTrue (K.view desk.old).alone }
+    requires alone { IsTrue (K.view desk.old).alone }
+    requires unbroken { K.is_broken desk.old ≡ false }
     ensures some { IfOk result (λ found. IfSome found (AdvancesOne (I.state input.old) (I.state input.new) (O.state output.old) (O.state output.new) (K.view desk.old) (K.view desk.new) number)) }
     ensures none { IfOk result (λ found. IfNone found (FindsEnd (I.state input.old) (I.state input.new) (O.state output.old) (O.state output.new) (K.view desk.old) (K.view desk.new))) }
     ensures err { IfErr result (StopsAdvancing (I.state input.old) (I.state input.new) (O.state output.old) (O.state output.new) (K.view desk.old) (K.view desk.new) number offset) }
     ensures tells_input { TellsInput (I.state input.old) (I.state input.new) result }
     ensures tells_output { TellsOutput (O.state output.old) (O.state output.new) result }
+    ensures tells_broken { TellsBroken (K.is_broken desk.new) result }
     ensures input { IsLater (I.state input.old) (I.state input.new) }
     ensures output { IsLater (O.state output.old) (O.state output.new) }
     ensures admin { (K.view desk.new).admin ≡ (K.view desk.old).admin }
@@ -171,18 +199,20 @@ fn advance<I: Source, O: Sink, K: Desk>(
 }
 
 /// Runs a script at the only desk of a hub: reads the frames of the input one after the other, and prints of each
-/// session as soon as it is served.
-pub fn run_script<I: Source, O: Sink, K: Desk>(
+/// session as soon as it is served. A session in which the desk broke is the last, and isn't printed.
+pub fn run_script<I: Source, O: Sink, K: ScriptDesk>(
     alloc: Global,
     input: &mut I,
     output: &mut O,
     desk: &mut K,
 ) -> Result<(), ScriptFault>
-    requires { IsTrue (K.view desk.old).alone }
+    requires alone { IsTrue (K.view desk.old).alone }
+    requires unbroken { K.is_broken desk.old ≡ false }
     ensures ok { OnOk result (RunsScript (I.state input.old) (I.state input.new) (O.state output.old) (O.state output.new) ((K.view desk.old).admin) ((K.view desk.old).seen) ((K.view desk.new).seen) false) }
     ensures err { IfErr result (StopsScript (I.state input.old) (I.state input.new) (O.state output.old) (O.state output.new) ((K.view desk.old).admin) ((K.view desk.old).seen) ((K.view desk.new).seen)) }
     ensures tells_input { TellsInput (I.state input.old) (I.state input.new) result }
     ensures tells_output { TellsOutput (O.state output.old) (O.state output.new) result }
+    ensures tells_broken { TellsBroken (K.is_broken desk.new) result }
     ensures admin { (K.view desk.new).admin ≡ (K.view desk.old).admin }
     ensures goes { K.goes_on desk.old desk.new }
 {

@@ -21,6 +21,10 @@ pub enum Status {
     ConfRefused = 6,
     /// A frame of the script leaves its form, or the input ends inside it.
     BadScript = 7,
+    /// A call of the disk failed.
+    DiskFault = 8,
+    /// The file is no journal, or that of another admin, or has a bad record.
+    BadJournal = 9,
 }
 
 impl Status {
@@ -41,6 +45,7 @@ pub fn status_of(end: Result<(), ScriptFault>) -> Status
         Err(ScriptFault::BadScript) => Status::BadScript,
         Err(ScriptFault::InputFault) => Status::InputFault,
         Err(ScriptFault::OutputFault) => Status::OutputFault,
+        Err(ScriptFault::DiskFault) => Status::DiskFault,
         Err(ScriptFault::NoMemory) => Status::NoMemory,
     }
 }

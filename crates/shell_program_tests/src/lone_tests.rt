@@ -4,6 +4,7 @@ use crate::session_tests::{DONE, EMPTY, first_push, is_granted, told};
 use base_types::NoMemory;
 use hub::Outcome;
 use pktline_core::MemoryLink;
+use record_file::MemoryDisk;
 use shell_program::{Ended, lone_main};
 use std::alloc::Global;
 use std::test::Fail;
@@ -22,7 +23,7 @@ pub fn words(alloc: Global, given: &[&str]) -> Result<Vec<String>, Fail> {
 }
 
 pub const USAGE: &[u8] =
-    b"usage: gitolite_shell script --admin NAME | serve --admin NAME --workers K --sessions N | check | load N START\n";
+    b"usage: gitolite_shell script --admin NAME | serve --admin NAME --workers K --sessions N | check | load N START | keep --admin NAME\n";
 
 // A frame of a session with this input.
 fn frame(alloc: Global, body: &[u8]) -> Result<Vec<u8>, NoMemory> {
@@ -34,16 +35,30 @@ fn frame(alloc: Global, body: &[u8]) -> Result<Vec<u8>, NoMemory> {
     Ok(text)
 }
 
-// A script of these frames, run whole: what is printed, and the end.
-fn run(alloc: Global, script: Vec<u8>) -> Result<(Vec<u8>, Ended), NoMemory> {
+// A disk over memory with an empty file, whose calls don't fail up to this many.
+pub fn empty_disk(alloc: Global, calls: u64) -> Result<MemoryDisk, NoMemory> {
+    MemoryDisk::new(alloc, Vec::new(alloc), calls, Vec::new(alloc))
+}
+
+// A script of these frames, run whole by the command over a disk: what is printed, and the end.
+fn run_over(
+    alloc: Global,
+    command: &str,
+    script: Vec<u8>,
+    disk: &mut MemoryDisk,
+) -> Result<(Vec<u8>, Ended), NoMemory> {
     let mut words = Vec::new(alloc);
-    for word in ["script", "--admin", "admin"] {
+    for word in [command, "--admin", "admin"] {
         words.push(word.to_string(alloc)?)?;
     }
     let mut source = MemoryLink::new(script, 65_536, Vec::new(alloc), Vec::new(alloc));
     let mut sink = MemoryLink::new(Vec::new(alloc), 65_536, Vec::new(alloc), Vec::new(alloc));
-    let ended = lone_main(alloc, &words, &mut source, &mut sink);
+    let ended = lone_main(alloc, &words, &mut source, &mut sink, disk);
     Ok((sink.written().to_vec(alloc)?, ended))
+}
+
+fn run(alloc: Global, script: Vec<u8>) -> Result<(Vec<u8>, Ended), NoMemory> {
+    run_over(alloc, "script", script, &mut empty_disk(alloc, 0)?)
 }
 
 // What the first push of a new hub prints: its line, the advertisement of no refs, and its report.
@@ -109,6 +124,22 @@ fn want_of_memory_leaves_a_beginning_of_three_creates(rt: HostRuntime) -> Result
     match three_are_begun(rt.alloc()) {
         Ok(begun) => assert!(rt; begun),
         Err(NoMemory) => {}
+    }
+    Ok(())
+}
+
+// The second run on a disk finds what the first one logged: the same create is refused, since the ref is there.
+#[test]
+fn a_log_is_kept(rt: HostRuntime) -> Result<(), Fail> {
+    let alloc = rt.alloc();
+    let mut disk = empty_disk(alloc, 100_000)?;
+    for (logged, done) in [(2, true), (4, false)] {
+        let script = frame(alloc, &first_push(alloc)?)?;
+        let (_, ended) = run_over(alloc, "keep", script, &mut disk)?;
+        assert!(rt; ended.status == 0);
+        assert!(rt; ended.log.len() == logged);
+        assert!(rt; is_granted(&ended.log, logged - 2));
+        assert!(rt; matches!(told(&ended.log, logged - 1), Some(Outcome::Done)) == done);
     }
     Ok(())
 }

@@ -1,5 +1,5 @@
 // `serve` over memory doors.
-use crate::lone_tests::{USAGE, link, words};
+use crate::lone_tests::{USAGE, empty_disk, link, words};
 use crate::push_tests::{first_pack, push_of};
 use crate::session_tests::{DONE, EMPTY, MASTER, first_push};
 use base_types::NoMemory;
@@ -65,6 +65,7 @@ fn served<R: Threads + Wait + Sync>(
         &mut source,
         &mut sink,
         posts,
+        &mut empty_disk(alloc, 0)?,
     );
     Ok((ended.status, sink.written().to_vec(alloc)?))
 }

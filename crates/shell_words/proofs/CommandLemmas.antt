@@ -2,16 +2,16 @@
 use Rattle.std.proofs.Common.{◌≡◌, ◌<◌, ℕ, List, [], ◌∷◌, length, refl, arith}
 use Rattle.std.specs.Prelude.{None}
 use Rattle.shell_words.specs.Options.{Given}
-use Rattle.shell_words.specs.Commands.{script_with, serve_of_three}
+use Rattle.shell_words.specs.Commands.{admin_with, serve_of_three}
 use Rattle.shell_words.specs.declared.options.Flag.{Flag}
 use Rattle.shell_words.specs.declared.options.Flag.TheVariants.{Admin, Workers, Sessions}
 
--- words behind the option of `script`
-pub script_with-more : (flag : Flag) (value : List ℕ) (rest : List (List ℕ)) → 0 < length rest → script_with flag value rest ≡ None
-script_with-more Admin value [] more = absurd (omega arith)
-script_with-more Admin value (word ∷ rest) more = refl
-script_with-more Workers value rest more = refl
-script_with-more Sessions value rest more = refl
+-- words behind the option `--admin`
+pub admin_with-more : (flag : Flag) (value : List ℕ) (rest : List (List ℕ)) → 0 < length rest → admin_with flag value rest ≡ None
+admin_with-more Admin value [] more = absurd (omega arith)
+admin_with-more Admin value (word ∷ rest) more = refl
+admin_with-more Workers value rest more = refl
+admin_with-more Sessions value rest more = refl
 
 -- words behind the third option of `serve`
 pub serve_of_three-more : (a b c : Given) (rest : List (List ℕ)) → 0 < length rest → serve_of_three a b c rest ≡ None

@@ -1,7 +1,7 @@
 -- That commands are read from their spellings alone.
 use Rattle.std.proofs.Common.{◌≡◌, ◌∙◌, ◌≤◌, ℕ, Bool, List, [], ◌∷◌, ◌++◌, take, drop, length, true, false, inl, inr, ap, refl, subst, sym}
 use Rattle.std.specs.Prelude.{◌==◌, ◌&&◌, Option, Some, None, codes, decimal, if◌then◌else◌, option_and_then, nat_le}
-use Rattle.std.specs.Option.{option_or}
+use Rattle.std.specs.Option.{option_map, option_or}
 use Rattle.std.specs.Str.{bytes_eq}
 use Rattle.std.specs.Str.Parse.{digits_value}
 use Rattle.std.proofs.lemmas.Bool.{and_parts, eqb-true, leb-true}
@@ -11,12 +11,12 @@ use Rattle.std.proofs.lemmas.Option.{option_and_then_some}
 use Rattle.conf_lex.specs.Names.{is_user_name}
 use Rattle.shell_words.specs.Numbers.{number_in}
 use Rattle.shell_words.specs.Options.{Given, after_prefix, first_option, flag_text, given_after, option_at}
-use Rattle.shell_words.specs.Commands.{asked, check_of, load_of, load_with, script_of, script_with, serve_by, serve_of, serve_of_three, serve_with}
+use Rattle.shell_words.specs.Commands.{admin_of, admin_with, asked, check_of, keep_of, load_of, load_with, script_of, serve_by, serve_of, serve_of_three, serve_with}
 use Rattle.shell_words.specs.Spelling.{IsInSomeOrder, ReadIsSpelled, Spells, SpellsOption}
 use Rattle.shell_words.specs.declared.options.Flag.{Flag}
 use Rattle.shell_words.specs.declared.options.Flag.TheVariants.{Admin, Workers, Sessions}
 use Rattle.shell_words.specs.declared.commands.Asked.{Asked}
-use Rattle.shell_words.specs.declared.commands.Asked.TheVariants.{Script, Serve, Check, Load}
+use Rattle.shell_words.specs.declared.commands.Asked.TheVariants.{Script, Serve, Check, Load, Keep}
 
 -- which arm a choice took
 if-case : {X P : Type 0} (b : Bool) (x y r : X) → (if b then x else y) ≡ r → (b ≡ true → x ≡ r → P) → (b ≡ false → y ≡ r → P) → P
@@ -95,23 +95,48 @@ first-option-spelled words g e =
     (λ later. or-case (option_at Workers words) (option_at Sessions words) g later
     (option_at-spelled Workers words g) (option_at-spelled Sessions words g))
 
--- `script` is read from its spelling alone
-script-spelled : (words : List (List ℕ)) (command : Asked) → script_of words ≡ Some command → Spells command (codes "script" ∷ words)
-script-spelled words command e =
-    option_and_then_some (λ a. script_with a.flag a.value a.rest) (first_option words) command e (λ g found is.
+-- an option `--admin` alone is read from its spelling alone
+record IsSpelledAdmin (words : List (List ℕ)) (admin : List ℕ) : Type 0 where
+  name : is_user_name admin ≡ true
+  spelled : SpellsOption (codes "--admin") admin words
+
+admin-spelled : (words : List (List ℕ)) (admin : List ℕ) → admin_of words ≡ Some admin → IsSpelledAdmin words admin
+admin-spelled words admin e =
+    option_and_then_some (λ a. admin_with a.flag a.value a.rest) (first_option words) admin e (λ g found is.
     let before = first-option-spelled words g found in
     by g.flag g.value g.rest before.own before.spelled before.split is)
   where
-    by : (flag : Flag) (value : List ℕ) (rest own : List (List ℕ)) → SpellsOption (flag_text flag) value own → words ≡ own ++ rest → script_with flag value rest ≡ Some command → Spells command (codes "script" ∷ words)
+    by : (flag : Flag) (value : List ℕ) (rest own : List (List ℕ)) → SpellsOption (flag_text flag) value own → words ≡ own ++ rest → admin_with flag value rest ≡ Some admin → IsSpelledAdmin words admin
     by Admin value [] own spelled split is =
-        if-case (is_user_name value) (Some (Script value)) None (Some command) is (λ name same.
-        let command-is : Script value ≡ command = cc in
+        if-case (is_user_name value) (Some value) None (Some admin) is (λ name same.
+        let admin-is : value ≡ admin = cc in
         let words-are : own ≡ words = sym (append-nil own) ∙ sym split in
-        subst (λ c. Spells c (codes "script" ∷ words)) command-is (name, (words, refl, subst (SpellsOption (codes "--admin") value) words-are spelled)))
+        subst (λ a. IsSpelledAdmin words a) admin-is (record { name = name; spelled = subst (SpellsOption (codes "--admin") value) words-are spelled }))
         (λ other none. absurd (cc))
     by Admin value (word ∷ rest) own spelled split is = absurd (cc)
     by Workers value rest own spelled split is = absurd (cc)
     by Sessions value rest own spelled split is = absurd (cc)
+
+-- `script` and `keep` are read from their spellings alone
+script-spelled : (words : List (List ℕ)) (command : Asked) → script_of words ≡ Some command → Spells command (codes "script" ∷ words)
+script-spelled words command e = by (admin_of words) refl e
+  where
+    by : (found : Option (List ℕ)) → admin_of words ≡ found → option_map Script found ≡ Some command → Spells command (codes "script" ∷ words)
+    by None found is = absurd (cc)
+    by (Some admin) found is =
+        let command-is : Script admin ≡ command = cc in
+        let one = admin-spelled words admin found in
+        subst (λ c. Spells c (codes "script" ∷ words)) command-is (one.name, (words, refl, one.spelled))
+
+keep-spelled : (words : List (List ℕ)) (command : Asked) → keep_of words ≡ Some command → Spells command (codes "keep" ∷ words)
+keep-spelled words command e = by (admin_of words) refl e
+  where
+    by : (found : Option (List ℕ)) → admin_of words ≡ found → option_map Keep found ≡ Some command → Spells command (codes "keep" ∷ words)
+    by None found is = absurd (cc)
+    by (Some admin) found is =
+        let command-is : Keep admin ≡ command = cc in
+        let one = admin-spelled words admin found in
+        subst (λ c. Spells c (codes "keep" ∷ words)) command-is (one.name, (words, refl, one.spelled))
 
 -- `load` is read from its spelling alone
 load-spelled : (words : List (List ℕ)) (command : Asked) → load_of words ≡ Some command → Spells command (codes "load" ∷ words)
@@ -244,7 +269,8 @@ read-spelled command (verb ∷ rest) e =
     if-case (bytes_eq verb (codes "script")) (script_of rest) _ (Some command) e (λ same is. behind (codes "script") same (script-spelled rest command is)) (λ other e2.
     if-case (bytes_eq verb (codes "serve")) (serve_of rest) _ (Some command) e2 (λ same is. behind (codes "serve") same (serve-spelled rest command is)) (λ other2 e3.
     if-case (bytes_eq verb (codes "check")) (check_of rest) _ (Some command) e3 (λ same is. behind (codes "check") same (check-spelled rest command is)) (λ other3 e4.
-    if-case (bytes_eq verb (codes "load")) (load_of rest) None (Some command) e4 (λ same is. behind (codes "load") same (load-spelled rest command is)) (λ other4 none. absurd (cc)))))
+    if-case (bytes_eq verb (codes "load")) (load_of rest) _ (Some command) e4 (λ same is. behind (codes "load") same (load-spelled rest command is)) (λ other4 e5.
+    if-case (bytes_eq verb (codes "keep")) (keep_of rest) None (Some command) e5 (λ same is. behind (codes "keep") same (keep-spelled rest command is)) (λ other5 none. absurd (cc))))))
   where
     behind : (text : List ℕ) → bytes_eq verb text ≡ true → Spells command (text ∷ rest) → Spells command (verb ∷ rest)
     behind text same spelled = subst (λ t. Spells command (t ∷ rest)) (sym (same-word verb text same)) spelled

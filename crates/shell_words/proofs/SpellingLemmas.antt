@@ -5,11 +5,11 @@ use Rattle.std.proofs.lemmas.List.{append-nil}
 use Rattle.conf_lex.specs.Names.{is_user_name}
 use Rattle.shell_words.proofs.NumberLemmas.{number_in-decimal}
 use Rattle.shell_words.specs.Options.{Given, flag_text, first_option}
-use Rattle.shell_words.specs.Commands.{asked, script_of, serve_by, serve_of, serve_of_three}
+use Rattle.shell_words.specs.Commands.{admin_of, asked, serve_by, serve_of, serve_of_three}
 use Rattle.shell_words.specs.Spelling.{IsInSomeOrder, SpellsOption, SpellsServe, SpelledIsRead}
 use Rattle.shell_words.specs.declared.options.Flag.{Flag}
 use Rattle.shell_words.specs.declared.options.Flag.TheVariants.{Admin, Workers, Sessions}
-use Rattle.shell_words.specs.declared.commands.Asked.TheVariants.{Script, Serve, Check, Load}
+use Rattle.shell_words.specs.declared.commands.Asked.TheVariants.{Script, Serve, Check, Load, Keep}
 
 abbrev pub given : Flag → List ℕ → List (List ℕ) → Given
 given flag value rest = record { flag = flag; value = value; rest = rest }
@@ -27,9 +27,9 @@ first_option-spelled Sessions value words rest (inr e) = rw e refl
 last_option-spelled : (flag : Flag) (value : List ℕ) (words : List (List ℕ)) → SpellsOption (flag_text flag) value words → first_option words ≡ Some (given flag value [])
 last_option-spelled flag value words spelled = ap first_option (sym (append-nil words)) ∙ first_option-spelled flag value words [] spelled
 
--- `script` is read from its spelling
-script-read : (admin : List ℕ) (words : List (List ℕ)) → is_user_name admin ≡ true → SpellsOption (codes "--admin") admin words → script_of words ≡ Some (Script admin)
-script-read admin words name spelled = rw (last_option-spelled Admin admin words spelled, name) refl
+-- an option `--admin` alone is read from its spelling
+admin-read : (admin : List ℕ) (words : List (List ℕ)) → is_user_name admin ≡ true → SpellsOption (codes "--admin") admin words → admin_of words ≡ Some admin
+admin-read admin words name spelled = rw (last_option-spelled Admin admin words spelled, name) refl
 
 -- three options are read from their spellings, in their order
 three-read : (f g h : Flag) (u v w : List ℕ) (a b c : List (List ℕ)) → SpellsOption (flag_text f) u a → SpellsOption (flag_text g) v b → SpellsOption (flag_text h) w c
@@ -57,10 +57,11 @@ serve-read admin workers sessions words name w1 w8 s1 s2 s =
 
 pub spelled-read : SpelledIsRead
 unfolding asked
-spelled-read (Script admin) words (name, (rest, e, spelled)) = rw e (script-read admin rest name spelled)
+spelled-read (Script admin) words (name, (rest, e, spelled)) = rw (e, admin-read admin rest name spelled) refl
 spelled-read (Serve admin workers sessions) words ((name, w1, w8, s1, s2), (rest, e, spelled)) = rw e (serve-read admin workers sessions rest name w1 w8 s1 s2 spelled)
 spelled-read Check words (limits, e) = rw e refl
 spelled-read (Load count start) words ((c1, c2, s2), e) =
     let k = number_in-decimal 1 5000 count (decimal count) (omega (arith, c2)) refl c1 c2 in
     let n = number_in-decimal 0 4294967295 start (decimal start) (omega (arith, s2)) refl (omega arith) s2 in
     rw (e, k, n) refl
+spelled-read (Keep admin) words (name, (rest, e, spelled)) = rw (e, admin-read admin rest name spelled) refl

@@ -1,5 +1,6 @@
 -- The command that the words of a command line are.
 use Rattle.std.specs.Prelude.{◌≡◌, ◌≤◌, ⊤, ℕ, List, [], ◌∷◌, codes, Bool, true, false, Option, Some, None, is_some, Result, Ok, Err, if◌then◌else◌, option_and_then}
+use Rattle.std.specs.Option.{option_map}
 use Rattle.std.specs.Str.{bytes_eq}
 use Rattle.conf_lex.specs.Names.{is_user_name}
 use Rattle.shell_words.specs.Numbers.{number_in}
@@ -7,7 +8,7 @@ use Rattle.shell_words.specs.Options.{Given, first_option}
 use Rattle.shell_words.specs.declared.options.Flag.{Flag}
 use Rattle.shell_words.specs.declared.options.Flag.TheVariants.{Admin, Workers, Sessions}
 use Rattle.shell_words.specs.declared.commands.Asked.{Asked}
-use Rattle.shell_words.specs.declared.commands.Asked.TheVariants.{Script, Serve, Check, Load}
+use Rattle.shell_words.specs.declared.commands.Asked.TheVariants.{Script, Serve, Check, Load, Keep}
 use Rattle.shell_words.specs.declared.commands.WordsFault.{WordsFault}
 use Rattle.shell_words.specs.declared.commands.WordsFault.TheVariants.{Usage, NoMemory}
 
@@ -29,16 +30,24 @@ load_of (count ∷ []) = None
 load_of (count ∷ start ∷ []) = load_with (number_in 1 5000 count) (number_in 0 4294967295 start)
 load_of (count ∷ start ∷ more ∷ rest) = None
 
--- `script` by its option and what is behind it
-abbrev pub script_with : Flag → List ℕ → List (List ℕ) → Option Asked
-script_with Admin admin [] = if is_user_name admin then Some (Script admin) else None
-script_with Admin admin (word ∷ rest) = None
-script_with Workers value rest = None
-script_with Sessions value rest = None
+-- the user's name that an option `--admin` gives, which nothing is behind
+abbrev pub admin_with : Flag → List ℕ → List (List ℕ) → Option (List ℕ)
+admin_with Admin admin [] = if is_user_name admin then Some admin else None
+admin_with Admin admin (word ∷ rest) = None
+admin_with Workers value rest = None
+admin_with Sessions value rest = None
+
+-- what words say that are the option `--admin` alone
+abbrev pub admin_of : List (List ℕ) → Option (List ℕ)
+admin_of words = option_and_then (λ a. admin_with a.flag a.value a.rest) (first_option words)
 
 -- `script` with the option `--admin`
 abbrev pub script_of : List (List ℕ) → Option Asked
-script_of words = option_and_then (λ a. script_with a.flag a.value a.rest) (first_option words)
+script_of words = option_map Script (admin_of words)
+
+-- `keep` with the option `--admin`
+abbrev pub keep_of : List (List ℕ) → Option Asked
+keep_of words = option_map Keep (admin_of words)
 
 abbrev pub is_flag : Flag → Flag → Bool
 is_flag Admin Admin = true
@@ -85,6 +94,7 @@ asked (verb ∷ rest) =
     else if bytes_eq verb (codes "serve") then serve_of rest
     else if bytes_eq verb (codes "check") then check_of rest
     else if bytes_eq verb (codes "load") then load_of rest
+    else if bytes_eq verb (codes "keep") then keep_of rest
     else None
 
 -- the values of a command are within their limits
@@ -93,10 +103,11 @@ IsWithinLimits (Script admin) = is_user_name admin ≡ true
 IsWithinLimits (Serve admin workers sessions) = (is_user_name admin ≡ true) × (1 ≤ workers) × (workers ≤ 8) × (1 ≤ sessions) × (sessions ≤ 1000000)
 IsWithinLimits Check = ⊤
 IsWithinLimits (Load count start) = (1 ≤ count) × (count ≤ 5000) × (start ≤ 4294967295)
+IsWithinLimits (Keep admin) = is_user_name admin ≡ true
 
--- What the answer of a reading says: the command; that the words are none; or that they are one, and that memory ran out.
-abbrev pub Reads : Option Asked → Result Asked WordsFault → Type 0
-Reads found (Ok command) = found ≡ Some command
+-- What the answer of a reading says: what was found; that nothing was; or that something was, and that memory ran out.
+abbrev pub Reads : {X : Type 0} → Option X → Result X WordsFault → Type 0
+Reads found (Ok value) = found ≡ Some value
 Reads found (Err Usage) = found ≡ None
 Reads found (Err NoMemory) = is_some found ≡ true
 

@@ -3,7 +3,7 @@ ghost use Rattle.std.specs.Prelude.{◌≡◌, IfOk, Some, map, string_bytes, tr
 ghost use Rattle.conf_lex.specs.Names.{is_user_name};
 ghost use Rattle.std.specs.Option.{option_copied};
 ghost use Rattle.shell_words.specs.Given.{given_of};
-ghost use Rattle.shell_words.specs.Commands.{IsWithinLimits, Reads, asked, check_of, fault_text, load_of, script_of, serve_by, serve_of, value_of};
+ghost use Rattle.shell_words.specs.Commands.{IsWithinLimits, Reads, admin_of, asked, check_of, fault_text, keep_of, load_of, script_of, serve_by, serve_of, value_of};
 
 use crate::numbers::number_in;
 use crate::options::{Flag, Given, first_option};
@@ -24,7 +24,7 @@ const LAST_START: u64 = 4_294_967_295;
 
 /// What is printed where the words are no command.
 pub const USAGE: &str =
-    "usage: gitolite_shell script --admin NAME | serve --admin NAME --workers K --sessions N | check | load N START\n";
+    "usage: gitolite_shell script --admin NAME | serve --admin NAME --workers K --sessions N | check | load N START | keep --admin NAME\n";
 
 /// A command, with its values.
 #[derive(Drop)]
@@ -45,6 +45,10 @@ pub enum Asked {
     Load {
         count: u32,
         start: u32,
+    },
+    /// `keep --admin NAME`.
+    Keep {
+        admin: UserName,
     },
 }
 
@@ -93,6 +97,9 @@ pub fn read_words(alloc: Global, words: &[String]) -> Result<Asked, WordsFault>
     if verb.as_str() == "load" {
         return read_load(rest);
     }
+    if verb.as_str() == "keep" {
+        return read_keep(alloc, rest);
+    }
     Err(WordsFault::Usage)
 }
 
@@ -132,6 +139,28 @@ fn read_script(alloc: Global, words: &[String]) -> Result<Asked, WordsFault>
     ensures reads { Reads (script_of (map string_bytes words.now)) result }
     ensures limits { IfOk result IsWithinLimits }
 {
+    match read_admin(alloc, words) {
+        Ok(admin) => Ok(Asked::Script { admin }),
+        Err(fault) => Err(fault),
+    }
+}
+
+// What is behind `keep`.
+fn read_keep(alloc: Global, words: &[String]) -> Result<Asked, WordsFault>
+    ensures reads { Reads (keep_of (map string_bytes words.now)) result }
+    ensures limits { IfOk result IsWithinLimits }
+{
+    match read_admin(alloc, words) {
+        Ok(admin) => Ok(Asked::Keep { admin }),
+        Err(fault) => Err(fault),
+    }
+}
+
+// The option `--admin` alone.
+fn read_admin(alloc: Global, words: &[String]) -> Result<UserName, WordsFault>
+    ensures reads { Reads (admin_of (map string_bytes words.now)) result }
+    ensures name { IfOk result (λ admin. is_user_name admin ≡ true) }
+{
     let Some(option) = first_option(words) else {
         return Err(WordsFault::Usage);
     };
@@ -145,7 +174,7 @@ fn read_script(alloc: Global, words: &[String]) -> Result<Asked, WordsFault>
         return Err(WordsFault::Usage);
     }
     match user_name(alloc, option.value) {
-        Ok(admin) => Ok(Asked::Script { admin }),
+        Ok(admin) => Ok(admin),
         Err(NoMemory) => Err(WordsFault::NoMemory),
     }
 }

@@ -9,11 +9,11 @@ use Rattle.shell_program.proofs.lone.lone_main.Goals as goal
 
 pub returns-in-Ok-clause-ends : goal.returns-in-Ok-clause-ends
 returns-in-Ok-clause-ends g c =
-    subst (λ (o : Option Asked). EndsRun (option_and_then (built 0) o) (g.I.Endpoint.state c.args.input.now) (g.I.Endpoint.state c.run_asked.new.input) (g.O.Endpoint.state c.args.output.now) (g.O.Endpoint.state c.run_asked.new.output) c.run_asked.result.status c.run_asked.result.log)
+    subst (λ (o : Option Asked). EndsRun (option_and_then (built 0) o) (record { modeled = g.Y.Disk.is_modeled; old = g.Y.Disk.state c.args.disk.now; new = g.Y.Disk.state c.run_asked.new.disk }) (g.I.Endpoint.state c.args.input.now) (g.I.Endpoint.state c.run_asked.new.input) (g.O.Endpoint.state c.args.output.now) (g.O.Endpoint.state c.run_asked.new.output) c.run_asked.result.status c.run_asked.result.log)
     (sym c.in-Ok.ensures.reads) c.run_asked.ensures.ends
 
 pub returns-in-Ok-clause-sure : goal.returns-in-Ok-clause-sure
-returns-in-Ok-clause-sure g c = surely _ _ _ _ _ _ _ (returns-in-Ok-clause-ends g c)
+returns-in-Ok-clause-sure g c = surely _ _ _ _ _ _ _ _ (returns-in-Ok-clause-ends g c)
 
 pub returns-in-Ok-clause-legal : goal.returns-in-Ok-clause-legal
 returns-in-Ok-clause-legal g c = subst (λ (o : Option Asked). IsLegalRun (option_and_then (built 0) o) c.run_asked.result.log) (sym c.in-Ok.ensures.reads) c.run_asked.ensures.legal
@@ -23,14 +23,14 @@ returns-in-Ok-clause-recorded g c = recorded_script c.hold_laws.ensures.recorded
 
 pub returns-in-Err-clause-ends : goal.returns-in-Err-clause-ends
 returns-in-Err-clause-ends g c =
-    unread_run (g.I.Endpoint.state c.args.input.now) (g.O.Endpoint.state c.args.output.now) (g.O.Endpoint.state c.unread.new.output) c.unread.result.status c.unread.result.log (asked (map string_bytes c.args.words.now)) c.in-Err.fault c.in-Err.ensures.reads
+    unread_run g.Y.Disk.is_modeled (g.Y.Disk.state c.args.disk.now) (g.I.Endpoint.state c.args.input.now) (g.O.Endpoint.state c.args.output.now) (g.O.Endpoint.state c.unread.new.output) c.unread.result.status c.unread.result.log (asked (map string_bytes c.args.words.now)) c.in-Err.fault c.in-Err.ensures.reads
     c.unread.ensures.ends c.unread.ensures.log
 
 pub returns-in-Err-clause-tells : goal.returns-in-Err-clause-tells
 returns-in-Err-clause-tells g c = (inr refl, c.unread.ensures.tells)
 
 pub returns-in-Err-clause-sure : goal.returns-in-Err-clause-sure
-returns-in-Err-clause-sure g c = surely _ _ _ _ _ _ _ (returns-in-Err-clause-ends g c)
+returns-in-Err-clause-sure g c = surely _ _ _ _ _ _ _ _ (returns-in-Err-clause-ends g c)
 
 pub returns-in-Err-clause-legal : goal.returns-in-Err-clause-legal
 returns-in-Err-clause-legal g c = legal_none (admin_of (command 0 (map string_bytes c.args.words.now))) c.unread.result.log c.unread.ensures.log

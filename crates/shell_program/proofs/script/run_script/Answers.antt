@@ -4,7 +4,7 @@ use Rattle.shell_program.proofs.ScriptLemmas.{advances_none, advances_next, coun
 use Rattle.shell_program.proofs.script.run_script.Goals as goal
 
 pub loop-buffer-init : goal.loop-buffer-init
-loop-buffer-init g c = record { so_far = ([], advances_none _ _ _ c.requires, refl, refl); tells_input = refl; tells_output = refl; input = later_same _; output = later_same _; goes = g.met.K.Desk.stays _ }
+loop-buffer-init g c = record { so_far = ([], advances_none _ _ _ c.requires.alone, refl, refl); unbroken = c.requires.unbroken; tells_input = refl; tells_output = refl; input = later_same _; output = later_same _; goes = g.met.K.Desk.stays _ }
 
 pub returns-in_err-taken-clause-err : goal.returns-in_err-taken-clause-err
 returns-in_err-taken-clause-err g c =
@@ -28,6 +28,7 @@ loop-buffer-preserved g c =
     let so_far = c.loop-buffer.invariant.so_far in
     record {
       so_far = advances_next _ _ _ _ _ _ _ _ _ c.loop-buffer.number c.loop-buffer.offset c.in-Some.taken so_far.0 so_far.1 so_far.2 so_far.3 one;
+      unbroken = c.in_ok-taken.ensures.tells_broken;
       tells_input = c.in_ok-taken.ensures.tells_input ∙ c.loop-buffer.invariant.tells_input;
       tells_output = c.in_ok-taken.ensures.tells_output ∙ c.loop-buffer.invariant.tells_output;
       input = later_more _ _ _ c.loop-buffer.invariant.input c.advance.ensures.input;
