@@ -1,8 +1,8 @@
 #!/usr/bin/env python3
-"""Compares what becomes of the pushes of a git client with a real Gitolite: compare_clients.py PROGRAM [CONFS [SEED]]
+"""Compares what becomes of the pushes of a git client with a real Gitolite: compare_clients.py SERVER [CONFS [SEED]]
 
 It needs what compare_gitolite.py needs, and nothing may listen at 127.0.0.1:9418. For each of CONFS random confs (3, drawn from SEED, 1), over repositories that stay,
-git makes the same forty random pushes to Gitolite, by its gitolite-shell, and to PROGRAM, through the front end: of up to four refs, creates, moves and deletes
+git makes the same forty random pushes to Gitolite, by its gitolite-shell, and to SERVER, the built cerolimau, through the front end: of up to four refs, creates, moves and deletes
 of branches, tags and other refs, some in the way of others, some atomic, some forced. After each, the mark that `git push --porcelain` has for each ref has to be
 the same, and whether it is git itself that refuses; so have git's status and all refs. Gitolite's git is told to follow no renames, and to let the branch of HEAD be
 deleted; no ref is deleted that isn't there, and of an atomic push no ref is in the way of another: docs/ACCESS.md has these. HEAD is left out, which is at `master` alone
@@ -80,12 +80,12 @@ class Sides:
         yield subprocess.run(["git", "-C", self.client, *words], env=env, stdout=subprocess.PIPE, stderr=subprocess.PIPE, text=True)
 
 
-def main(program, confs="3", seed="1"):
+def main(server, confs="3", seed="1"):
     draws, count, denied, differ = random.Random(int(seed)), dict.fromkeys(["done", "as it was", "!", "!!"], 0), 0, 0
     commits, objects = draw_history(draws)
     there = {repo: [] for repo in REPOS}
     with tempfile.TemporaryDirectory(prefix="compare-clients-") as home:
-        here = world.World(os.path.abspath(program))
+        here = world.World(os.path.abspath(server), os.path.abspath(server))
         try:
             gitolite_home(home)
             for name, value in [("diff.renames", "false"), ("receive.denyDeleteCurrent", "ignore"), ("gc.auto", "0")]:

@@ -1,7 +1,7 @@
 #!/usr/bin/env python3
-"""Clones and fetches of parts of a history, and pushes in slices, by the front end and by git alone: compare_clones.py PROGRAM [HISTORIES [SEED]]
+"""Clones and fetches of parts of a history, and pushes in slices, by the front end and by git alone: compare_clones.py SERVER [HISTORIES [SEED]]
 
-PROGRAM is the built gitolite_shell. For each random history, of up to thirty commits with merges, tags and up to four branches:
+SERVER is the built cerolimau. For each random history, of up to thirty commits with merges, tags and up to four branches:
 
 - it is pushed by `git push --mirror` in slices of a few objects and cloned by `git clone --mirror`: refs are the same, the clone is sound by `git fsck`, and
   no ref of the slices is left;
@@ -100,7 +100,8 @@ def compare_history(here, seed):
 def main():
     histories = int(sys.argv[2]) if len(sys.argv) > 2 else 20
     first = int(sys.argv[3]) if len(sys.argv) > 3 else 1
-    here = world.World(str(pathlib.Path(sys.argv[1]).resolve()))
+    server = str(pathlib.Path(sys.argv[1]).resolve())
+    here = world.World(server, server)
     differ = 0
     try:
         here.start()

@@ -1,5 +1,5 @@
 #!/usr/bin/env python3
-"""stops.py PROGRAM [TIMES]: kills PROGRAM at a random moment of `keep`, so many times (1,000), by hand, never in the gate.
+"""stops.py PROGRAM [TIMES]: kills PROGRAM at a random moment of `keep`, so many times (1,000); `.ci/run` does so ten times.
 
 Each run goes on from the journal that the one before it left, and pushes one ref after the other until it is killed (SIGKILL). Its first session asks
 for the refs: those whose pushes were answered in the runs before have to be there with their values, at most one more of each run, whose

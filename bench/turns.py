@@ -21,14 +21,19 @@ ADDRESS = ("127.0.0.1", 9418)
 QUESTION = packet(b"nobody git-receive-pack 'gitolite-admin'")
 
 
+def rest_of(link):
+    """What comes on a link that nothing more is sent on."""
+    link.shutdown(socket.SHUT_WR)
+    got = []
+    while chunk := link.recv(1 << 16):
+        got.append(chunk)
+    return b"".join(got)
+
+
 def converse(sent):
     with socket.create_connection(ADDRESS, timeout=120) as link:
         link.sendall(sent)
-        link.shutdown(socket.SHUT_WR)
-        got = []
-        while chunk := link.recv(1 << 16):
-            got.append(chunk)
-    return b"".join(got)
+        return rest_of(link)
 
 
 def ask(took, until):
@@ -67,11 +72,7 @@ def flip_and_push(commands):
         link.recv(1 << 16)
         assert b"changed" in converse(packet(b"mallory perms w/mallory/x + WRITERS mallory"))
         link.sendall(commands)
-        link.shutdown(socket.SHUT_WR)
-        got = []
-        while chunk := link.recv(1 << 16):
-            got.append(chunk)
-    return b"".join(got)
+        return rest_of(link)
 
 
 def hostile_push():

@@ -138,8 +138,8 @@ def wait_for_spool(folder):
 
 
 def restart(here):
-    """While the server restarts, a session waits and is served; a server that stays away is told."""
-    program = here.server.args[0]
+    """While the server restarts, a session waits and is served; a server that stays away is told; and all that was pushed is there behind a kill."""
+    kept = here.git("ann", "ls-remote", "here:testing"), here.git("admin", "ls-remote", "here:gitolite-admin")
     here.server.kill()
     here.server.wait()
     patient = "--patience", "60"
@@ -150,12 +150,16 @@ def restart(here):
     pushing = threading.Thread(target=lambda: said.append(here.git("ann", "push", "here:testing", "master:restart", cwd=made, options=patient)))
     pushing.start()
     expect(here.ask("ann", "info", status=1), "cerolimau: the server isn't there")
-    here.server = start_server(program, here.room / "server.log")
+    here.server = start_server(here.host, here.room)
     asking.join(SECONDS)
     pushing.join(SECONDS)
     expect(b"".join(text if isinstance(text, bytes) else text.encode() for text in said), "hello admin\n", "master -> restart")
-    where = here.room / "gitolite-admin"
-    here.git("admin", "push", "origin", "master", cwd=where)
+    here.server.kill()
+    here.server.wait()
+    here.server = start_server(here.host, here.room)
+    there = here.git("ann", "ls-remote", "here:testing")
+    expect(there, here.head(made) + "\trefs/heads/restart\n", *(line for line in kept[0].splitlines(keepends=True) if not line.endswith("\tHEAD\n")))
+    assert here.git("admin", "ls-remote", "here:gitolite-admin") == kept[1]
 
 
 def fresh_spool(here):

@@ -13,7 +13,7 @@ FRONT = pathlib.Path(__file__).resolve().parent.parent
 sys.path.insert(0, str(FRONT))
 
 ADDRESS = "127.0.0.1", 9418
-SERVE = "serve", "--admin", "admin", "--workers", "8", "--sessions", "1000000"
+HOST = "host", "--admin", "admin", "--journal"
 SECONDS = 300  # that one command of a test may take
 CONF = """\
 @staff = ann bob
@@ -65,7 +65,7 @@ class Skip(Exception):
 
 
 class World:
-    def __init__(self, program):
+    def __init__(self, host, program):
         self.room = pathlib.Path(tempfile.mkdtemp(prefix="front-test-"))
         self.room.chmod(0o755)
         (self.room / "gitconfig").write_text(GIT_CONFIG)
@@ -73,12 +73,13 @@ class World:
             "PATH": os.environ["PATH"], "HOME": str(self.room), "LANG": "C.UTF-8", "GIT_CONFIG_NOSYSTEM": "1",
             "GIT_CONFIG_GLOBAL": str(self.room / "gitconfig"), "GIT_TERMINAL_PROMPT": "0", "GIT_SSH_VARIANT": "simple",
         }
+        self.host = host
         self.program = program
         self.server = None
         self._folders = 0
 
     def start(self):
-        self.server = start_server(self.program, self.room / "server.log")
+        self.server = start_server(self.host, self.room)
         self.put_conf(CONF)
 
     def close(self):
@@ -162,16 +163,18 @@ def expect(said, *texts):
         assert text in said, "no %r in %r" % (text, said[-2000:])
 
 
-def start_server(program, log):
+def start_server(host, room):
+    """The server at the journal of a folder, which is made where it isn't there."""
     if is_answering():
         sys.exit("front/test: something is at %s:%d already" % ADDRESS)
+    log = room / "server.log"
     with open(log, "wb") as out:
-        server = subprocess.Popen([program, *SERVE], stdin=subprocess.DEVNULL, stdout=out, stderr=out)
+        server = subprocess.Popen([host, *HOST, room / "cerolimau.journal"], stdin=subprocess.DEVNULL, stdout=out, stderr=out)
     ends = time.monotonic() + 30
     while not is_answering():
         if server.poll() is not None or time.monotonic() > ends:
             server.kill()
-            sys.exit("front/test: %s doesn't serve: %s" % (program, log.read_text(errors="replace").strip()))
+            sys.exit("front/test: %s doesn't serve: %s" % (host, log.read_text(errors="replace").strip()))
         time.sleep(0.02)
     return server
 

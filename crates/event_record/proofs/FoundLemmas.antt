@@ -1,5 +1,5 @@
 -- What was read of a body.
-use Rattle.std.proofs.Common.{◌≡◌, ℕ, List, Option, Some, None, Result, Ok, Err, sym, ap, ◌∙◌, subst}
+use Rattle.std.proofs.Common.{◌≡◌, ℕ, List, Some, None, Result, Ok, Err, sym, ap, ◌∙◌, subst}
 use Rattle.std.specs.Prelude.{IfOk, IfErr}
 use Rattle.hub_history.specs.Requests.{Request}
 use Rattle.event_record.specs.declared.body_fault.BodyFault.{BodyFault}

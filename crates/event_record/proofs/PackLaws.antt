@@ -1,14 +1,14 @@
 -- The commands and the objects of a push, read and written.
-use Rattle.std.proofs.Common.{◌≡◌, ℕ, ◌+◌, ◌^◌, ◌<◌, ◌≤◌, Bool, false, cond, ltb, List, [], ◌∷◌, ◌++◌, length, Option, Some, None, refl, sym, ap, subst, ◌∙◌, append_assoc, arith}
-use Rattle.std.specs.List.{All, flat_map, AllByRecursion}
+use Rattle.std.proofs.Common.{◌≡◌, ℕ, ◌+◌, ◌^◌, ◌≤◌, false, cond, ltb, List, [], ◌∷◌, ◌++◌, length, Some, None, refl, sym, ap, subst, ◌∙◌, append_assoc, arith}
+use Rattle.std.specs.List.{flat_map, AllByRecursion}
 use Rattle.std.specs.Int.{w32, to_be_bytes}
 use Rattle.std.proofs.lemmas.Bool.{ltb-false, le-ltb}
 use Rattle.std.proofs.lemmas.List.Elements.{All-from_recursion, recursion_from_All}
 use Rattle.git_object.specs.Content.{Content}
 use Rattle.git_object.specs.Object.{FitOnePack, IsPackable, total_bytes}
 use Rattle.ref_store.specs.declared.command.Command.{Command}
-use Rattle.event_record.specs.Fields.{command_bytes, commands_bytes, object_bytes, pack_bytes, HasIds}
-use Rattle.event_record.specs.Reading.{◌>>=◌, number_at, object_at, items_at, command_within, no_cost, body_size, commands_at, pack_at}
+use Rattle.event_record.specs.Fields.{command_bytes, commands_bytes, object_bytes, pack_bytes}
+use Rattle.event_record.specs.Reading.{number_at, object_at, items_at, command_within, no_cost, body_size, commands_at, pack_at}
 use Rattle.event_record.proofs.FieldLaws.{IsBytes, bind_some, unless_some, Takes, Takes-then, wide32, number_takes, number_again, IsCommand, command_takes, command_again, IsObject, object_takes, object_again, total, IsItemReader, items_take, items_again}
 
 commands_reader : IsItemReader command_within no_cost command_bytes IsCommand

@@ -1,6 +1,6 @@
 -- Reading fields from the left: what is at the front and what follows it, or nothing where none is.
 use Rattle.std.specs.Prelude.{◌≡◌, ℕ, zero, suc, ◌-◌, List, [], ◌∷◌, length, take, drop, Option, Some, None, is_none, Result, Ok, Err, nat_lt, ◌==◌, if◌then◌else◌}
-use Rattle.std.specs.Int.{Width, w16, w32, w64, byte_len, from_be_bytes}
+use Rattle.std.specs.Int.{Width, w16, w32, byte_len, from_be_bytes}
 use Rattle.conf_lex.specs.Names.{is_repo_name, is_user_name}
 use Rattle.git_object.specs.Content.{Content}
 use Rattle.git_object.specs.Object.{fault_of}

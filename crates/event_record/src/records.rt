@@ -2,10 +2,10 @@
 ghost use Rattle.std.specs.Prelude.{◌≡◌, ◌∷◌, ◌++◌, [], IfOk, OnOk};
 ghost use Rattle.std.specs.Int.{w64, to_be_bytes};
 ghost use Rattle.git_object.specs.Object.{FitOnePack};
-ghost use Rattle.hub_history.specs.History.{HasShortRole};
+ghost use Rattle.hub_history.specs.History.{HasShortRole, IsOfUser};
 ghost use Rattle.hub_history.specs.Push.{AreWithinLimits};
 ghost use Rattle.hub_history.specs.Requests.{Enter, Push, Permit, Look};
-ghost use Rattle.event_record.specs.Bodies.{body_of, change_bytes, flag_byte, want_byte};
+ghost use Rattle.event_record.specs.Bodies.{body_of, change_bytes, flag_byte, want_byte, IsStorable};
 ghost use Rattle.event_record.specs.Writing.{Adds};
 
 use crate::NoMemory;
@@ -39,7 +39,8 @@ fn want_byte(want: Want) -> u8
 
 fn put_change(builder: &mut RecordBuilder, change: &PermChange) -> Result<(), NoMemory>
     requires { HasShortRole change.now }
-    ensures { OnOk result (Adds builder.old builder.new (change_bytes change.now)) }
+    ensures adds { OnOk result (Adds builder.old builder.new (change_bytes change.now)) }
+    ensures user { OnOk result (IsOfUser change.now) }
 {
     match change {
         PermChange::Grant { role, user } => {
@@ -64,7 +65,8 @@ pub fn enter_record(
     repo: &RepoName,
     want: Want,
 ) -> Result<RecordGroup, NoMemory>
-    ensures { IfOk result (λ group. group ≡ body_of caller (Enter user.now repo.now want) ∷ []) }
+    ensures body { IfOk result (λ group. group ≡ body_of caller (Enter user.now repo.now want) ∷ []) }
+    ensures storable { IfOk result (λ group. IsStorable caller (Enter user.now repo.now want)) }
 {
     let mut builder = begun(alloc, caller, 1)?;
     put_user(&mut builder, user)?;
@@ -84,7 +86,8 @@ pub fn push_record(
 ) -> Result<RecordGroup, NoMemory>
     requires within { AreWithinLimits commands.now }
     requires fit { FitOnePack pack.now }
-    ensures { IfOk result (λ group. group ≡ body_of caller (Push place pack.now commands.now atomic) ∷ []) }
+    ensures body { IfOk result (λ group. group ≡ body_of caller (Push place pack.now commands.now atomic) ∷ []) }
+    ensures storable { IfOk result (λ group. IsStorable caller (Push place pack.now commands.now atomic)) }
 {
     let mut builder = begun(alloc, caller, 2)?;
     put_number(&mut builder, place)?;
@@ -109,7 +112,8 @@ pub fn permit_record(
     change: &PermChange,
 ) -> Result<RecordGroup, NoMemory>
     requires { HasShortRole change.now }
-    ensures { IfOk result (λ group. group ≡ body_of caller (Permit user.now repo.now change.now) ∷ []) }
+    ensures body { IfOk result (λ group. group ≡ body_of caller (Permit user.now repo.now change.now) ∷ []) }
+    ensures storable { IfOk result (λ group. IsStorable caller (Permit user.now repo.now change.now)) }
 {
     let mut builder = begun(alloc, caller, 3)?;
     put_user(&mut builder, user)?;
@@ -120,7 +124,8 @@ pub fn permit_record(
 
 /// The record of a listing.
 pub fn look_record(alloc: Global, caller: u64, user: &UserName) -> Result<RecordGroup, NoMemory>
-    ensures { IfOk result (λ group. group ≡ body_of caller (Look user.now) ∷ []) }
+    ensures body { IfOk result (λ group. group ≡ body_of caller (Look user.now) ∷ []) }
+    ensures storable { IfOk result (λ group. IsStorable caller (Look user.now)) }
 {
     let mut builder = begun(alloc, caller, 4)?;
     put_user(&mut builder, user)?;

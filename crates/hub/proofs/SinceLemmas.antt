@@ -10,12 +10,9 @@ use Rattle.std.specs.Ordering.{nat_cmp, eq_by_cmp}
 use Rattle.std.specs.Cmp.Lexicographic.{slice_cmp, nat_list_cmp_total}
 use Rattle.std.specs.FinMap.{empty, get, insert, get-insert}
 use Rattle.base_types.specs.Names.{ByName}
-use Rattle.git_object.specs.Content.{Content}
 use Rattle.ref_store.specs.Refs.{Name}
-use Rattle.ref_store.specs.declared.command.Command.{Command}
 use Rattle.rule_compile.specs.Patterns.{AreTrue, Patterns}
 use Rattle.wild_perms.specs.Roles.{WildView}
-use Rattle.hub_history.specs.declared.outcome.Outcome.{Outcome}
 use Rattle.hub_history.specs.declared.entry.Entry.{Entry}
 use Rattle.hub_history.specs.declared.entry.EnterKept.{EnterKept}
 use Rattle.hub_history.specs.declared.entry.EnterKept.TheVariants as opened
@@ -26,10 +23,10 @@ use Rattle.hub_history.specs.declared.entry.PermsKept.{PermsKept}
 use Rattle.hub_history.specs.declared.entry.PermsKept.TheVariants as permitted
 use Rattle.hub_history.specs.History.{History, IsDue, IsDueAfter, Stands, after_push, history, opening_at, replay, step}
 use Rattle.hub_history.specs.Laws.{IsDueBehind, IsOpeningAt}
-use Rattle.hub_history.specs.Opening.{Opening, Pinned, made_by, pinned_in, pinned_in_force}
+use Rattle.hub_history.specs.Opening.{Opening, Pinned, made_by, pinned_in_force}
 use Rattle.hub_history.specs.Push.{conf_put}
-use Rattle.hub_history.specs.Roles.{given_by, roles_after}
-use Rattle.hub_history.specs.State.{Conf, InForce, Repository, State, changed, empty_repository, in_force, repository_at, wild_of}
+use Rattle.hub_history.specs.Roles.{given_by}
+use Rattle.hub_history.specs.State.{State, changed, empty_repository, in_force, repository_at, wild_of}
 use Rattle.hub_history.proofs.GrowthLemmas.{makes_lacking}
 use Rattle.hub_history.proofs.HistoryLemmas.{some_same}
 use Rattle.hub_history.proofs.MovedLogs.{behind, insert_apart, key_itself, same_key}

@@ -1,7 +1,7 @@
 -- Since which entries of a log the conf in force, and each repository's creator and roles, are what they are.
 use Rattle.std.specs.Prelude.{◌≡◌, ◌<◌, ◌≤◌, ℕ, Bool, ◌&&◌, nat_le, List, length, take, Option, None, Some, if◌then◌else◌}
 use Rattle.std.specs.Option.{unwrap_or}
-use Rattle.std.specs.FinMap.{empty, get, insert}
+use Rattle.std.specs.FinMap.{get, insert}
 use Rattle.base_types.specs.Names.{ByName}
 use Rattle.ref_store.specs.Refs.{Name}
 use Rattle.hub_history.specs.declared.entry.EnterKept.{EnterKept}

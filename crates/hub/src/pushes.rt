@@ -9,8 +9,8 @@ ghost use Rattle.hub_history.specs.Laws.{IsDueBehind};
 ghost use Rattle.hub_history.specs.Opening.{pinned_in_force};
 ghost use Rattle.git_object.specs.Object.{FitOnePack};
 ghost use Rattle.hub_history.specs.Push.{AreWithinLimits, JudgesAllAtPush, Makes, is_done, is_lacking, is_of_conf, repository_left, outcomes_in};
-ghost use Rattle.hub_history.specs.State.{CommitAmong, in_force, placed_in, put_in_place, repository_at};
-ghost use Rattle.push_judging.specs.Again.{TellsAgain};
+ghost use Rattle.hub_history.specs.State.{CommitAmong, in_force, placed_in, put_in_place, repository_at, wild_of};
+ghost use Rattle.push_judging.specs.Again.{IsJudgedBy, TellsAgain};
 ghost use Rattle.push_judging.specs.Judged.{AreTold, IsJudgement};
 ghost use Rattle.hub.specs.Answer.{AnswersPush, IsDueIn, settled};
 ghost use Rattle.hub.specs.Hub.{Logs, logged, state_of, stored};
@@ -184,6 +184,8 @@ impl Hub {
         judged: &Judged,
     ) -> Result<Option<Wild>, NoMemory>
         requires { Stands pin.now self.now.admin self.now.log }
+        ensures now { IfOk result (λ found. IfSome found (λ wild. wild ≡ wild_of (repository_at (state_of self.now) pin.now.pinned.repo))) }
+        ensures anew { IfOk result (λ found. IfSome found (λ wild. IsJudgedBy judged.now wild → wild.creator ≡ None)) }
     {
         if self.stands_as_opened(pin) || !self.has_conf_of(pin) {
             return Ok(None);

@@ -21,7 +21,7 @@ use Rattle.hub.specs.declared.answer.Pushed.TheVariants as push
 use Rattle.hub.specs.Answer.{looked, opened, permitted, settled}
 use Rattle.hub.specs.Hub.{HubView, Logs, logged}
 use Rattle.hub.specs.Desk.{DeskView, Calls, KeepsPins, known, known_alone}
-use Rattle.event_record.specs.Bodies.{body_of}
+use Rattle.event_record.specs.Bodies.{body_of, IsStorable}
 use Rattle.hub_journal.specs.Events.{body_in}
 use Rattle.hub_journal.specs.Journal.{GoesOn, IsSound, JournalView, StoreView, Stores}
 use Rattle.hub_journal.proofs.JournalLemmas.{composes, one_event, still_sound, stays}
@@ -96,11 +96,11 @@ stores_event modeled old new a b event request group grows asks is stores =
     (subst (λ (n : ℕ). Stores modeled group n a b) (ap (λ (h : HubView). length h.log) grows) stores)
 
 module _ (modeled : Bool) (start : ℕ) (old new : HubView) (a b : StoreView) (e : Option Event) (request : Request) (group : List (List ℕ)) (sound : IsSound (view_of old start a)) (logs : Logs old new 0 e) (of : IsOf e request) where
-  pub event_goes : (length old.log ≡ length new.log → ⊥) → group ≡ body_of 0 request ∷ [] → Stores modeled group (length new.log) a b → GoesOn modeled (view_of old start a) (view_of new start b)
-  event_goes longer is stores =
+  pub event_goes : (length old.log ≡ length new.log → ⊥) → group ≡ body_of 0 request ∷ [] → IsStorable 0 request → Stores modeled group (length new.log) a b → GoesOn modeled (view_of old start a) (view_of new start b)
+  event_goes longer is able stores =
       let made = made_one old new e logs longer in
       subst (λ (h : HubView). GoesOn modeled (view_of old start a) (view_of h start b)) (sym made.2)
-      (one_event modeled old.admin old.log start a b (record { caller = 0; event = made.0 }) sound (stores_event modeled old new a b made.0 request group made.2 (of made.0 made.1) is stores))
+      (one_event modeled old.admin old.log start a b (record { caller = 0; event = made.0 }) sound (stores_event modeled old new a b made.0 request group made.2 (of made.0 made.1) is stores) (subst (IsStorable 0) (sym (of made.0 made.1)) able))
 
   pub event_sound : (length old.log ≡ length new.log → ⊥) → group ≡ body_of 0 request ∷ [] → Stores modeled group (length new.log) a b → IsSound (view_of new start b)
   event_sound longer is stores =
@@ -115,11 +115,11 @@ module _ (modeled : Bool) (start : ℕ) (old new : HubView) (a b : StoreView) (e
   none_sound same = subst (λ (h : HubView). IsSound (view_of h start a)) (sym (made_none old new e logs same)) sound
 
   -- a journal goes on by a call that stored its event
-  pub goes : (first : JournalView) (before count : ℕ) → GoesOn modeled first (view_of old start a) → before ≡ length old.log → count ≡ length new.log → (before ≡ count → ⊥) → group ≡ body_of 0 request ∷ [] → Stores modeled group count a b
+  pub goes : (first : JournalView) (before count : ℕ) → GoesOn modeled first (view_of old start a) → before ≡ length old.log → count ≡ length new.log → (before ≡ count → ⊥) → group ≡ body_of 0 request ∷ [] → IsStorable 0 request → Stores modeled group count a b
       → GoesOn modeled first (view_of new start b)
-  goes first before count on before_is count_is differ is stores =
+  goes first before count on before_is count_is differ is able stores =
       composes modeled first (view_of old start a) (view_of new start b) on
-      (event_goes (λ same. differ (before_is ∙ same ∙ sym count_is)) is (subst (λ (n : ℕ). Stores modeled group n a b) count_is stores))
+      (event_goes (λ same. differ (before_is ∙ same ∙ sym count_is)) is able (subst (λ (n : ℕ). Stores modeled group n a b) count_is stores))
 
   -- and it is still sound
   pub goes_sound : (before count : ℕ) → before ≡ length old.log → count ≡ length new.log → (before ≡ count → ⊥) → group ≡ body_of 0 request ∷ [] → Stores modeled group count a b → IsSound (view_of new start b)

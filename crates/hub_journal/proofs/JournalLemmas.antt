@@ -12,7 +12,7 @@ use Rattle.record_file.specs.Crashes.{FileState, Leaves, LeavesOnly, MayLeave, P
 use Rattle.record_file.specs.Disks.{DiskState}
 use Rattle.record_file.specs.Files.{IsDurable, WriterState}
 use Rattle.record_file.specs.Records.{Holds, HoldsAllOrNone}
-use Rattle.hub_journal.specs.Events.{HoldsEvents, HoldsSome, bodies_in, body_in, head_for}
+use Rattle.hub_journal.specs.Events.{AreStorableEntries, HoldsEvents, HoldsSome, IsStorableEntry, bodies_in, body_in, head_for}
 use Rattle.hub_journal.specs.Journal.{GoesOn, IsRunning, IsSound, JournalView, StoreView, Stores}
 
 -- ---- moments
@@ -90,12 +90,17 @@ risen_on a b c risen le = omega (arith, risen, le)
 on_risen : (a b c : ℕ) → a ≤ b → HasRisen b c → HasRisen a c
 on_risen a b c le risen = omega (arith, risen, le)
 
+pub both_storable : (one two : List Entry) → AreStorableEntries one → AreStorableEntries two → AreStorableEntries (one ++ two)
+both_storable [] two first second = second
+both_storable (e ∷ one) two first second = (first.0, both_storable one two first.1 second)
+
 pub stays : (modeled : Bool) (j : JournalView) → GoesOn modeled j j
 stays modeled j = record {
   start = refl;
   admin = refl;
   more = [];
   grows = sym (append-nil j.hub.log);
+  storable = tt;
   stored = omega arith;
   counted = omega arith;
   stays_broken = λ broken. refl;
@@ -136,6 +141,7 @@ composes modeled a b c one two = record {
   admin = two.admin ∙ one.admin;
   more = one.more ++ two.more;
   grows = two.grows ∙ ap (λ (l : List Entry). l ++ two.more) one.grows ∙ append_assoc a.hub.log one.more two.more;
+  storable = both_storable one.more two.more one.storable two.storable;
   stored = omega (arith, one.stored, two.stored);
   counted = omega (arith, one.counted, two.counted);
   stays_broken = λ broken. two.stays_broken (ap (λ (s : StoreView). s.writer.broken) (one.stays_broken broken) ∙ broken) ∙ one.stays_broken broken;
@@ -216,12 +222,13 @@ module _ (modeled : Bool) (admin : Name) (log : List Entry) (start : ℕ) (a b :
             (durable_leaves admin (log ++ e ∷ []) b.writer.end b.disk.file (event_durable t running whole))
       ]
 
-  pub one_event : GoesOn modeled (view_of (record { admin = admin; log = log }) start a) (view_of (one_more admin log e) start b)
-  one_event = record {
+  pub one_event : IsStorableEntry e → GoesOn modeled (view_of (record { admin = admin; log = log }) start a) (view_of (one_more admin log e) start b)
+  one_event able = record {
     start = refl;
     admin = refl;
     more = e ∷ [];
     grows = refl;
+    storable = (able, tt);
     stored = stored_stays modeled (body_in e ∷ []) (length (log ++ e ∷ [])) a b stores (omega (arith, sound.stored, length-append log (e ∷ [])));
     counted = stores.counted;
     stays_broken = same_store modeled (body_in e ∷ []) (length (log ++ e ∷ [])) a b stores;

@@ -17,7 +17,7 @@ use Rattle.record_file.specs.declared.open_fault.OpenFault as records
 use Rattle.record_file.specs.declared.open_fault.OpenFault.TheVariants as records_fault
 use Rattle.record_file.specs.declared.stored_record.StoredRecord.{StoredRecord}
 use Rattle.event_record.specs.Bodies.{body_of, IsStorable}
-use Rattle.hub_journal.specs.Events.{bodies_in, body_in, head_for, magic}
+use Rattle.hub_journal.specs.Events.{AreStorableEntries, bodies_in, body_in, head_for, magic}
 use Rattle.hub_journal.specs.Recovery.{AreEventsOf, HasBadEventAt, IsBadBody, IsBadEventAt, IsNoJournal, RefusesRecord, RefusesRecords, ReportsFaults, journal_fault}
 use Rattle.hub_journal.specs.Replay.{IsImpossible, Replays}
 use Rattle.hub_journal.specs.declared.open_fault.OpenFault.{OpenFault}
@@ -60,22 +60,25 @@ pub record IsReplayed (admin : Name) (records : List StoredRecord) (count : ℕ)
   pub admin_is : hub.admin ≡ admin
   pub legal : IsLegal hub.admin hub.log
   pub bodies : bodies_in hub.log ≡ bodies_of (take count records)
+  pub storable : AreStorableEntries hub.log
 
 pub none_replayed : (admin : Name) (records : List StoredRecord) (hub : HubView) → hub ≡ record { admin = admin; log = [] } → IsReplayed admin records 0 hub
-none_replayed admin records hub is = subst (IsReplayed admin records 0) (sym is) (record { admin_is = refl; legal = nothing_legal admin; bodies = refl })
+none_replayed admin records hub is = subst (IsReplayed admin records 0) (sym is) (record { admin_is = refl; legal = nothing_legal admin; bodies = refl; storable = tt })
 
 pub one_replayed : (admin : Name) (records : List StoredRecord) (i : ℕ) (old new : HubView) (r : StoredRecord) → i < length records → r ≡ get_or records i r → IsReplayed admin records i old
-    → new.admin ≡ old.admin → IsLegal new.admin new.log → bodies_in new.log ≡ bodies_in old.log ++ r.body ∷ [] → IsReplayed admin records (i + 1) new
-one_replayed admin records i old new r lt is before same legal more = record {
+    → new.admin ≡ old.admin → IsLegal new.admin new.log → bodies_in new.log ≡ bodies_in old.log ++ r.body ∷ [] → (AreStorableEntries old.log → AreStorableEntries new.log) → IsReplayed admin records (i + 1) new
+one_replayed admin records i old new r lt is before same legal more able = record {
   admin_is = same ∙ before.admin_is;
   legal = legal;
   bodies = more ∙ ap (λ (l : List (List ℕ)). l ++ r.body ∷ []) before.bodies ∙ sym (take_more records i r lt is);
+  storable = able before.storable;
 }
 
 pub refuses_all : (admin : Name) (records : List StoredRecord) (i : ℕ) (hub : HubView) (r : StoredRecord) (f : OpenFault) → i < length records → r ≡ get_or records i r → IsReplayed admin records i hub → RefusesRecord hub r f → RefusesRecords admin records f
 refuses_all admin records i hub r (fault.BadRecord offset) lt is before refused = record {
   log = hub.log;
   legal = subst (λ (n : Name). IsLegal n hub.log) before.admin_is before.legal;
+  storable = before.storable;
   index = i;
   before = before.bodies;
   its = r;

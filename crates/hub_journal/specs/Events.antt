@@ -1,5 +1,6 @@
 -- The events of a log as a file keeps them: who asked, and what. Answers aren't kept.
 use Rattle.std.specs.Prelude.{ℕ, ◌≤◌, List, codes, length, map, take}
+use Rattle.std.specs.List.{AllByRecursion}
 use Rattle.ref_store.specs.Refs.{Name}
 use Rattle.hub_history.specs.declared.entry.Entry.{Entry}
 use Rattle.hub_history.specs.Requests.{Request, request_of}
@@ -17,9 +18,12 @@ body_in e = body_of e.caller (request_of e.event)
 abbrev pub bodies_in : List Entry → List (List ℕ)
 bodies_in log = map body_in log
 
--- a body can be made of each event
+-- a body can be made of an event, and of each
 abbrev pub IsStorableEntry : Entry → Type 0
 IsStorableEntry e = IsStorable e.caller (request_of e.event)
+
+abbrev pub AreStorableEntries : List Entry → Type 0
+AreStorableEntries log = AllByRecursion IsStorableEntry log
 
 -- the first bytes of a journal
 abbrev pub magic : List ℕ

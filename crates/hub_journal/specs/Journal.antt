@@ -7,7 +7,7 @@ use Rattle.record_file.specs.Crashes.{Leaves, LeavesOnly}
 use Rattle.record_file.specs.Disks.{DiskState}
 use Rattle.record_file.specs.Files.{EndsAtGate, IsDurable, WriterState}
 use Rattle.record_file.specs.Records.{HoldsAllOrNone}
-use Rattle.hub_journal.specs.Events.{HoldsSome, bodies_in, head_for}
+use Rattle.hub_journal.specs.Events.{AreStorableEntries, HoldsSome, bodies_in, head_for}
 
 -- how many events are stored for certain, the end of the file, and the disk
 pub record StoreView : Type 0 where
@@ -48,13 +48,14 @@ pub record IsRunning (j : JournalView) : Type 0 where
   pub durable : j.store.writer.broken ≡ false → IsDurable (head_for j.hub.admin) (bodies_in j.hub.log) j.store.writer.end j.store.disk.file
   pub leaves : Leaves (HoldsSome j.hub.admin j.hub.log j.store.stored) j.store.disk.file.pending
 
--- What any calls of a journal do, one after the other. It is broken only where a call of the disk failed, and then makes none any more. What is stored for
+-- What any calls of a journal do, one after the other. A body can be made of each event that they make. It is broken only where a call of the disk failed, and then makes none any more. What is stored for
 -- certain stays. At each moment a crash leaves the first events of the log, no fewer than were stored for certain at the beginning.
 pub record GoesOn (modeled : Bool) (old new : JournalView) : Type 0 where
   pub start : new.start ≡ old.start
   pub admin : new.hub.admin ≡ old.hub.admin
   pub more : List Entry
   pub grows : new.hub.log ≡ old.hub.log ++ more
+  pub storable : AreStorableEntries more
   pub stored : old.store.stored ≤ new.store.stored
   pub counted : old.store.disk.disk_faults ≤ new.store.disk.disk_faults
   pub stays_broken : old.store.writer.broken ≡ true → new.store ≡ old.store

@@ -12,7 +12,7 @@ use Rattle.record_file.specs.Opening.{bodies_of, with_offsets}
 use Rattle.record_file.specs.Records.{Holds, IsNoRecordFile, HasAnotherName, IsBadAt}
 use Rattle.record_file.specs.declared.stored_record.StoredRecord.{StoredRecord}
 use Rattle.event_record.specs.Bodies.{body_of, IsStorable}
-use Rattle.hub_journal.specs.Events.{HoldsEvents, bodies_in, head_for, magic}
+use Rattle.hub_journal.specs.Events.{AreStorableEntries, HoldsEvents, bodies_in, head_for, magic}
 use Rattle.hub_journal.specs.Replay.{IsImpossible}
 use Rattle.record_file.specs.declared.open_fault.OpenFault as records
 use Rattle.record_file.specs.declared.open_fault.OpenFault.TheVariants as records_fault
@@ -46,6 +46,7 @@ RefusesRecord hub its fault = ⊥
 pub record IsBadEventAt (admin : Name) (records : List StoredRecord) (offset : ℕ) : Type 0 where
   pub log : List Entry
   pub legal : IsLegal admin log
+  pub storable : AreStorableEntries log
   pub index : ℕ
   pub before : bodies_in log ≡ bodies_of (take index records)
   pub its : StoredRecord

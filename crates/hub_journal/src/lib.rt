@@ -20,6 +20,7 @@ pub use base_types::NoMemory;
 pub use journal::JournalHub;
 pub use laws::hold_laws;
 pub use open_fault::OpenFault;
+pub use pins::copy_pin;
 pub use recovery::{Recovered, recover};
 pub use replay::{Replay, ReplayFault};
 

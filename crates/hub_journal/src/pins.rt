@@ -7,8 +7,8 @@ use hub::{Pin, Want};
 use hub_state::HostedRepo;
 use std::alloc::Global;
 
-// A second pin of the same opening for writing. The conf, the objects and the refs are shared; the roles are copied.
-pub(crate) fn copy_pin(alloc: Global, pin: &Pin) -> Result<Pin, NoMemory>
+/// A second pin of the same opening for writing. The conf, the objects and the refs are shared; the roles are copied.
+pub fn copy_pin(alloc: Global, pin: &Pin) -> Result<Pin, NoMemory>
     requires { pin.now.pinned.want ≡ want.Write }
     ensures { IfOk result (λ copy. copy ≡ pin.now) }
 {

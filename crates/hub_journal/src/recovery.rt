@@ -5,7 +5,7 @@ ghost use Rattle.record_file.specs.Crashes.{Leaves, LeavesOnly};
 ghost use Rattle.record_file.specs.Files.{EndsAtGate, IsDurable};
 ghost use Rattle.record_file.specs.Opening.{bodies_of};
 ghost use Rattle.record_file.specs.Records.{Holds, HoldsAllOrNone};
-ghost use Rattle.hub_journal.specs.Events.{bodies_in, head_for};
+ghost use Rattle.hub_journal.specs.Events.{AreStorableEntries, bodies_in, head_for};
 ghost use Rattle.hub_journal.specs.Recovery.{AreEventsOf, IsNoJournal, RefusesRecord, RefusesRecords, ReportsFaults, journal_fault};
 
 use crate::{OpenFault, Replay, ReplayFault};
@@ -59,6 +59,7 @@ pub fn recover<Y: Disk>(
     ensures unbroken { IfOk result (λ r. r.writer.broken ≡ false) }
     ensures at_gate { IfOk result (λ r. EndsAtGate r.writer (Y.state disk.new).size) }
     ensures found { IfOk result (λ r. IsTrue Y.is_modeled → AreEventsOf admin.now r.hub.log (Y.state disk.old).file.content) }
+    ensures storable { IfOk result (λ r. AreStorableEntries r.hub.log) }
     ensures durable { IfOk result (λ r. IsTrue Y.is_modeled → IsDurable (head_for r.hub.admin) (bodies_in r.hub.log) r.writer.end (Y.state disk.new).file) }
     ensures refused { IfErr result (λ fault. IsTrue Y.is_modeled → IsNoJournal admin.now (Y.state disk.old).file.content fault) }
     ensures any_moment { IsTrue Y.is_modeled → (bodies : List (List ℕ))
@@ -97,6 +98,7 @@ fn replay_all(alloc: Global, admin: &UserName, records: &[StoredRecord]) -> Resu
     ensures admin { IfOk result (λ hub. hub.admin ≡ admin.now) }
     ensures legal { IfOk result (λ hub. IsLegal hub.admin hub.log) }
     ensures events { IfOk result (λ hub. bodies_in hub.log ≡ bodies_of records.now) }
+    ensures storable { IfOk result (λ hub. AreStorableEntries hub.log) }
     ensures refused { IfErr result (RefusesRecords admin.now records.now) }
 {
     let mut replay = Replay::start(alloc, admin)?;
@@ -116,6 +118,7 @@ fn replay_record(alloc: Global, replay: Replay, stored: &StoredRecord) -> Result
     ensures admin { IfOk result (λ after. after.admin ≡ replay.admin) }
     ensures legal { IfOk result (λ after. IsLegal after.admin after.log) }
     ensures event { IfOk result (λ after. bodies_in after.log ≡ bodies_in replay.log ++ stored.now.body ∷ []) }
+    ensures storable { IfOk result (λ after. AreStorableEntries replay.log → AreStorableEntries after.log) }
     ensures refused { IfErr result (λ fault. RefusesRecord replay stored.now fault) }
 {
     let request = match read_body(alloc, stored.body.bytes()) {

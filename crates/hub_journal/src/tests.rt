@@ -7,11 +7,12 @@ use super::*;
 use base_types::Text;
 use conf_lex::{RepoName, UserName};
 use git_object::{Kind, MAX_BODY, Object, ObjectId, ObjectList, fit_one_pack};
-use hub::{Desk, Entered, Pin, Pushed, Want, judge};
+use hub::{Desk, Entered, Looked, PermChange, Pin, Pushed, Want, judge};
 use record_file::MemoryDisk;
 use ref_store::{Command, CommandList};
 use std::alloc::Global;
 use std::process::Abort;
+use wild_perms::PermsAnswer;
 
 const COMMIT: &[u8] =
     b"tree 4b825dc642cb6eb9a060e54bf8d69288fbee4904\nauthor Carol <carol@example.com> 1700000000 +0000\ncommitter Carol <carol@example.com> 1700000000 +0000\n\nfirst\n";
@@ -121,6 +122,31 @@ fn a_push_is_stored(rt: HostRuntime) {
     assert!(rt; found(&rt, alloc, &mut disk, "root") == Err(OpenFault::OtherAdmin));
 }
 
+// An opening that is denied, a listing of roles and a look are events too.
+#[test]
+fn each_event_is_stored(rt: HostRuntime) {
+    let alloc = rt.alloc();
+    let admin = user_name(&rt, alloc, "admin");
+    let disk = MemoryDisk::new(alloc, Vec::new(alloc), 1000, Vec::new(alloc));
+    let mut disk = disk.expect(&rt, "memory for a disk");
+    let Ok(recovered) = recover(alloc, &mut disk, &admin) else {
+        panic!(rt; "not recovered");
+    };
+    let (mut hub, writer) = recovered.into_parts();
+    let mut journal = JournalHub::new(&mut disk, &mut hub, writer);
+    let bob = user_name(&rt, alloc, "bob");
+    let repo = RepoName::parse(alloc, b"gitolite-admin").expect(&rt, "memory for a name");
+    let repo = repo.expect(&rt, "a repository's name");
+    let entered = journal.enter(alloc, &bob, &repo, Want::Write);
+    assert!(rt; matches!(entered, Entered::Denied(_, _)) && journal.stored() == 1);
+    let permitted = journal.permit(alloc, &bob, &testing(&rt, alloc), PermChange::List);
+    assert!(rt; matches!(permitted, PermsAnswer::NotWild) && journal.stored() == 2);
+    let looked = journal.look(alloc, &bob);
+    assert!(rt; matches!(looked, Looked::Lines(_)) && journal.stored() == 3);
+    assert!(rt; !journal.is_broken());
+    assert!(rt; found(&rt, alloc, &mut disk, "admin") == Ok(3));
+}
+
 // Opening makes five calls, and each event four.
 #[test]
 fn stopped_after_each_call(rt: HostRuntime) {
@@ -173,6 +199,37 @@ fn cut_to(rt: &impl Abort, alloc: Global, bytes: &[u8], size: usize) -> Result<u
         &mut disk.expect(rt, "memory for a disk"),
         "admin",
     )
+}
+
+// A journal whose last write was made in part: its gate is zero, and what follows ends after so many bytes.
+fn torn(
+    rt: &impl Abort,
+    alloc: Global,
+    bytes: &[u8],
+    gate: usize,
+    behind: usize,
+    size: usize,
+) -> Result<usize, OpenFault> {
+    let front = bytes.get(..gate).expect(rt, "a gate");
+    let mut left = front.to_vec(alloc).expect(rt, "memory for bytes");
+    left.push(0).expect(rt, "memory for a byte");
+    let written = bytes.get(behind..size).expect(rt, "a write");
+    left.extend_from_slice(written)
+        .expect(rt, "memory for bytes");
+    cut_to(rt, alloc, &left, left.len())
+}
+
+// Each length of each event's first write: the gate, what is behind it, the end of the write, and the events before it.
+#[test]
+fn a_torn_write_is_no_event(rt: HostRuntime) {
+    let alloc = rt.alloc();
+    let (disk, _) = stored(&rt, alloc, Vec::new(alloc));
+    let bytes = disk.content();
+    for (gate, behind, end, count) in [(14, 15, 50, 0), (49, 50, PUSHED, 1)] {
+        for size in behind..=end {
+            assert!(rt; torn(&rt, alloc, bytes, gate, behind, size) == Ok(count));
+        }
+    }
 }
 
 #[test]

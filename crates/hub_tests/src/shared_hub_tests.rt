@@ -9,7 +9,7 @@ mod objects;
 use caller::{Act, Asks, Caller, Job, Told, job_of};
 use git_object::ObjectId;
 use hub::{EnterKept, Entry, Event, Hub, UserName};
-use shared_hub::{NoMemory, SharedHub, SharedPass};
+use shared_hub::{EventHub, NoMemory, SharedHub, SharedPass};
 use std::alloc::Global;
 use std::process::Abort;
 use std::sync::Wait;
@@ -18,12 +18,12 @@ use std::thread::{Threads, join};
 // ---- two callers
 
 // Both act at once, the first on a new thread, and both have come to their end.
-fn at_once<'a, 'b, R: Threads + Wait + Sync>(
+fn at_once<'a, 'b, R: Threads + Wait + Sync, H: EventHub + Send>(
     rt: &R,
     alloc: Global,
-    callers: (Caller<'a, R>, Caller<'b, R>),
+    callers: (Caller<'a, R, H>, Caller<'b, R, H>),
     acts: (Act, Act),
-) -> (Caller<'a, R>, Caller<'b, R>)
+) -> (Caller<'a, R, H>, Caller<'b, R, H>)
     ensures { IsSamePass callers.entry.0 result.0 × IsSamePass callers.entry.1 result.1 }
 {
     let (one, other) = callers;
@@ -40,17 +40,17 @@ fn at_once<'a, 'b, R: Threads + Wait + Sync>(
 }
 
 // What a caller leaves: its pass, and what its last push was told.
-type Left = (SharedPass, Told);
+type Left<H> = (SharedPass<H>, Told);
 
 // What two callers do, step by step: in each both act at once, and the next begins when both have come to their end.
-fn in_steps<'a, R: Threads + Wait + Sync>(
+fn in_steps<'a, R: Threads + Wait + Sync, H: EventHub + Send>(
     rt: &'a R,
     alloc: Global,
-    shared: &'a SharedHub,
-    passes: (SharedPass, SharedPass),
+    shared: &'a SharedHub<H>,
+    passes: (SharedPass<H>, SharedPass<H>),
     jobs: (&'a Job, &'a Job),
     steps: &[(Act, Act)],
-) -> (Left, Left)
+) -> (Left<H>, Left<H>)
     requires of_hub { (passes.0.lock ≡ shared.now) × (passes.1.lock ≡ shared.now) }
     requires hub { IsHubPass passes.0 × IsHubPass passes.1 }
     ensures one { IsSamePass passes.0 result.0.0 × IsHubPass result.0.0 }
@@ -215,15 +215,15 @@ fn two_callers_are_told_by_one_log(rt: HostRuntime) {
 // ---- four callers
 
 // Two pairs act at once, each caller on a thread of its own.
-fn all_at_once<'a, R: Threads + Wait + Sync>(
+fn all_at_once<'a, R: Threads + Wait + Sync, H: EventHub + Send>(
     rt: &R,
     alloc: Global,
-    early: (Caller<'a, R>, Caller<'a, R>),
-    late: (Caller<'a, R>, Caller<'a, R>),
+    early: (Caller<'a, R, H>, Caller<'a, R, H>),
+    late: (Caller<'a, R, H>, Caller<'a, R, H>),
     act: Act,
 ) -> (
-    (Caller<'a, R>, Caller<'a, R>),
-    (Caller<'a, R>, Caller<'a, R>),
+    (Caller<'a, R, H>, Caller<'a, R, H>),
+    (Caller<'a, R, H>, Caller<'a, R, H>),
 )
     ensures early { IsSamePass early.entry.0 result.0.0 × IsSamePass early.entry.1 result.0.1 }
     ensures late { IsSamePass late.entry.0 result.1.0 × IsSamePass late.entry.1 result.1.1 }
@@ -240,12 +240,12 @@ fn all_at_once<'a, R: Threads + Wait + Sync>(
 }
 
 // A pair of callers.
-fn pair<'a, R: Threads + Wait + Sync>(
+fn pair<'a, R: Threads + Wait + Sync, H: EventHub>(
     rt: &'a R,
-    shared: &'a SharedHub,
-    passes: (SharedPass, SharedPass),
+    shared: &'a SharedHub<H>,
+    passes: (SharedPass<H>, SharedPass<H>),
     jobs: (&'a Job, &'a Job),
-) -> (Caller<'a, R>, Caller<'a, R>)
+) -> (Caller<'a, R, H>, Caller<'a, R, H>)
     requires of_hub { (passes.0.lock ≡ shared.now) × (passes.1.lock ≡ shared.now) }
     requires hub { IsHubPass passes.0 × IsHubPass passes.1 }
     ensures { (result.0 ≡ passes.0) × (result.1 ≡ passes.1) }
@@ -258,24 +258,29 @@ fn pair<'a, R: Threads + Wait + Sync>(
 }
 
 // The passes of a pair.
-fn passes_of<R: Wait>(pair: (Caller<'_, R>, Caller<'_, R>)) -> (SharedPass, SharedPass)
+fn passes_of<R: Wait, H: EventHub>(
+    pair: (Caller<'_, R, H>, Caller<'_, R, H>),
+) -> (SharedPass<H>, SharedPass<H>)
     ensures same { (result.0 ≡ pair.entry.0) × (result.1 ≡ pair.entry.1) }
     ensures hub { IsHubPass result.0 × IsHubPass result.1 }
 {
     (pair.0.into_parts().0, pair.1.into_parts().0)
 }
 
-type Passes = ((SharedPass, SharedPass), (SharedPass, SharedPass));
+type Passes<H> = (
+    (SharedPass<H>, SharedPass<H>),
+    (SharedPass<H>, SharedPass<H>),
+);
 
 // Four callers at work.
-fn work_all<'a, R: Threads + Wait + Sync>(
+fn work_all<'a, R: Threads + Wait + Sync, H: EventHub + Send>(
     rt: &'a R,
     alloc: Global,
-    shared: &'a SharedHub,
-    passes: Passes,
+    shared: &'a SharedHub<H>,
+    passes: Passes<H>,
     jobs: &'a [Job; 4],
     rounds: u64,
-) -> Passes
+) -> Passes<H>
     requires early { (passes.0.0.lock ≡ shared.now) × (passes.0.1.lock ≡ shared.now) }
     requires late { (passes.1.0.lock ≡ shared.now) × (passes.1.1.lock ≡ shared.now) }
     requires hub { IsHubPass passes.0.0 × IsHubPass passes.0.1 × IsHubPass passes.1.0 × IsHubPass passes.1.1 }

@@ -20,12 +20,11 @@ use Rattle.rule_compile.specs.Patterns.{AreTrue, Patterns}
 use Rattle.rule_compile.specs.declared.fault.PolicyFault.{PolicyFault}
 use Rattle.rule_compile.specs.declared.fault.PolicyFault.TheVariants.{Splicing, Rules}
 use Rattle.rule_compile.specs.declared.fault.RuleFault.{RuleFault}
-use Rattle.rule_compile.specs.declared.rule.Rule.{Rule}
 use Rattle.access_check.specs.Users.{Asked}
 use Rattle.policy_swap.specs.Compile.{TellsOfPolicy, flat_of}
 use Rattle.policy_swap.specs.Conf.{conf_tree}
 use Rattle.policy_swap.specs.Laws.{IsOfConf}
-use Rattle.update_check.specs.Check.{CheckView, asked_by}
+use Rattle.update_check.specs.Check.{CheckView}
 use Rattle.update_check.specs.Rules.{RulesSay}
 use Rattle.update_check.specs.Table.{Counts, End, First, Passes}
 use Rattle.hub_history.specs.declared.outcome.Outcome.{Outcome}

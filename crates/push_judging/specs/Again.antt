@@ -9,7 +9,13 @@ use Rattle.push_judging.specs.Judged.{Judgement, JudgedAgain}
 abbrev pub view_of : Option Again → Option JudgedAgain
 view_of again = option_map (λ (a : Again). record { wild = a.wild; outcomes = a.told.outcomes.items; confs = a.told.confs.items }) again
 
--- it was judged again by this creator and these roles, and its commands are told this
+-- it was judged again by this creator and these roles
+pub record IsJudgedBy (judged : Judgement) (wild : WildView) : Type 0 where
+  pub again : JudgedAgain
+  pub kept : judged.again ≡ Some again
+  pub wild_is : again.wild ≡ wild
+
+-- and its commands are told this
 pub record TellsAgain (judged : Judgement) (wild : WildView) (told : CommandOutcomes) : Type 0 where
   pub again : JudgedAgain
   pub kept : judged.again ≡ Some again

@@ -1,6 +1,6 @@
 // A push that is judged again outside of its turn: its repository got another creator or other roles since the opening.
-ghost use Rattle.std.specs.Prelude.{◌≡◌, IfOk, IfSome, None, true};
-ghost use Rattle.push_judging.specs.Again.{TellsAgain};
+ghost use Rattle.std.specs.Prelude.{◌≡◌, ◌≢◌, IfOk, IfSome, None, OnOk, false, true};
+ghost use Rattle.push_judging.specs.Again.{IsJudgedBy, TellsAgain};
 ghost use Rattle.push_judging.specs.Judged.{IsJudgement};
 
 use crate::judging::{Again, CommandOutcomes, Judged};
@@ -24,15 +24,20 @@ impl Judged {
         wild: Wild,
     ) -> Result<(), NoMemory>
         requires { IsJudgement pin.now.pinned pack.now commands.now self.old }
-        ensures { IsJudgement pin.now.pinned pack.now commands.now self.new }
+        ensures judged { IsJudgement pin.now.pinned pack.now commands.now self.new }
+        ensures kept { OnOk result (IsJudgedBy self.new wild) }
     {
         let told = self.at_push(alloc, pin, pack, commands, pin.conf(), &wild)?;
         self.again = Some(Again { wild, told });
         Ok(())
     }
 
-    /// Whether the push was judged again by this creator and these roles. It costs the roles of both.
-    pub fn is_judged_by(&self, wild: &Wild) -> Result<bool, NoMemory> {
+    /// Whether the push was judged again by this creator and these roles. Without a creator, whose repository has no roles that could change, it is told
+    /// that it wasn't. It costs the roles of both.
+    pub fn is_judged_by(&self, wild: &Wild) -> Result<bool, NoMemory>
+        ensures is { IfOk result (λ is. is ≡ true → IsJudgedBy self.now wild.now) }
+        ensures not { IfOk result (λ is. is ≡ false → IsJudgedBy self.now wild.now → wild.now.creator ≡ None) }
+    {
         match &self.again {
             Some(again) => are_alike(&again.wild, wild),
             None => Ok(false),
@@ -45,29 +50,22 @@ impl Judged {
         ensures before { self.new.before ≡ self.old.before }
         ensures objects { self.new.objects ≡ self.old.objects }
         ensures judged { IfOk result (λ found. found ≡ None → self.new ≡ self.old) }
+        ensures none { IfOk result (λ found. found ≡ None → IsJudgedBy self.old wild.now → wild.now.creator ≡ None) }
     {
-        if !self.is_alike(wild)? {
+        if !self.is_judged_by(wild)? {
             return Ok(None);
         }
         match self.again.take() {
             Some(again) => Ok(Some(again.told)),
-            None => Ok(None),
-        }
-    }
-
-    fn is_alike(&self, wild: &Wild) -> Result<bool, NoMemory>
-        ensures { IfOk result (λ is. is ≡ true → IfSome self.now.again (λ again. again.wild ≡ wild.now)) }
-    {
-        match &self.again {
-            Some(again) => are_alike(&again.wild, wild),
-            None => Ok(false),
+            None => unreachable!(),
         }
     }
 }
 
 // Whether two repositories have one creator and the same roles. That two without a creator do isn't told.
 fn are_alike(one: &Wild, other: &Wild) -> Result<bool, NoMemory>
-    ensures { IfOk result (λ are. are ≡ true → one.now ≡ other.now) }
+    ensures are { IfOk result (λ are. are ≡ true → one.now ≡ other.now) }
+    ensures not { IfOk result (λ are. are ≡ false → one.now ≡ other.now → other.now.creator ≡ None) }
 {
     let Some(creator) = one.creator() else {
         return Ok(false);
@@ -88,7 +86,8 @@ fn are_alike(one: &Wild, other: &Wild) -> Result<bool, NoMemory>
 }
 
 fn are_same(roles: &[RoleEntry], others: &[RoleEntry]) -> bool
-    ensures { result ≡ true → roles.now ≡ others.now }
+    ensures are { result ≡ true → roles.now ≡ others.now }
+    ensures not { result ≡ false → roles.now ≢ others.now }
 {
     if roles.len() != others.len() {
         return false;
@@ -102,13 +101,15 @@ fn are_same(roles: &[RoleEntry], others: &[RoleEntry]) -> bool
 }
 
 fn is_same(one: &RoleEntry, other: &RoleEntry) -> bool
-    ensures { result ≡ true → one.now ≡ other.now }
+    ensures is { result ≡ true → one.now ≡ other.now }
+    ensures not { result ≡ false → one.now ≢ other.now }
 {
     one.role.bytes() == other.role.bytes() && one.user.bytes() == other.user.bytes()
 }
 
 fn is_same_user(one: &UserName, other: &UserName) -> bool
-    ensures { result ≡ true → one.now ≡ other.now }
+    ensures is { result ≡ true → one.now ≡ other.now }
+    ensures not { result ≡ false → one.now ≢ other.now }
 {
     one.bytes() == other.bytes()
 }

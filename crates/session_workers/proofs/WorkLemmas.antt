@@ -1,6 +1,7 @@
 -- What a worker does, session by session.
-use Rattle.std.proofs.Common.{◌≡◌, ◌≤◌, ◌+◌, ℕ, Bool, true, false, ◌||◌, nat_eq, List, [], ◌∷◌, ◌++◌, length, map, refl, sym, ◌∙◌, ap, subst, arith, append-nil, length-append}
+use Rattle.std.proofs.Common.{◌≡◌, ◌≤◌, ◌+◌, ℕ, Bool, true, false, ◌||◌, ◌&&◌, nat_eq, List, [], ◌∷◌, ◌++◌, length, map, refl, sym, ◌∙◌, ap, subst, arith, append-nil, length-append}
 use Rattle.std.specs.List.{filter, list_any}
+use Rattle.std.specs.Prelude.{IsTrue}
 use Rattle.std.proofs.Math.Seq.{drop-length}
 use Rattle.std.proofs.lemmas.List.{map-append}
 use Rattle.pktline_core.specs.LinkState.{LinkState}
@@ -22,16 +23,16 @@ use Rattle.session_workers.specs.Visits.{GainsBack, HasDone, HasServed, HasWorke
 use Rattle.session_workers.proofs.Appended.{served_more}
 use Rattle.session_workers.proofs.DoorLemmas.{loses_none, gains_none, loses_more, gains_more, keeps_front, keeps_back}
 
-abbrev pub start_of : PassState KeptEntry → ℕ
+abbrev pub start_of : {H : Type 0} → PassState (KeptEntry H) → ℕ
 start_of pass = length (log_at_new pass)
 
-pub starts_within : (pass : PassState KeptEntry) → start_of pass ≤ length (log_seen pass)
+pub starts_within : {H : Type 0} (pass : PassState (KeptEntry H)) → start_of pass ≤ length (log_seen pass)
 starts_within pass =
     let len = ap length (log_in-append pass.at_new pass.since) ∙ length-append (log_in pass.at_new) (log_in pass.since) in
     omega (arith, len)
 
 -- a pass that has seen nothing yet since `new` has no entries of its own
-pub fresh_none : (pass : PassState KeptEntry) → pass.since ≡ [] → entries_of pass.caller (start_of pass) (log_seen pass) ≡ []
+pub fresh_none : {H : Type 0} (pass : PassState (KeptEntry H)) → pass.since ≡ [] → entries_of pass.caller (start_of pass) (log_seen pass) ≡ []
 fresh_none pass fresh =
     ap (λ l. entries_of pass.caller (start_of pass) (log_in l)) (ap (λ l. pass.at_new ++ l) fresh ∙ append-nil pass.at_new)
     ∙ ap (λ l. filter (λ (e : Entry). nat_eq e.caller pass.caller) l) (drop-length (log_in pass.at_new))
@@ -42,6 +43,13 @@ list_any-append f (x ∷ xs) ys = go (f x) (list_any-append f xs ys) where
   go : (b : Bool) → list_any f (xs ++ ys) ≡ list_any f xs || list_any f ys → b || list_any f (xs ++ ys) ≡ (b || list_any f xs) || list_any f ys
   go true same = refl
   go false same = same
+
+-- what holds where memory lacked in this session holds where it lacked in one of them
+pub lacked_before : (stops before lacked : Bool) → IsTrue (stops && lacked) → IsTrue (stops && (before || lacked))
+lacked_before false before lacked stop = stop
+lacked_before true false lacked stop = stop
+lacked_before true true false stop = refl
+lacked_before true true true stop = refl
 
 or_false : (b : Bool) → b || false ≡ b
 or_false true = refl
@@ -114,10 +122,10 @@ module _ {L : Type 0} (state : L → LinkState) where
   }
 
   -- what a worker did, with its tally
-  pub worked : (admin : Name) (caller start : ℕ) (log : List Entry) (each : ℕ) (old new : DoorState L) (tally : Tally)
-      → SoFar state admin caller start log old new tally.sessions tally.no_memory → HasDone old new each tally.sessions tally.door_failed → tally.sessions ≤ each
-      → HasWorked state admin caller start log each old new tally
-  worked admin caller start log each old new tally so_far done most = record {
+  pub worked : (may_stop : Bool) (admin : Name) (caller start : ℕ) (log : List Entry) (each : ℕ) (old new : DoorState L) (tally : Tally)
+      → SoFar state admin caller start log old new tally.sessions tally.no_memory → HasDone (may_stop && tally.no_memory) old new each tally.sessions tally.door_failed → tally.sessions ≤ each
+      → HasWorked state may_stop admin caller start log each old new tally
+  worked may_stop admin caller start log each old new tally so_far done most = record {
     visits = so_far.visits;
     served = so_far.served;
     is_tally = record { sessions = so_far.counted; no_memory = so_far.lacked_is };
@@ -126,16 +134,16 @@ module _ {L : Type 0} (state : L → LinkState) where
   }
 
   -- one session more, of the pass with which the work began
-  pub one_served : (began p q : PassState KeptEntry) (old mid new : DoorState L) (count : ℕ) (lacked : Bool) (end : SessionEnd) → IsSamePass began p
+  pub one_served : {H : Type 0} (began p q : PassState (KeptEntry H)) (old mid new : DoorState L) (count : ℕ) (lacked : Bool) (end : SessionEnd) → IsSamePass began p
       → SoFar state (admin_in began.at_new) began.caller (start_of began) (log_seen p) old mid count lacked
       → ServesNext state mid new (desk_of p) (desk_of q) (next.Served end)
       → SoFar state (admin_in began.at_new) began.caller (start_of began) (log_seen q) old new (count + 1) (lacked || is_lack end)
-  one_served began p q old mid new count lacked end same so_far one =
+  one_served {H} began p q old mid new count lacked end same so_far one =
       one_more (admin_in began.at_new) began.caller (start_of began) (desk_of p) (desk_of q) old mid new count lacked end
-      (ap admin_in same.at_new) same.caller (subst (λ (l : List KeptEntry). length (log_in l) ≤ length (log_seen p)) same.at_new (starts_within p)) so_far one
+      (ap admin_in same.at_new) same.caller (subst (λ (l : List (KeptEntry H)). length (log_in l) ≤ length (log_seen p)) same.at_new (starts_within p)) so_far one
 
 -- the same pass, call after call
-pub same_on : (a b c : PassState KeptEntry) → IsSamePass a b → IsSamePass b c → IsSamePass a c
+pub same_on : {H : Type 0} (a b c : PassState (KeptEntry H)) → IsSamePass a b → IsSamePass b c → IsSamePass a c
 same_on a b c one more = record {
   lock = more.lock ∙ one.lock;
   caller = more.caller ∙ one.caller;
@@ -144,11 +152,11 @@ same_on a b c one more = record {
   numbers = more.numbers ∙ one.numbers;
 }
 
-pub same_pass : (a b : PassState KeptEntry) → b ≡ a → IsSamePass a b
-same_pass a b same = record {
-  lock = ap (λ (p : PassState KeptEntry). p.lock) same;
-  caller = ap (λ (p : PassState KeptEntry). p.caller) same;
-  passes = ap (λ (p : PassState KeptEntry). p.passes) same;
-  at_new = ap (λ (p : PassState KeptEntry). p.at_new) same;
-  numbers = ap (λ (p : PassState KeptEntry). p.numbers) same;
+pub same_pass : {H : Type 0} (a b : PassState (KeptEntry H)) → b ≡ a → IsSamePass a b
+same_pass {H} a b same = record {
+  lock = ap (λ (p : PassState (KeptEntry H)). p.lock) same;
+  caller = ap (λ (p : PassState (KeptEntry H)). p.caller) same;
+  passes = ap (λ (p : PassState (KeptEntry H)). p.passes) same;
+  at_new = ap (λ (p : PassState (KeptEntry H)). p.at_new) same;
+  numbers = ap (λ (p : PassState (KeptEntry H)). p.numbers) same;
 }

@@ -1,5 +1,5 @@
 -- Passes, as the posts have them while their workers run.
-use Rattle.std.specs.Prelude.{◌≡◌, ℕ, List, [], ◌∷◌, length, Option, None, Some, false, if◌then◌else◌, nat_eq, ◌++◌}
+use Rattle.std.specs.Prelude.{◌≡◌, ℕ, List, [], ◌∷◌, length, Bool, Option, None, Some, false, if◌then◌else◌, nat_eq, ◌++◌}
 use Rattle.std.specs.List.{AllByRecursion}
 use Rattle.atomic_table.specs.Seated.{TableId}
 use Rattle.pktline_core.specs.LinkState.{LinkState}
@@ -14,48 +14,48 @@ use Rattle.session_workers.specs.declared.post.Post.{Post}
 use Rattle.session_workers.specs.Visits.{HasWorked}
 
 -- a pass of this hub that has seen nothing since `new`
-pub record IsFresh (lock : TableId) (pass : PassState KeptEntry) : Type 0 where
+pub record IsFresh {H : Type 0} (lock : TableId) (pass : PassState (KeptEntry H)) : Type 0 where
   pub of_hub : pass.lock ≡ lock
   pub hub : IsHubPass pass
   pub fresh : pass.since ≡ []
 
-abbrev pub HoldsFresh : TableId → Option (PassState KeptEntry) → Type 0
+abbrev pub HoldsFresh : {H : Type 0} → TableId → Option (PassState (KeptEntry H)) → Type 0
 HoldsFresh lock None = ⊥
 HoldsFresh lock (Some pass) = IsFresh lock pass
 
 -- the post has a pass with which its worker may begin
-abbrev pub MayWork : {D G : Type 0} → TableId → Post D G → Type 0
+abbrev pub MayWork : {D G H : Type 0} → TableId → Post D G H → Type 0
 MayWork lock post = HoldsFresh lock post.pass
 
 -- what the worker of a post did with the post's pass and at its door
-pub record HasWorkedAt {L D G : Type 0} (state : L → LinkState) (door : D → DoorState L) (each : ℕ) (old new : Post D G) : Type 0 where
-  pub began : PassState KeptEntry
-  pub ended : PassState KeptEntry
+pub record HasWorkedAt {L D G H : Type 0} (state : L → LinkState) (door : D → DoorState L) (may_stop : Bool) (each : ℕ) (old new : Post D G H) : Type 0 where
+  pub began : PassState (KeptEntry H)
+  pub ended : PassState (KeptEntry H)
   pub had : old.pass ≡ Some began
   pub has : new.pass ≡ Some ended
   pub same_pass : IsSamePass began ended
   pub hub : IsHubPass ended
-  pub worked : HasWorked state (admin_in began.at_new) began.caller (length (log_at_new began)) (log_seen ended) each (door old.door) (door new.door) new.tally
+  pub worked : HasWorked state may_stop (admin_in began.at_new) began.caller (length (log_at_new began)) (log_seen ended) each (door old.door) (door new.door) new.tally
 
 -- the pass of a place as it is handed out, where so many were made
-abbrev pub pass_at : TableId → List KeptEntry → ℕ → ℕ → PassState KeptEntry
+abbrev pub pass_at : {H : Type 0} → TableId → List (KeptEntry H) → ℕ → ℕ → PassState (KeptEntry H)
 pass_at lock list made place = record { lock = lock; caller = place; passes = if nat_eq place 0 then made else 0; at_new = list; since = []; numbers = place ∷ [] }
 
 -- the pass of a place, whatever it has seen since
-pub record IsPassOf (lock : TableId) (list : List KeptEntry) (made place : ℕ) (pass : PassState KeptEntry) : Type 0 where
+pub record IsPassOf {H : Type 0} (lock : TableId) (list : List (KeptEntry H)) (made place : ℕ) (pass : PassState (KeptEntry H)) : Type 0 where
   pub same : IsSamePass (pass_at lock list made place) pass
   pub hub : IsHubPass pass
 
-abbrev pub HasPassOf : TableId → List KeptEntry → ℕ → ℕ → Option (PassState KeptEntry) → Type 0
+abbrev pub HasPassOf : {H : Type 0} → TableId → List (KeptEntry H) → ℕ → ℕ → Option (PassState (KeptEntry H)) → Type 0
 HasPassOf lock list made place None = ⊥
 HasPassOf lock list made place (Some pass) = IsPassOf lock list made place pass
 
 -- what one pass has seen goes on, with entries of others, to what another has
-abbrev pub Follows : ℕ → PassState KeptEntry → PassState KeptEntry → Type 0
+abbrev pub Follows : {H : Type 0} → ℕ → PassState (KeptEntry H) → PassState (KeptEntry H) → Type 0
 Follows caller earlier later = (more : List Entry) × (log_seen earlier ++ more ≡ log_seen later) × AllByRecursion (IsOfAnother caller) more
 
 -- the first pass, once those of the numbers below this one are joined into it
-pub record IsWhole (lock : TableId) (list : List KeptEntry) (made joined : ℕ) (pass : PassState KeptEntry) : Type 0 where
+pub record IsWhole {H : Type 0} (lock : TableId) (list : List (KeptEntry H)) (made joined : ℕ) (pass : PassState (KeptEntry H)) : Type 0 where
   pub of_hub : pass.lock ≡ lock
   pub first : pass.caller ≡ 0
   pub at_new : pass.at_new ≡ list
@@ -64,6 +64,6 @@ pub record IsWhole (lock : TableId) (list : List KeptEntry) (made joined : ℕ) 
   pub hub : IsHubPass pass
 
 -- a post as it is while no worker runs: without a pass, and with nothing counted
-pub record IsIdle {D G : Type 0} (post : Post D G) : Type 0 where
+pub record IsIdle {D G H : Type 0} (post : Post D G H) : Type 0 where
   pub no_pass : post.pass ≡ None
   pub none_counted : post.tally ≡ record { sessions = 0; door_failed = false; no_memory = false }

@@ -1,5 +1,5 @@
 -- What a worker does at its door.
-use Rattle.std.specs.Prelude.{◌≡◌, ⊤, ◌⊎◌, ℕ, ◌≤◌, Bool, true, false, List, [], ◌∷◌, ◌++◌, length, map, Option, None, Some}
+use Rattle.std.specs.Prelude.{◌≡◌, ⊤, ◌⊎◌, ◌&&◌, ℕ, ◌≤◌, Bool, IsTrue, true, false, List, [], ◌∷◌, ◌++◌, length, map, Option, None, Some}
 use Rattle.std.specs.List.{list_any}
 use Rattle.base_types.specs.Counts.{HasRisen}
 use Rattle.pktline_core.specs.LinkState.{LinkState}
@@ -80,20 +80,20 @@ pub record HasServed {L : Type 0} (state : L → LinkState) (admin : Name) (call
   pub served : Served admin caller start log (map (served_link state) visits)
   pub faults : old.faults ≤ new.faults
 
--- as many were served as were asked for, or the door is closed, and it didn't fail; or it failed
-abbrev pub HasDone : {L : Type 0} → DoorState L → DoorState L → ℕ → ℕ → Bool → Type 0
-HasDone old new each count true = HasRisen old.faults new.faults
-HasDone old new each count false = ((count ≡ each) ⊎ (new.closed ≡ true)) × (new.faults ≡ old.faults)
+-- the door failed; or it didn't, and as many were served as were asked for, or it is closed, or the hub may have stopped
+abbrev pub HasDone : {L : Type 0} → Bool → DoorState L → DoorState L → ℕ → ℕ → Bool → Type 0
+HasDone stopped old new each count true = HasRisen old.faults new.faults
+HasDone stopped old new each count false = ((count ≡ each) ⊎ (new.closed ≡ true) ⊎ IsTrue stopped) × (new.faults ≡ old.faults)
 
 -- a worker's tally is that of its visits
 pub record IsTally {L : Type 0} (visits : List (Visit L)) (tally : Tally) : Type 0 where
   pub sessions : tally.sessions ≡ length visits
   pub no_memory : tally.no_memory ≡ have_lacked visits
 
--- what a worker did: its visits, and whether it was done
-pub record HasWorked {L : Type 0} (state : L → LinkState) (admin : Name) (caller start : ℕ) (log : List Entry) (each : ℕ) (old new : DoorState L) (tally : Tally) : Type 0 where
+-- What a worker did: its visits, and whether it was done. A hub that may stop may have done so where a session ended out of memory
+pub record HasWorked {L : Type 0} (state : L → LinkState) (may_stop : Bool) (admin : Name) (caller start : ℕ) (log : List Entry) (each : ℕ) (old new : DoorState L) (tally : Tally) : Type 0 where
   pub visits : List (Visit L)
   pub served : HasServed state admin caller start log old new visits
   pub is_tally : IsTally visits tally
-  pub done : HasDone old new each tally.sessions tally.door_failed
+  pub done : HasDone (may_stop && tally.no_memory) old new each tally.sessions tally.door_failed
   pub most : tally.sessions ≤ each

@@ -7,10 +7,9 @@ ghost use Rattle.session_workers.specs.ServesAll.{ServesAll};
 use crate::hand::{clear, gather, hand_out};
 use crate::post::{Post, serve_posts};
 use edge_links::Door;
-use hub::Hub;
 use pktline_core::Link;
 use session_core::Gate;
-use shared_hub::SharedHub;
+use shared_hub::{EventHub, SharedHub};
 use std::alloc::Global;
 use std::snapshot::Snapshot;
 use std::sync::Wait;
@@ -18,10 +17,10 @@ use std::thread::Threads;
 
 /// What all workers did.
 #[derive(Drop)]
-pub struct ServedAll {
+pub struct ServedAll<H> {
     /// The hub, with what the sessions left of it. None only where there was no memory to share it, before any door was
     /// asked.
-    pub hub: Option<Hub>,
+    pub hub: Option<H>,
     /// How many links were served and given back.
     pub sessions: u64,
     /// Whether a door failed.
@@ -31,7 +30,7 @@ pub struct ServedAll {
 }
 
 // How many links all posts served.
-fn sessions_of<D, G>(posts: &[Post<D, G>]) -> u64
+fn sessions_of<D, G, H: EventHub>(posts: &[Post<D, G, H>]) -> u64
     requires { sum_by (λ p. p.tally.sessions) posts.now < 2 ^ 64 }
     ensures { result ≡ sum_by (λ p. p.tally.sessions) posts.now }
 {
@@ -39,21 +38,21 @@ fn sessions_of<D, G>(posts: &[Post<D, G>]) -> u64
 }
 
 // Whether a post's door failed.
-fn have_failed<D, G>(posts: &[Post<D, G>]) -> bool
+fn have_failed<D, G, H: EventHub>(posts: &[Post<D, G, H>]) -> bool
     ensures { result ≡ list_any (λ p. p.tally.door_failed) posts.now }
 {
     posts.iter().any(|post| post.tally.door_failed)
 }
 
 // Whether memory lacked in a session of a post.
-fn have_lacked<D, G>(posts: &[Post<D, G>]) -> bool
+fn have_lacked<D, G, H: EventHub>(posts: &[Post<D, G, H>]) -> bool
     ensures { result ≡ list_any (λ p. p.tally.no_memory) posts.now }
 {
     posts.iter().any(|post| post.tally.no_memory)
 }
 
 // There was no memory for the lock or the passes.
-fn without_memory() -> ServedAll
+fn without_memory<H>() -> ServedAll<H>
     ensures { result ≡ record { hub = None; sessions = 0; door_failed = false; no_memory = true } }
 {
     ServedAll {
@@ -65,27 +64,29 @@ fn without_memory() -> ServedAll
 }
 
 /// Serves the links of all posts over one hub, each post by a worker, on a thread of its own where the system gives one
-/// (one of them runs on the caller's). A worker ends once it has served so many, its door is closed or its door fails.
+/// (one of them runs on the caller's). A worker ends once it has served so many, its door is closed or its door fails,
+/// and behind a session that the stopped hub ended.
 /// Entries that a post's sessions log bear its place as their number.
 ///
 /// A link's fault, or want of memory in a session, ends that session alone. The turn of the hub is taken once for each
 /// entry. Memory for the lock and the passes is taken first.
-pub fn serve_all<L: Link + Send, D: Door<L> + Send, G: Gate + Send, R: Threads + Wait + Sync>(
-    rt: &R,
-    alloc: Global,
-    hub: Hub,
-    posts: &mut [Post<D, G>],
-    each: u64,
-) -> ServedAll
+pub fn serve_all<
+    L: Link + Send,
+    D: Door<L> + Send,
+    G: Gate + Send,
+    R: Threads + Wait + Sync,
+    H: EventHub + Send + Drop,
+>(rt: &R, alloc: Global, hub: H, posts: &mut [Post<D, G, H>], each: u64) -> ServedAll<H>
     requires few { length posts.old < 2 ^ 32 }
     requires fits { length posts.old * each < 2 ^ 64 }
-    ensures served { IfSome result.hub (λ after. ServesAll L.state D.state hub after posts.old posts.new each result.sessions result.door_failed result.no_memory) }
+    ensures served { IfSome result.hub (λ after. ServesAll L.state D.state H.may_stop (H.view hub) (H.view after) posts.old posts.new each result.sessions result.door_failed result.no_memory) }
+    ensures goes { IfSome result.hub (λ after. H.goes_on hub after) }
     ensures none { IfNone result.hub ((result.sessions ≡ 0) × (result.door_failed ≡ false) × IsTrue result.no_memory) }
     ensures unasked { IfNone result.hub ((k : ℕ) (d : _) → (slice_index_or posts.new k d).door ≡ (slice_index_or posts.old k d).door) }
     ensures idle { All (λ post. IsIdle post) posts.new }
 {
     // called for its clause that the log is legal
-    let _log = hub.log();
+    hub.sound();
     if posts.is_empty() {
         return ServedAll {
             hub: Some(hub),

@@ -6,16 +6,16 @@ ghost use Rattle.session_workers.specs.Passes.{Follows, HasPassOf, IsIdle, IsWho
 use crate::post::Post;
 use crate::worker::Tally;
 use base_types::NoMemory;
-use shared_hub::{SharedHub, SharedPass};
+use shared_hub::{EventHub, SharedHub, SharedPass};
 use std::alloc::Global;
 use std::snapshot::Snapshot;
 
 /// Gives the first pass to the post at place 0, and to each other post the pass of its place.
-pub fn hand_out<D, G>(
+pub fn hand_out<D, G, H: EventHub>(
     alloc: Global,
-    hub: &SharedHub,
-    mut first: SharedPass,
-    posts: &mut [Post<D, G>],
+    hub: &SharedHub<H>,
+    mut first: SharedPass<H>,
+    posts: &mut [Post<D, G, H>],
 ) -> Result<(), NoMemory>
     requires some { 0 < length posts.old }
     requires few { length posts.old < 2 ^ 32 }
@@ -34,7 +34,7 @@ pub fn hand_out<D, G>(
 }
 
 // Takes the pass of a post.
-fn take_pass<D, G>(post: &mut Post<D, G>) -> SharedPass
+fn take_pass<D, G, H: EventHub>(post: &mut Post<D, G, H>) -> SharedPass<H>
     requires { IsSome post.old.pass }
     ensures taken { post.old.pass ≡ Some result }
     ensures left { post.new ≡ record post.old { pass = None } }
@@ -46,11 +46,11 @@ fn take_pass<D, G>(post: &mut Post<D, G>) -> SharedPass
 }
 
 /// Joins the passes of all posts into the one of the post at place 0.
-pub fn gather<D, G>(
-    hub: &SharedHub,
-    first: Snapshot<SharedPass>,
-    posts: &mut [Post<D, G>],
-) -> SharedPass
+pub fn gather<D, G, H: EventHub>(
+    hub: &SharedHub<H>,
+    first: Snapshot<SharedPass<H>>,
+    posts: &mut [Post<D, G, H>],
+) -> SharedPass<H>
     requires some { 0 < length posts.old }
     requires passes { (k : ℕ) (d : _) → k < length posts.old → HasPassOf hub.now first.value.at_new (length posts.old) k (slice_index_or posts.old k d).pass }
     ensures doors { (k : ℕ) (d : _) → (slice_index_or posts.new k d).door ≡ (slice_index_or posts.old k d).door }
@@ -66,7 +66,7 @@ pub fn gather<D, G>(
 }
 
 // Leaves a post without a pass, and with nothing counted.
-fn clear_post<D, G>(post: &mut Post<D, G>)
+fn clear_post<D, G, H: EventHub>(post: &mut Post<D, G, H>)
     ensures door { post.new.door ≡ post.old.door }
     ensures idle { IsIdle post.new }
 {
@@ -75,7 +75,7 @@ fn clear_post<D, G>(post: &mut Post<D, G>)
 }
 
 /// Leaves each post as it was before passes were handed out.
-pub fn clear<D, G>(posts: &mut [Post<D, G>])
+pub fn clear<D, G, H: EventHub>(posts: &mut [Post<D, G, H>])
     ensures doors { (k : ℕ) (d : _) → (slice_index_or posts.new k d).door ≡ (slice_index_or posts.old k d).door }
     ensures idle { All (λ post. IsIdle post) posts.new }
 {

@@ -18,3 +18,4 @@ mod worker;
 pub use all::{ServedAll, serve_all};
 pub use laws::hold_laws;
 pub use post::Post;
+pub use shared_hub::EventHub;

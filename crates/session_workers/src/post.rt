@@ -6,7 +6,7 @@ use crate::worker::{Tally, work};
 use edge_links::Door;
 use pktline_core::Link;
 use session_core::Gate;
-use shared_hub::{SharedHub, SharedPass};
+use shared_hub::{EventHub, SharedHub, SharedPass};
 use std::alloc::Global;
 use std::sync::Wait;
 use std::thread;
@@ -14,19 +14,19 @@ use std::thread::Threads;
 
 /// One worker's place: its door and its gate.
 #[derive(Drop)]
-pub struct Post<D, G> {
+pub struct Post<D, G, H: EventHub> {
     /// Where its links come from, and where they go.
     pub door: D,
     /// Called in each of its sessions behind an opening that was granted.
     pub gate: G,
     // From where the worker is sent to its thread up to where its pass is joined; none before and after.
-    pub(crate) pass: Option<SharedPass>,
+    pub(crate) pass: Option<SharedPass<H>>,
     pub(crate) tally: Tally,
 }
 
-impl<D, G> Post<D, G> {
+impl<D, G, H: EventHub> Post<D, G, H> {
     /// A post with this door and this gate. It takes no memory.
-    pub fn new(door: D, gate: G) -> Post<D, G>
+    pub fn new(door: D, gate: G) -> Post<D, G, H>
         ensures door { result.door ≡ door }
         ensures gate { result.gate ≡ gate }
         ensures idle { IsIdle result }
@@ -41,15 +41,15 @@ impl<D, G> Post<D, G> {
 }
 
 // What the worker of a post does.
-fn serve_post<L: Link, D: Door<L>, G: Gate, R: Wait>(
+fn serve_post<L: Link, D: Door<L>, G: Gate, R: Wait, H: EventHub>(
     rt: &R,
     alloc: Global,
-    hub: &SharedHub,
-    post: &mut Post<D, G>,
+    hub: &SharedHub<H>,
+    post: &mut Post<D, G, H>,
     each: u64,
 )
     requires { MayWork hub.now post.old }
-    ensures { HasWorkedAt L.state D.state each post.old post.new }
+    ensures { HasWorkedAt L.state D.state H.may_stop each post.old post.new }
 {
     let Some(pass) = post.pass.take() else {
         unreachable!()
@@ -60,21 +60,21 @@ fn serve_post<L: Link, D: Door<L>, G: Gate, R: Wait>(
 }
 
 /// Serves the posts, each by a worker, on a thread of its own where the system gives one.
-pub fn serve_posts<L: Link + Send, D: Door<L> + Send, G: Gate + Send, R: Threads + Wait + Sync>(
-    rt: &R,
-    alloc: Global,
-    hub: &SharedHub,
-    posts: &mut [Post<D, G>],
-    each: u64,
-)
+pub fn serve_posts<
+    L: Link + Send,
+    D: Door<L> + Send,
+    G: Gate + Send,
+    R: Threads + Wait + Sync,
+    H: EventHub + Send,
+>(rt: &R, alloc: Global, hub: &SharedHub<H>, posts: &mut [Post<D, G, H>], each: u64)
     requires some { 0 < length posts.old }
     requires may { All (λ post. MayWork hub.now post) posts.old }
-    ensures worked { (k : ℕ) (d : _) → k < length posts.old → HasWorkedAt L.state D.state each (slice_index_or posts.old k d) (slice_index_or posts.new k d) }
+    ensures worked { (k : ℕ) (d : _) → k < length posts.old → HasWorkedAt L.state D.state H.may_stop each (slice_index_or posts.old k d) (slice_index_or posts.new k d) }
 {
     let threads = posts.len();
-    let worker = |_index: usize, post: &mut Post<D, G>|
+    let worker = |_index: usize, post: &mut Post<D, G, H>|
         requires { MayWork hub.now post.old }
-        ensures { HasWorkedAt L.state D.state each post.old post.new }
+        ensures { HasWorkedAt L.state D.state H.may_stop each post.old post.new }
     { serve_post(rt, alloc, hub, post, each) };
     thread::for_each_mut(rt, posts, threads, &worker);
 }

@@ -1,5 +1,5 @@
 // One worker.
-ghost use Rattle.std.specs.Prelude.{◌≡◌, ◌||◌, [], length};
+ghost use Rattle.std.specs.Prelude.{◌≡◌, ◌&&◌, ◌||◌, [], IsTrue, length};
 ghost use Rattle.turn_lock.specs.Lock.{IsSamePass};
 ghost use Rattle.shared_hub.specs.Kept.{admin_in};
 ghost use Rattle.shared_hub.specs.Shared.{IsHubPass, log_at_new, log_seen};
@@ -10,7 +10,7 @@ use git_session::{SessionBuffer, session};
 use hub::Desk;
 use pktline_core::Link;
 use session_core::{Gate, SessionEnd};
-use shared_hub::{SharedDesk, SharedHub, SharedPass};
+use shared_hub::{EventHub, SharedDesk, SharedHub, SharedPass};
 use std::alloc::Global;
 use std::sync::Wait;
 
@@ -62,29 +62,44 @@ fn serve_next<L: Link, K: Desk, D: Door<L>, G: Gate>(
     }
 }
 
+// Whether a session with this end ran out of memory.
+fn is_out_of_memory(end: SessionEnd) -> bool
+    ensures { result ≡ is_lack end }
+{
+    matches!(end, SessionEnd::NoMemory)
+}
+
 // Whether memory has lacked, in a session with this end or before.
 fn lacks(before: bool, end: SessionEnd) -> bool
     ensures { result ≡ before || is_lack end }
 {
-    before || matches!(end, SessionEnd::NoMemory)
+    before || is_out_of_memory(end)
 }
 
-/// Serves the links of a door until so many are served, the door is closed or it failed.
-pub fn work<'a, L: Link, D: Door<L>, G: Gate, R: Wait>(
+// Whether the hub has stopped, which a session with this end may tell: it then ends each further session so.
+fn has_stopped_by<R: Wait, H: EventHub>(desk: &mut SharedDesk<'_, R, H>, end: SessionEnd) -> bool
+    ensures may { IsTrue result → IsTrue (H.may_stop && is_lack end) }
+    ensures same { desk.new ≡ desk.old }
+{
+    is_out_of_memory(end) && desk.has_stopped()
+}
+
+/// Serves the links of a door until so many are served, the door is closed or it failed, or the hub has stopped.
+pub fn work<'a, L: Link, D: Door<L>, G: Gate, R: Wait, H: EventHub>(
     rt: &'a R,
     alloc: Global,
-    hub: &'a SharedHub,
-    pass: SharedPass,
+    hub: &'a SharedHub<H>,
+    pass: SharedPass<H>,
     door: &mut D,
     gate: &mut G,
     each: u64,
-) -> (SharedPass, Tally)
+) -> (SharedPass<H>, Tally)
     requires of_hub { pass.lock ≡ hub.now }
     requires hub { IsHubPass pass }
     requires fresh { pass.since ≡ [] }
     ensures same_pass { IsSamePass pass result.0 }
     ensures hub { IsHubPass result.0 }
-    ensures worked { HasWorked L.state (admin_in pass.at_new) pass.caller (length (log_at_new pass)) (log_seen result.0) each (D.state door.old) (D.state door.new) result.1 }
+    ensures worked { HasWorked L.state H.may_stop (admin_in pass.at_new) pass.caller (length (log_at_new pass)) (log_seen result.0) each (D.state door.old) (D.state door.new) result.1 }
 {
     let mut desk = SharedDesk::new(rt, hub, pass);
     let mut buffer = SessionBuffer::new();
@@ -92,7 +107,13 @@ pub fn work<'a, L: Link, D: Door<L>, G: Gate, R: Wait>(
     for sessions in 0..each {
         tally.sessions = sessions;
         match serve_next(alloc, door, gate, &mut desk, &mut buffer) {
-            NextServed::Served(end) => tally.no_memory = lacks(tally.no_memory, end),
+            NextServed::Served(end) => {
+                tally.no_memory = lacks(tally.no_memory, end);
+                if has_stopped_by(&mut desk, end) {
+                    tally.sessions = sessions + 1;
+                    return (desk.into_pass(), tally);
+                }
+            }
             NextServed::Closed => return (desk.into_pass(), tally),
             NextServed::Failed => {
                 tally.door_failed = true;

@@ -1,6 +1,6 @@
 -- That passes of a hub may go from thread to thread, part by part.
 use denote.Builtin.{u64}
-use denote.Param.Send.{IsSend, IsSync, recorded_send, sendable, struct_send, view_send}
+use denote.Param.Send.{IsSend, IsSync, recorded_send, recorded_sync, sendable, struct_send, struct_sync, view_send, view_sync}
 use denote.RattleType.{RattleType}
 use denote.Ref.{NamedLft}
 use denote.Struct.Declared.{row, shape}
@@ -28,11 +28,12 @@ use Rattle.hub.specs.contracts.table.RepoTable as RepoTable
 use Rattle.hub.specs.contracts.since.Since as Since
 use Rattle.hub.specs.contracts.hub.Hub as Hub
 use Rattle.hub.specs.contracts.hub.Hub.TheInside as Inside
-use Rattle.atomic_table.proofs.shared.Seat.TheSendSync as seat
-use Rattle.atomic_table.proofs.shared.Shared.TheSendSync as table
-use Rattle.atomic_table.proofs.send_lease.SendLease.TheSendSync as lease
+use Rattle.turn_lock.proofs.Crosses.{lock_sync, pass_send}
+use Rattle.shared_hub.specs.declared.event_hub.EventHub.{Ghosts}
 use Rattle.shared_hub.specs.contracts.kept.KeptHub as KeptHub
+use Rattle.shared_hub.specs.contracts.kept.KeptHub.TheInside as KeptInside
 use Rattle.shared_hub.specs.contracts.shared.SharedHub as SharedHub
+use Rattle.shared_hub.specs.contracts.shared.SharedHub.TheInside as SharedInside
 use Rattle.shared_hub.specs.contracts.desk.SharedDesk as Desk
 use Rattle.shared_hub.specs.contracts.desk.SharedDesk.TheInside as DeskInside
 
@@ -123,7 +124,7 @@ entry_send = recorded_send _ _ _ (Entry.the_type).to_one (struct_send (shape Ent
 log_send : IsSend (ItemList.the_row Entry.the_row)
 log_send = search (entry_send, heap.crosses, sendable) depth 60
 
-hub_send : IsSend Hub.the_row
+pub hub_send : IsSend Hub.the_row
 hub_send =
     let inside = struct_send (shape Inside.the_type) (
       search (conf_send, sendable) depth 30,
@@ -132,20 +133,26 @@ hub_send =
     let whole : IsSend (row Inside.the_type) = recorded_send _ _ _ (Inside.the_type).to_one inside in
     view_send (row Inside.the_type) _ _ _ _ whole
 
-pub kept_send : IsSend KeptHub.the_row
-kept_send = search (hub_send, sendable) depth 30
+pub kept_send : (H : RattleType) (ghosts : Ghosts H.Denot) → IsSend H → IsSend (KeptHub.the_row H ghosts)
+kept_send H ghosts h =
+    let inside = struct_send (shape (KeptInside.the_type H ghosts)) (search (heap.crosses, sendable) depth 30, (search sendable depth 30, tt)) in
+    let whole : IsSend (row (KeptInside.the_type H ghosts)) = recorded_send _ _ _ (KeptInside.the_type H ghosts).to_one inside in
+    view_send (row (KeptInside.the_type H ghosts)) _ _ _ _ whole
 
-pub shared_sync : IsSync SharedHub.the_row
-shared_sync = search (kept_send, table.the_sync, lease.the_sync, heap.crosses, heap.send, heap.sync, sendable) depth 100 fits 50000
+pub shared_sync : (H : RattleType) (ghosts : Ghosts H.Denot) → IsSend H → IsSync (SharedHub.the_row H ghosts)
+shared_sync H ghosts h =
+    let inside = struct_sync (shape (SharedInside.the_type H ghosts)) (search (lock_sync, kept_send, sendable) depth 30, tt) in
+    let whole : IsSync (row (SharedInside.the_type H ghosts)) = recorded_sync _ _ _ (SharedInside.the_type H ghosts).to_one inside in
+    view_sync (row (SharedInside.the_type H ghosts)) _ _ _ _ whole
 
-pub desk_send : (κ : NamedLft) (R : RattleType) → IsSync R → IsSend (Desk.the_row κ R)
-desk_send κ R y =
-    let inside = struct_send (shape (DeskInside.the_type κ R)) (
+pub desk_send : (κ : NamedLft) (R H : RattleType) (ghosts : Ghosts H.Denot) → IsSync R → IsSend H → IsSend (Desk.the_row κ R H ghosts)
+desk_send κ R H ghosts y h =
+    let inside = struct_send (shape (DeskInside.the_type κ R H ghosts)) (
       search (y, sendable) depth 30,
-      (search (shared_sync, sendable) depth 30, (search (kept_send, seat.the_send, sendable) depth 60, tt)),
+      (search (shared_sync, sendable) depth 30, (search (pass_send, kept_send, sendable) depth 60, tt)),
     ) in
-    let whole : IsSend (row (DeskInside.the_type κ R)) = recorded_send _ _ _ (DeskInside.the_type κ R).to_one inside in
-    view_send (row (DeskInside.the_type κ R)) _ _ _ _ whole
+    let whole : IsSend (row (DeskInside.the_type κ R H ghosts)) = recorded_send _ _ _ (DeskInside.the_type κ R H ghosts).to_one inside in
+    view_send (row (DeskInside.the_type κ R H ghosts)) _ _ _ _ whole
 
 -- a pass, a pin, and a reference to the hub
-pub ruleset crosses = (desk_send, kept_send, shared_sync, pin_send, object_sync, seat.the_send, heap.crosses, sendable)
+pub ruleset crosses = (hub_send, desk_send, kept_send, pass_send, lock_sync, shared_sync, pin_send, object_sync, heap.crosses, sendable)

@@ -1,9 +1,9 @@
 -- What a turn is to a desk.
-use Rattle.std.proofs.Common.{◌≡◌, ◌⊎◌, ℕ, true, false, List, [], ◌∷◌, ◌++◌, inl, inr, sym, ◌∙◌, ap, subst, refl, length, append_assoc, arith, length-append}
+use Rattle.std.proofs.Common.{◌≡◌, ◌⊎◌, ℕ, true, false, List, [], ◌∷◌, ◌++◌, inl, inr, ⊎_elim, sym, ◌∙◌, ap, subst, refl, length, append_assoc, arith, length-append}
 use Rattle.std.specs.Prelude.{Option, Some, None, Contains}
 use Rattle.std.specs.List.{AllByRecursion}
 use Rattle.std.proofs.lemmas.List.Elements.{All-head, All-tail}
-use Rattle.turn_lock.specs.Lock.{AreOthers, PassState, SeesItsEntry, seen}
+use Rattle.turn_lock.specs.Lock.{AreOthers, PassState, SeesItsEntry, Turned, seen}
 use Rattle.ref_store.specs.Refs.{Name}
 use Rattle.access_check.specs.declared.verdicts.Want.{Want}
 use Rattle.wild_perms.specs.declared.answer.PermsAnswer.{PermsAnswer}
@@ -21,7 +21,7 @@ use Rattle.hub.specs.Answer.{AnswersChange, AnswersLook, AnswersOpening, Answers
 use Rattle.hub.specs.Desk.{Calls, DeskView, Enters, IsOfAnother, IsSound, KeepsPins, Looks, Permits, Pushes, known}
 use Rattle.hub.specs.Hub.{HubView}
 use Rattle.shared_hub.specs.declared.kept.KeptEntry.{KeptEntry}
-use Rattle.shared_hub.specs.declared.kept.KeptEntry.TheVariants.{Admin, Logged}
+use Rattle.shared_hub.specs.declared.kept.KeptEntry.TheVariants.{First, Logged}
 use Rattle.shared_hub.specs.declared.steps.Asked.{Asked}
 use Rattle.shared_hub.specs.Kept.{NamesAdmin, admin_in, caller_of, hub_in, log_in}
 use Rattle.shared_hub.specs.declared.steps.PushTurn.{PushTurn}
@@ -32,9 +32,9 @@ use Rattle.shared_hub.specs.Shared.{IsHubPass, log_seen}
 use Rattle.shared_hub.proofs.ListLemmas.{NamesAdmin-append, admin_in-append, log_in-append, no_more}
 
 -- entries that bear none of the numbers are of others than the caller of one of them
-of_others : (n : ℕ) (numbers : List ℕ) (items : List KeptEntry) → Contains numbers n → AreOthers caller_of numbers items → AllByRecursion (IsOfAnother n) (log_in items)
+of_others : {H : Type 0} (n : ℕ) (numbers : List ℕ) (items : List (KeptEntry H)) → Contains numbers n → AreOthers caller_of numbers items → AllByRecursion (IsOfAnother n) (log_in items)
 of_others n numbers [] own others = tt
-of_others n numbers (Admin name ∷ items) own others = of_others n numbers items own (All-tail (λ e. ¬ (Contains numbers (caller_of e))) (Admin name) items others)
+of_others n numbers (First name was ∷ items) own others = of_others n numbers items own (All-tail (λ e. ¬ (Contains numbers (caller_of e))) (First name was) items others)
 of_others n numbers (Logged e ∷ items) own others = (
   λ same. All-head (λ e. ¬ (Contains numbers (caller_of e))) (Logged e) items others (subst (Contains numbers) (sym same) own),
   of_others n numbers items own (All-tail (λ e. ¬ (Contains numbers (caller_of e))) (Logged e) items others),
@@ -49,14 +49,19 @@ calls_keep old new before (Some event) calls pin stands =
     ap known calls.new_is ∙ ap (λ l. record { admin = old.admin; log = l }) (ap (λ l. l ++ own) calls.before_is ∙ append_assoc old.seen calls.others own) in
     subst (λ (h : HubView). Stands pin h.admin h.log) (sym grown) (stands_kept old.admin old.seen (calls.others ++ own) pin.place pin.pinned stands)
 
+-- a turn that leaves the list leaves the pass
+pub looks_on : {H A : Type 0} (old new : PassState (KeptEntry H)) → Turned caller_of (λ before after. (after ≡ before) × A) old new → new ≡ old
+looks_on old new turn =
+    ⊎_elim (λ left. left.1) (λ sees. absurd (no_more (seen old ++ turn.between) sees.entry (sym sees.added ∙ turn.related.0))) turn.left
+
 -- what a pass of a hub has seen is legal, and its own entries begin within it
-pub sound : (pass : PassState KeptEntry) → IsHubPass pass → IsSound (desk_of pass)
+pub sound : {H : Type 0} (pass : PassState (KeptEntry H)) → IsHubPass pass → IsSound (desk_of pass)
 sound pass of_hub = record {
   legal = of_hub.legal;
   within = omega (arith, ap length (log_in-append pass.at_new pass.since), length-append (log_in pass.at_new) (log_in pass.since));
 }
 
-module _ (old new : PassState KeptEntry) (between after : List KeptEntry) (names : NamesAdmin old.at_new) where
+module _ {H : Type 0} (old new : PassState (KeptEntry H)) (between after : List (KeptEntry H)) (names : NamesAdmin old.at_new) where
   -- the log that the step found
   abbrev pub found : List Entry
   found = log_in (seen old ++ between)
@@ -76,15 +81,15 @@ module _ (old new : PassState KeptEntry) (between after : List KeptEntry) (names
   -- the list that was left, where an event was added
   left_hub : (event : Event) → Adds old.caller (seen old ++ between) after (Some event) → hub_in after ≡ record { admin = admin_in old.at_new; log = found ++ record { caller = old.caller; event = event } ∷ [] }
   left_hub event adds =
-      let entry : List KeptEntry = Logged (record { caller = old.caller; event = event }) ∷ [] in
+      let entry : List (KeptEntry H) = Logged (record { caller = old.caller; event = event }) ∷ [] in
       ap hub_in adds.0 ∙ (λ i. record { admin = (admin_in-append (seen old ++ between) entry found_names ∙ found_admin) i; log = log_in-append (seen old ++ between) entry i })
 
   -- what the pass has seen then
   new_desk : (event : Event) → Adds old.caller (seen old ++ between) after (Some event) → Leaves → desk_of new ≡ record (desk_of old) { seen = found ++ record { caller = old.caller; event = event } ∷ [] }
   new_desk event adds (inl left) = absurd (no_more (seen old ++ between) (Logged (record { caller = old.caller; event = event })) (sym adds.0 ∙ left.0))
   new_desk event adds (inr sees) =
-      let at_new : new.at_new ≡ old.at_new = ap (λ (p : PassState KeptEntry). p.at_new) sees.pass_is in
-      let caller : new.caller ≡ old.caller = ap (λ (p : PassState KeptEntry). p.caller) sees.pass_is in
+      let at_new : new.at_new ≡ old.at_new = ap (λ (p : PassState (KeptEntry H)). p.at_new) sees.pass_is in
+      let caller : new.caller ≡ old.caller = ap (λ (p : PassState (KeptEntry H)). p.caller) sees.pass_is in
       let log : log_seen new ≡ found ++ record { caller = old.caller; event = event } ∷ [] = ap log_in sees.seen_is ∙ ap (λ (h : HubView). h.log) (left_hub event adds) in
       λ i. record { admin = admin_in (at_new i); caller = caller i; start = length (log_in (at_new i)); seen = log i; alone = false }
 
@@ -105,7 +110,7 @@ module _ (old new : PassState KeptEntry) (between after : List KeptEntry) (names
   stays_pass legal event adds (inl left) = subst IsHubPass (sym left.1) (record { admin = names; legal = legal })
   stays_pass legal None adds (inr sees) = absurd (no_more (seen old ++ between) sees.entry (sym sees.added ∙ adds))
   stays_pass legal (Some event) adds (inr sees) = record {
-    admin = subst NamesAdmin (sym (ap (λ (p : PassState KeptEntry). p.at_new) sees.pass_is)) names;
+    admin = subst NamesAdmin (sym (ap (λ (p : PassState (KeptEntry H)). p.at_new) sees.pass_is)) names;
     legal = subst (λ (h : HubView). IsLegal h.admin h.log) (left_hub event adds ∙ sym (ap known (new_desk event adds (inr sees)))) adds.1;
   }
 

@@ -10,10 +10,10 @@ use Rattle.shared_hub.specs.Kept.{admin_in}
 use Rattle.shared_hub.specs.Shared.{log_at_new, log_seen}
 
 -- its entries bear the number of the pass, and are its own from the end of the log at `new` on
-abbrev pub desk_of : PassState KeptEntry → DeskView
+abbrev pub desk_of : {H : Type 0} → PassState (KeptEntry H) → DeskView
 desk_of pass = record { admin = admin_in pass.at_new; caller = pass.caller; start = length (log_at_new pass); seen = log_seen pass; alone = false }
 
 -- what a turn of a push did: it was settled; or the pass is as it was, and the push came back
-abbrev pub EndsTurn : PassState KeptEntry → PassState KeptEntry → Asked → PushTurn → Type 0
+abbrev pub EndsTurn : {H : Type 0} → PassState (KeptEntry H) → PassState (KeptEntry H) → Asked → PushTurn → Type 0
 EndsTurn old new asked (Settled pushed) = Pushes (desk_of old) (desk_of new) asked.pin asked.pack asked.commands asked.atomic pushed × KeepsPins (desk_of old) (desk_of new)
 EndsTurn old new asked (Again back wild) = (new ≡ old) × (back ≡ asked)

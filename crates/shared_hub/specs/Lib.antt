@@ -1,5 +1,4 @@
 pub mod Kept
 pub mod Steps
-pub mod Codes
 pub mod Shared
 pub mod Desk

@@ -8,18 +8,18 @@ use Rattle.shared_hub.specs.declared.kept.KeptEntry.{KeptEntry}
 use Rattle.shared_hub.specs.Kept.{NamesAdmin, admin_in, log_in}
 
 -- the log at `new`
-abbrev pub log_at_new : PassState KeptEntry → List Entry
+abbrev pub log_at_new : {H : Type 0} → PassState (KeptEntry H) → List Entry
 log_at_new pass = log_in pass.at_new
 
 -- the log, as far as the pass has seen it
-abbrev pub log_seen : PassState KeptEntry → List Entry
+abbrev pub log_seen : {H : Type 0} → PassState (KeptEntry H) → List Entry
 log_seen pass = log_in (seen pass)
 
 -- the entries of a number past the log at `new`, as far as the pass has seen them
-abbrev pub entries_seen : ℕ → PassState KeptEntry → List Entry
+abbrev pub entries_seen : {H : Type 0} → ℕ → PassState (KeptEntry H) → List Entry
 entries_seen n pass = entries_of n (length (log_at_new pass)) (log_seen pass)
 
 -- the first item that the pass has seen names the admin, and what follows is legal from that setup
-pub record IsHubPass (pass : PassState KeptEntry) : Type 0 where
+pub record IsHubPass {H : Type 0} (pass : PassState (KeptEntry H)) : Type 0 where
   pub admin : NamesAdmin pass.at_new
   pub legal : IsLegal (admin_in pass.at_new) (log_seen pass)

@@ -1,5 +1,5 @@
 // A pass of a shared hub as a desk.
-ghost use Rattle.std.specs.Prelude.{◌≡◌};
+ghost use Rattle.std.specs.Prelude.{◌≡◌, IsTrue};
 ghost use Rattle.turn_lock.specs.Lock.{IsSamePass};
 ghost use Rattle.access_check.specs.declared.verdicts.Want.TheVariants as want;
 ghost use Rattle.hub_history.specs.History.{Stands};
@@ -10,8 +10,9 @@ ghost use Rattle.hub.specs.Desk.{Enters, IsSound, KeepsPins, Looks, Permits, Pus
 ghost use Rattle.shared_hub.specs.Desk.{EndsTurn, desk_of};
 ghost use Rattle.shared_hub.specs.Shared.{IsHubPass};
 
+use crate::event_hub::EventHub;
 use crate::shared::{SharedHub, SharedPass};
-use crate::steps::{Asked, Enter, Look, Permit, Push, PushTurn};
+use crate::steps::{AskStopped, Asked, Enter, Look, Permit, Push, PushTurn};
 use git_object::ObjectList;
 use hub::{
     Desk, Entered, Judged, Looked, PermChange, Permitted, Pin, Pushed, RepoName, UserName, Want,
@@ -25,27 +26,27 @@ use std::sync::Wait;
 ///
 /// Each of the four calls waits for the turn, and gives it back before it returns.
 #[derive(Drop)]
-pub struct SharedDesk<'a, R: Wait> {
+pub struct SharedDesk<'a, R: Wait, H: EventHub> {
     rt: &'a R,
-    hub: &'a SharedHub,
-    pass: SharedPass,
+    hub: &'a SharedHub<H>,
+    pass: SharedPass<H>,
 }
 
-impl<'a, R: Wait> Model for SharedDesk<'a, R> {
+impl<'a, R: Wait, H: EventHub> Model for SharedDesk<'a, R, H> {
     ghost use Rattle.std.specs.Prelude.{◌≡◌};
     ghost use Rattle.turn_lock.specs.Lock.{PassState};
     ghost use Rattle.shared_hub.specs.declared.kept.KeptEntry.{KeptEntry};
     ghost use Rattle.shared_hub.specs.Shared.{IsHubPass};
 
-    ghost Value = { PassState KeptEntry };
+    ghost Value = { PassState (KeptEntry H) };
 
     ghost view = { λ d. d.pass };
 
     ghost invariant = { λ d. (d.pass.lock ≡ d.hub.now) × IsHubPass d.pass };
 }
 
-impl<'a, R: Wait> SharedDesk<'a, R> {
-    pub fn new(rt: &'a R, hub: &'a SharedHub, pass: SharedPass) -> SharedDesk<'a, R>
+impl<'a, R: Wait, H: EventHub> SharedDesk<'a, R, H> {
+    pub fn new(rt: &'a R, hub: &'a SharedHub<H>, pass: SharedPass<H>) -> SharedDesk<'a, R, H>
         requires of_hub { pass.lock ≡ hub.now }
         requires hub { IsHubPass pass }
         ensures { result ≡ pass }
@@ -53,7 +54,7 @@ impl<'a, R: Wait> SharedDesk<'a, R> {
         SharedDesk { rt, hub, pass }
     }
 
-    pub fn into_pass(self) -> SharedPass
+    pub fn into_pass(self) -> SharedPass<H>
         ensures pass { result ≡ self.entry }
         ensures hub { IsHubPass result }
     {
@@ -64,9 +65,21 @@ impl<'a, R: Wait> SharedDesk<'a, R> {
         } = self;
         pass
     }
+
+    /// Whether the hub has stopped: then no call of a desk makes an entry any more. It takes the turn once.
+    pub fn has_stopped(&mut self) -> bool
+        ensures may { IsTrue result → IsTrue H.may_stop }
+        ensures same { self.new ≡ self.old }
+    {
+        let mut step = AskStopped {
+            caller: self.pass.caller(),
+        };
+        let hub = self.hub;
+        hub.lock.with_turn(self.rt, &mut self.pass, &mut step)
+    }
 }
 
-impl<'a, R: Wait> SharedDesk<'a, R> {
+impl<'a, R: Wait, H: EventHub> SharedDesk<'a, R, H> {
     // One turn of a push. Where it ends without an entry the pass is as it was.
     fn push_in_turn(&mut self, alloc: Global, asked: Asked) -> PushTurn
         requires stands { Stands asked.pin (desk_of self.old).admin (desk_of self.old).seen }
@@ -86,7 +99,7 @@ impl<'a, R: Wait> SharedDesk<'a, R> {
     }
 }
 
-impl<'a, R: Wait> Desk for SharedDesk<'a, R> {
+impl<'a, R: Wait, H: EventHub> Desk for SharedDesk<'a, R, H> {
     ghost use Rattle.std.specs.Prelude.{refl};
     ghost use Rattle.std.proofs.Common.{◌∙◌};
 

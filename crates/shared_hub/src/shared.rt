@@ -5,25 +5,25 @@ ghost use Rattle.hub_history.specs.declared.entry.Entry.{Entry};
 ghost use Rattle.hub.specs.Desk.{entries_of, known};
 ghost use Rattle.shared_hub.specs.Desk.{desk_of};
 ghost use Rattle.shared_hub.specs.Shared.{IsHubPass, entries_seen, log_at_new, log_seen};
-ghost use Rattle.shared_hub.specs.Kept.{listed};
+ghost use Rattle.shared_hub.specs.Kept.{Began, listed};
 
+use crate::event_hub::EventHub;
 use crate::kept::KeptHub;
 use base_types::NoMemory;
-use hub::Hub;
 use std::alloc::Global;
 use std::marker::Model;
 use turn_lock::{Pass, TurnLock};
 
 /// A caller's right to turns at a shared hub, and what it knows of the log.
-pub type SharedPass = Pass<KeptHub>;
+pub type SharedPass<H> = Pass<KeptHub<H>>;
 
 /// A hub that callers on several threads share. Contracts see it as the name of its lock.
 #[derive(Drop)]
-pub struct SharedHub {
-    pub(crate) lock: TurnLock<KeptHub>,
+pub struct SharedHub<H: EventHub> {
+    pub(crate) lock: TurnLock<KeptHub<H>>,
 }
 
-impl Model for SharedHub {
+impl<H: EventHub> Model for SharedHub<H> {
     ghost use Rattle.atomic_table.specs.Seated.{TableId};
 
     ghost Value = { TableId };
@@ -31,21 +31,24 @@ impl Model for SharedHub {
     ghost view = { λ h. h.lock };
 }
 
-impl SharedHub {
+impl<H: EventHub> SharedHub<H> {
     /// A shared hub, and the first pass, whose number is 0. Where there is no memory the hub is dropped.
-    pub fn new(alloc: Global, hub: Hub) -> Result<(SharedHub, SharedPass), NoMemory>
-        ensures first { IfOk result (λ made. made.1 ≡ first_pass made.0 (listed hub)) }
+    pub fn new(alloc: Global, hub: H) -> Result<(SharedHub<H>, SharedPass<H>), NoMemory>
+    where
+        H: Drop,
+        ensures first { IfOk result (λ made. made.1 ≡ first_pass made.0 (listed hub (H.view hub))) }
+        ensures began { IfOk result (λ made. Began made.1.at_new hub) }
         ensures pass { IfOk result (λ made. IsHubPass made.1) }
-        ensures desk { IfOk result (λ made. known (desk_of made.1) ≡ hub) }
+        ensures desk { IfOk result (λ made. known (desk_of made.1) ≡ H.view hub) }
     {
         // called for its clause that the log is legal
-        let _log = hub.log();
-        let (lock, pass) = TurnLock::new(alloc, KeptHub { hub })?;
+        hub.sound();
+        let (lock, pass) = TurnLock::new(alloc, KeptHub::new(hub))?;
         Ok((SharedHub { lock }, pass))
     }
 
     /// A pass of the next number, which has seen what the first pass has. It takes no memory as yet.
-    pub fn split(&self, alloc: Global, pass: &mut SharedPass) -> Result<SharedPass, NoMemory>
+    pub fn split(&self, alloc: Global, pass: &mut SharedPass<H>) -> Result<SharedPass<H>, NoMemory>
         requires of_hub { pass.old.lock ≡ self.now }
         requires first { pass.old.caller ≡ 0 }
         requires few { pass.old.passes < 2 ^ 32 }
@@ -59,7 +62,7 @@ impl SharedHub {
     }
 
     /// `into` has then seen what both had, and knows all entries of the numbers of both.
-    pub fn join(&self, into: &mut SharedPass, other: SharedPass)
+    pub fn join(&self, into: &mut SharedPass<H>, other: SharedPass<H>)
         requires of_hub { (into.old.lock ≡ self.now) × (other.lock ≡ self.now) }
         requires later { other.caller ≢ 0 }
         ensures joined { into.new ≡ joined into.old other }
@@ -74,16 +77,17 @@ impl SharedHub {
     }
 
     /// The hub, whose log the first pass has then seen whole. It takes no memory.
-    pub fn close(self, pass: SharedPass) -> Hub
+    pub fn close(self, pass: SharedPass<H>) -> H
         requires of_hub { pass.lock ≡ self }
         requires first { pass.caller ≡ 0 }
         requires all { HasJoinedAll pass }
         requires hub { IsHubPass pass }
-        ensures seen { result ≡ known (desk_of pass) }
-        ensures begins { (more : List Entry) × (log_at_new pass ++ more ≡ result.log) × All (λ e. e.caller < pass.passes) more }
-        ensures kept { (n : ℕ) → entries_of n (length (log_at_new pass)) result.log ≡ entries_seen n pass }
+        ensures seen { H.view result ≡ known (desk_of pass) }
+        ensures begins { (more : List Entry) × (log_at_new pass ++ more ≡ (H.view result).log) × All (λ e. e.caller < pass.passes) more }
+        ensures kept { (n : ℕ) → entries_of n (length (log_at_new pass)) (H.view result).log ≡ entries_seen n pass }
+        ensures goes { (first : H) → Began pass.at_new first → H.goes_on first result }
     {
-        let KeptHub { hub } = self.lock.close(pass);
-        hub
+        let kept = self.lock.close(pass);
+        kept.into_hub()
     }
 }

@@ -1,11 +1,12 @@
 // What each call of a desk does while it has the turn.
-ghost use Rattle.std.specs.Prelude.{◌≡◌, []};
+ghost use Rattle.std.specs.Prelude.{◌≡◌, IsTrue, []};
 ghost use Rattle.std.specs.Option.{ForSome};
 ghost use Rattle.hub_history.specs.History.{HasShortRole};
 ghost use Rattle.turn_lock.specs.Lock.{seen};
 ghost use Rattle.shared_hub.specs.Steps.{RunsChange, RunsLook, RunsOnce, RunsOpening, RunsPushTurn};
 ghost use Rattle.push_judging.specs.Judged.{IsJudgement};
 
+use crate::event_hub::EventHub;
 use crate::kept::KeptHub;
 use crate::shared::SharedPass;
 use base_types::NoMemory;
@@ -28,7 +29,7 @@ pub struct Enter<'a> {
     pub want: Want,
 }
 
-impl Step<KeptHub> for Enter<'_> {
+impl<H: EventHub> Step<KeptHub<H>> for Enter<'_> {
     type Answer = Entered;
 
     ghost knows = { λ _. [] };
@@ -37,7 +38,7 @@ impl Step<KeptHub> for Enter<'_> {
 
     ghost relates = { λ s before after answer. RunsOpening s.caller s.user.now s.repo.now s.want before after answer };
 
-    fn run(&mut self, held: &mut KeptHub) -> Entered {
+    fn run(&mut self, held: &mut KeptHub<H>) -> Entered {
         held.hub
             .enter(self.alloc, self.caller, self.user, self.repo, self.want)
     }
@@ -75,32 +76,33 @@ pub enum PushTurn {
 
 /// A push, which has something to push until it is run, and what its caller had seen before.
 #[derive(Drop)]
-pub struct Push {
+pub struct Push<H: EventHub> {
     alloc: Global,
     caller: u64,
-    known: Snapshot<SharedPass>,
+    known: Snapshot<SharedPass<H>>,
     asked: Option<Asked>,
 }
 
-impl Model for Push {
+impl<H: EventHub> Model for Push<H> {
     ghost use Rattle.turn_lock.specs.Lock.{seen};
-    ghost use Rattle.shared_hub.specs.Codes.{coded_push};
+    ghost use Rattle.std.specs.Coded.{codes};
+    ghost use Rattle.shared_hub.specs.contracts.steps.Asked as request;
     ghost use Rattle.shared_hub.specs.Steps.{MayPushAny, PushState};
 
-    ghost Value = { PushState };
+    ghost Value = { PushState H };
 
-    ghost coded = { coded_push };
+    ghost coded = { Prim.hlevel (codes, request.the_row.coded) };
 
     ghost view = { λ s. record { caller = s.caller; known = seen s.known.value; asked = s.asked } };
 
     ghost invariant = { λ s. MayPushAny (seen s.known.value) s.asked };
 }
 
-impl Push {
+impl<H: EventHub> Push<H> {
     ghost use Rattle.std.specs.Prelude.{◌≡◌, Some};
     ghost use Rattle.shared_hub.specs.Steps.{MayPush};
 
-    pub fn new(alloc: Global, caller: u64, pass: &SharedPass, asked: Asked) -> Push
+    pub fn new(alloc: Global, caller: u64, pass: &SharedPass<H>, asked: Asked) -> Push<H>
         requires { MayPush (seen pass.now) asked }
         ensures { result ≡ record { caller = caller; known = seen pass.now; asked = Some asked } }
     {
@@ -113,7 +115,7 @@ impl Push {
     }
 }
 
-impl Step<KeptHub> for Push {
+impl<H: EventHub> Step<KeptHub<H>> for Push<H> {
     type Answer = Option<PushTurn>;
 
     ghost knows = { λ s. s.known };
@@ -122,7 +124,7 @@ impl Step<KeptHub> for Push {
 
     ghost relates = { λ s before after answer. RunsOnce (RunsPushTurn s.caller) s.asked before after answer };
 
-    fn run(&mut self, held: &mut KeptHub) -> Option<PushTurn> {
+    fn run(&mut self, held: &mut KeptHub<H>) -> Option<PushTurn> {
         let Some(asked) = self.asked.take() else {
             return None;
         };
@@ -155,7 +157,7 @@ pub struct Permit<'a> {
     ghost short: { ForSome change (λ asked. HasShortRole asked) },
 }
 
-impl Step<KeptHub> for Permit<'_> {
+impl<H: EventHub> Step<KeptHub<H>> for Permit<'_> {
     type Answer = Option<Permitted>;
 
     ghost knows = { λ _. [] };
@@ -164,7 +166,7 @@ impl Step<KeptHub> for Permit<'_> {
 
     ghost relates = { λ s before after answer. RunsOnce (RunsChange s.caller s.user.now s.repo.now) s.change before after answer };
 
-    fn run(&mut self, held: &mut KeptHub) -> Option<Permitted> {
+    fn run(&mut self, held: &mut KeptHub<H>) -> Option<Permitted> {
         let Some(change) = self.change.take() else {
             return None;
         };
@@ -183,7 +185,7 @@ pub struct Look<'a> {
     pub user: &'a UserName,
 }
 
-impl Step<KeptHub> for Look<'_> {
+impl<H: EventHub> Step<KeptHub<H>> for Look<'_> {
     type Answer = Looked;
 
     ghost knows = { λ _. [] };
@@ -192,7 +194,27 @@ impl Step<KeptHub> for Look<'_> {
 
     ghost relates = { λ s before after answer. RunsLook s.caller s.user.now before after answer };
 
-    fn run(&mut self, held: &mut KeptHub) -> Looked {
+    fn run(&mut self, held: &mut KeptHub<H>) -> Looked {
         held.hub.look(self.alloc, self.caller, self.user)
+    }
+}
+
+/// A look at whether the hub has stopped.
+#[derive(Drop)]
+pub struct AskStopped {
+    pub caller: u64,
+}
+
+impl<H: EventHub> Step<KeptHub<H>> for AskStopped {
+    type Answer = bool;
+
+    ghost knows = { λ _. [] };
+
+    ghost caller = { λ s. s.caller };
+
+    ghost relates = { λ _ before after answer. (after ≡ before) × (IsTrue answer → IsTrue H.may_stop) };
+
+    fn run(&mut self, held: &mut KeptHub<H>) -> bool {
+        held.hub.has_stopped()
     }
 }

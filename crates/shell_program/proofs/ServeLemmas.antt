@@ -1,5 +1,5 @@
 -- How `serve` ends.
-use Rattle.std.proofs.Common.{◌≡◌, ◌⊎◌, ◌<◌, ℕ, suc, Bool, true, false, ◌||◌, List, [], ◌∷◌, length, get_or, refl, sym, subst, inl, inr, arith}
+use Rattle.std.proofs.Common.{◌≡◌, ◌⊎◌, ◌<◌, ℕ, suc, Bool, true, false, ◌||◌, ◌&&◌, List, [], ◌∷◌, length, get_or, refl, sym, subst, inl, inr, arith}
 use Rattle.std.specs.Prelude.{Result, Ok, Err, OnOk, IfErr}
 use Rattle.std.specs.List.{list_any}
 use Rattle.std.specs.Io.KnownBytes.{Appends}
@@ -12,7 +12,7 @@ use Rattle.hub_history.specs.History.{IsLegal}
 use Rattle.ref_store.specs.Refs.{Name}
 use Rattle.hub.specs.Hub.{HubView}
 use Rattle.session_workers.specs.declared.post.Post.{Post}
-use Rattle.session_workers.specs.Visits.{HasDone}
+use Rattle.session_workers.specs.Visits.{HasDone, have_lacked}
 use Rattle.session_workers.specs.ServesAll.{PostTally, ServesAll, count_of}
 use Rattle.shell_program.specs.RunningScripts.{TellsOutput}
 use Rattle.shell_program.specs.Serve.{ADoorFailed, EndsServe, ServesPosts, StopsPrinting, new_hub, served_line}
@@ -37,12 +37,12 @@ at_any {X} f (x ∷ xs) some = go (f x) refl some (λ any. at_any f xs any) wher
       let next = later any in
       record { place = suc next.place; within = (let less = next.within in omega (arith, less)); item = next.item; is = next.is }
 
-module _ {L D G : Type 0} (state : L → LinkState) (door : D → DoorState L) (admin : Name) (each : ℕ) (old new : List (Post D G)) (sink sink' : LinkState) (log : List Entry) where
+module _ {L D G : Type 0} (state : L → LinkState) (door : D → DoorState L) (admin : Name) (each : ℕ) (old new : List (Post D G HubView)) (sink sink' : LinkState) (log : List Entry) where
   -- the hub that comes back, by its log
-  pub posts_served : (after : HubView) (sessions : ℕ) (failed lacked : Bool) → ServesAll state door (new_hub admin) after old new each sessions failed lacked → log ≡ after.log
+  pub posts_served : (after : HubView) (sessions : ℕ) (failed lacked : Bool) → ServesAll state door false (new_hub admin) after old new each sessions failed lacked → log ≡ after.log
       → ServesPosts state door admin each old new sink sink' log sessions failed lacked
   posts_served after sessions failed lacked serves log_is =
-      subst (λ (h : HubView). ServesAll state door (new_hub admin) h old new each sessions failed lacked) (λ i. record { admin = serves.admin i; log = sym log_is i }) serves
+      subst (λ (h : HubView). ServesAll state door false (new_hub admin) h old new each sessions failed lacked) (λ i. record { admin = serves.admin i; log = sym log_is i }) serves
 
   pub ends_served : (sessions : ℕ) (failed lacked : Bool) (printed : Result (Unit {0}) ScriptFault) → ServesPosts state door admin each old new sink sink' log sessions failed lacked
       → OnOk printed (Appends sink.written sink'.written (served_line sessions (length log))) → IfErr printed (StopsPrinting sink sink' (served_line sessions (length log)))
@@ -64,7 +64,7 @@ module _ {L D G : Type 0} (state : L → LinkState) (door : D → DoorState L) (
         within,
         λ d.
             let served = serves.posts at.place d at.item within in
-            subst (λ (b : Bool). HasDone (door (get_or old at.place d).door) (door (get_or new at.place d).door) each (count_of (get_or serves.did at.place at.item)) b) at.is served.done,
+            subst (λ (b : Bool). HasDone (false && have_lacked (get_or serves.did at.place at.item).visits) (door (get_or old at.place d).door) (door (get_or new at.place d).door) each (count_of (get_or serves.did at.place at.item)) b) at.is served.done,
       )
 
   pub surely_served : (sessions : ℕ) (failed lacked : Bool) (printed : Result (Unit {0}) ScriptFault) → ServesPosts state door admin each old new sink sink' log sessions failed lacked
@@ -80,11 +80,11 @@ module _ {L D G : Type 0} (state : L → LinkState) (door : D → DoorState L) (
   surely_served sessions failed lacked (Err fault.OutputFault) serves err doors writes = absurd (writes err.1)
   surely_served sessions failed lacked (Err fault.NoMemory) serves err doors writes = inr refl
 
-module _ {L D G : Type 0} (state : L → LinkState) (door : D → DoorState L) (admin : Name) (each : ℕ) (old new : List (Post D G)) (sink sink' : LinkState) (log : List Entry) (hub after : HubView) (sessions events : ℕ) (failed lacked : Bool) (printed : Result (Unit {0}) ScriptFault) (number : ℕ)
-    (hub_is : hub ≡ new_hub admin) (all : ServesAll state door hub after old new each sessions failed lacked) (log_is : log ≡ after.log) (counted : events ≡ length log)
+module _ {L D G : Type 0} (state : L → LinkState) (door : D → DoorState L) (admin : Name) (each : ℕ) (old new : List (Post D G HubView)) (sink sink' : LinkState) (log : List Entry) (hub after : HubView) (sessions events : ℕ) (failed lacked : Bool) (printed : Result (Unit {0}) ScriptFault) (number : ℕ)
+    (hub_is : hub ≡ new_hub admin) (all : ServesAll state door false hub after old new each sessions failed lacked) (log_is : log ≡ after.log) (counted : events ≡ length log)
     (err : IfErr printed (StopsPrinting sink sink' (served_line sessions events))) (number_is : number ≡ status_number (served_status printed failed lacked)) where
   serves : ServesPosts state door admin each old new sink sink' log sessions failed lacked
-  serves = posts_served state door admin each old new sink sink' log after sessions failed lacked (subst (λ (h : HubView). ServesAll state door h after old new each sessions failed lacked) hub_is all) log_is
+  serves = posts_served state door admin each old new sink sink' log after sessions failed lacked (subst (λ (h : HubView). ServesAll state door false h after old new each sessions failed lacked) hub_is all) log_is
 
   stopped : IfErr printed (StopsPrinting sink sink' (served_line sessions (length log)))
   stopped = subst (λ (n : ℕ). IfErr printed (StopsPrinting sink sink' (served_line sessions n))) counted err

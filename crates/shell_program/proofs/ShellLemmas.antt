@@ -13,6 +13,7 @@ use Rattle.shell_words.specs.declared.commands.WordsFault.TheVariants as words
 use Rattle.shell_words.specs.Commands.{Reads}
 use Rattle.shell_words.specs.declared.commands.Asked.{Asked}
 use Rattle.shell_words.specs.declared.commands.Asked.TheVariants.{Script, Serve, Check, Load, Keep}
+use Rattle.hub.specs.Hub.{HubView}
 use Rattle.session_workers.specs.declared.post.Post.{Post}
 use Rattle.shell_program.specs.Command.{built, served_at}
 use Rattle.record_file.specs.Disks.{DiskState}
@@ -42,27 +43,27 @@ refused_there (suc posts) admin workers each few = go (nat_le workers (suc posts
 
 module _ {L D G : Type 0} (state : L → LinkState) (door : D → DoorState L) (disk : DiskRun) (source source' sink sink' : LinkState) (log : List Entry) (number : ℕ) where
   -- a command that leaves the posts alone
-  pub shell_checks : (posts : List (Post D G)) → EndsRun (Some Check) disk source source' sink sink' number log → EndsShell state door posts posts (Some Check) disk source source' sink sink' number log
+  pub shell_checks : (posts : List (Post D G HubView)) → EndsRun (Some Check) disk source source' sink sink' number log → EndsShell state door posts posts (Some Check) disk source source' sink sink' number log
   shell_checks posts run = record { status = run.status; number_is = run.number_is; ends = (run.ends, refl) }
 
-  pub shell_runs : (posts : List (Post D G)) (admin : Name) → EndsRun (Some (Script admin)) disk source source' sink sink' number log → EndsShell state door posts posts (Some (Script admin)) disk source source' sink sink' number log
+  pub shell_runs : (posts : List (Post D G HubView)) (admin : Name) → EndsRun (Some (Script admin)) disk source source' sink sink' number log → EndsShell state door posts posts (Some (Script admin)) disk source source' sink sink' number log
   shell_runs posts admin run = record { status = run.status; number_is = run.number_is; ends = (run.ends, refl) }
 
-  pub shell_loads : (posts : List (Post D G)) (count start : ℕ) → EndsRun (Some (Load count start)) disk source source' sink sink' number log → EndsShell state door posts posts (Some (Load count start)) disk source source' sink sink' number log
+  pub shell_loads : (posts : List (Post D G HubView)) (count start : ℕ) → EndsRun (Some (Load count start)) disk source source' sink sink' number log → EndsShell state door posts posts (Some (Load count start)) disk source source' sink sink' number log
   shell_loads posts count start run = record { status = run.status; number_is = run.number_is; ends = (run.ends, refl) }
 
-  pub shell_keeps : (posts : List (Post D G)) (admin : Name) → EndsRun (Some (Keep admin)) disk source source' sink sink' number log → EndsShell state door posts posts (Some (Keep admin)) disk source source' sink sink' number log
+  pub shell_keeps : (posts : List (Post D G HubView)) (admin : Name) → EndsRun (Some (Keep admin)) disk source source' sink sink' number log → EndsShell state door posts posts (Some (Keep admin)) disk source source' sink sink' number log
   shell_keeps posts admin run = record { status = run.status; number_is = run.number_is; ends = (run.ends, refl) }
 
-  pub shell_refuses : (posts : List (Post D G)) → EndsRun None disk source source' sink sink' number log → EndsShell state door posts posts None disk source source' sink sink' number log
+  pub shell_refuses : (posts : List (Post D G HubView)) → EndsRun None disk source source' sink sink' number log → EndsShell state door posts posts None disk source source' sink sink' number log
   shell_refuses posts run = record { status = run.status; number_is = run.number_is; ends = (run.ends, refl) }
 
   -- and with what it ends where no fault is counted
-  pub shell_surely : (posts : List (Post D G)) (found : Option Asked) → EndsRun found disk source source' sink sink' number log → EndsShellSurely state door posts posts found disk source source' sink sink' number
+  pub shell_surely : (posts : List (Post D G HubView)) (found : Option Asked) → EndsRun found disk source source' sink sink' number log → EndsShellSurely state door posts posts found disk source source' sink sink' number
   shell_surely posts found run = λ reads writes disks doors. surely disk source source' sink sink' log found number run reads writes disks
 
 -- `serve`, over the first posts
-module _ {L D G : Type 0} (state : L → LinkState) (door : D → DoorState L) (modeled : Bool) (disk : DiskState) (source sink sink' : LinkState) (log : List Entry) (number : ℕ) (old used rest : List (Post D G)) (admin : Name) (workers each : ℕ) (enough : length used ≡ workers) (rest_is : rest ≡ drop workers old) where
+module _ {L D G : Type 0} (state : L → LinkState) (door : D → DoorState L) (modeled : Bool) (disk : DiskState) (source sink sink' : LinkState) (log : List Entry) (number : ℕ) (old used rest : List (Post D G HubView)) (admin : Name) (workers each : ℕ) (enough : length used ≡ workers) (rest_is : rest ≡ drop workers old) where
   first_is : take workers (used ++ rest) ≡ used
   first_is = subst (λ (n : ℕ). take n (used ++ rest) ≡ used) enough (take-append_seam used rest)
 
@@ -75,7 +76,7 @@ module _ {L D G : Type 0} (state : L → LinkState) (door : D → DoorState L) (
     status = served.0;
     number_is = served.1;
     ends = (
-      subst (λ (xs : List (Post D G)). EndsServe state door admin each (take workers old) xs sink sink' log served.0) (sym first_is) served.2,
+      subst (λ (xs : List (Post D G HubView)). EndsServe state door admin each (take workers old) xs sink sink' log served.0) (sym first_is) served.2,
       others_are,
       refl,
       refl,
@@ -84,10 +85,10 @@ module _ {L D G : Type 0} (state : L → LinkState) (door : D → DoorState L) (
 
   pub shell_serves_surely : ((ADoorFailed door (take workers old) used → ⊥) → (HasRisen sink.write_faults sink'.write_faults → ⊥) → (number ≡ 0) ⊎ (number ≡ 4))
       → EndsShellSurely state door old (used ++ rest) (Some (Serve admin workers each)) (unused modeled disk) source source sink sink' number
-  shell_serves_surely sure = λ reads writes disks doors. sure (λ failed. doors (subst (λ (xs : List (Post D G)). ADoorFailed door (take workers old) xs) (sym first_is) failed)) writes
+  shell_serves_surely sure = λ reads writes disks doors. sure (λ failed. doors (subst (λ (xs : List (Post D G HubView)). ADoorFailed door (take workers old) xs) (sym first_is) failed)) writes
 
 -- memory ran out before the words were read
-pub shell_does_nothing : {L D G : Type 0} (state : L → LinkState) (door : D → DoorState L) (posts : List (Post D G)) (modeled : Bool) (disk : DiskState) (source sink : LinkState) (asked : Option Asked)
+pub shell_does_nothing : {L D G : Type 0} (state : L → LinkState) (door : D → DoorState L) (posts : List (Post D G HubView)) (modeled : Bool) (disk : DiskState) (source sink : LinkState) (asked : Option Asked)
     → EndsShellBy state door posts posts (option_and_then (built (length posts)) asked) (unused modeled disk) source source sink sink [] NoMemory
 shell_does_nothing {L} {D} {G} state door posts modeled disk source sink None = (nothing_done modeled disk source sink None, refl)
 shell_does_nothing {L} {D} {G} state door posts modeled disk source sink (Some (Script admin)) = (nothing_done modeled disk source sink (Some (Script admin)), refl)
@@ -95,7 +96,7 @@ shell_does_nothing {L} {D} {G} state door posts modeled disk source sink (Some C
 shell_does_nothing {L} {D} {G} state door posts modeled disk source sink (Some (Load count start)) = (nothing_done modeled disk source sink (Some (Load count start)), refl)
 shell_does_nothing {L} {D} {G} state door posts modeled disk source sink (Some (Keep admin)) = (nothing_done modeled disk source sink (Some (Keep admin)), refl)
 shell_does_nothing {L} {D} {G} state door posts modeled disk source sink (Some (Serve admin workers each)) = go (length posts) where
-  none : (xs : List (Post D G)) → ServesNone state door admin each xs xs sink sink []
+  none : (xs : List (Post D G HubView)) → ServesNone state door admin each xs xs sink sink []
   none xs = record { unasked = λ k d. refl; unprinted = refl; no_log = refl }
 
   go : (k : ℕ) → EndsShellBy state door posts posts (served_at k admin workers each) (unused modeled disk) source source sink sink [] NoMemory
@@ -106,7 +107,7 @@ shell_does_nothing {L} {D} {G} state door posts modeled disk source sink (Some (
     by false = (nothing_done modeled disk source sink None, refl)
 
 -- the words weren't read as a command
-pub shell_unread : {L D G : Type 0} (state : L → LinkState) (door : D → DoorState L) (posts : List (Post D G)) (modeled : Bool) (disk : DiskState) (source sink sink' : LinkState) (number : ℕ) (log : List Entry) (asked : Option Asked) (why : WordsFault) → Reads asked (Err why) → EndsUnread why sink sink' number → log ≡ []
+pub shell_unread : {L D G : Type 0} (state : L → LinkState) (door : D → DoorState L) (posts : List (Post D G HubView)) (modeled : Bool) (disk : DiskState) (source sink sink' : LinkState) (number : ℕ) (log : List Entry) (asked : Option Asked) (why : WordsFault) → Reads asked (Err why) → EndsUnread why sink sink' number → log ≡ []
     → EndsShell state door posts posts (option_and_then (built (length posts)) asked) (unused modeled disk) source source sink sink' number log
 shell_unread state door posts modeled disk source sink sink' number log asked words.Usage none ends empty =
     subst (λ (o : Option Asked). EndsShell state door posts posts (option_and_then (built (length posts)) o) (unused modeled disk) source source sink sink' number log) (sym none)
@@ -142,7 +143,7 @@ refused_due sink sink' number BadScript is ends writes = absurd ends
 refused_due sink sink' number DiskFault is ends writes = absurd ends
 refused_due sink sink' number BadJournal is ends writes = absurd ends
 
-pub shell_unread_surely : {L D G : Type 0} (state : L → LinkState) (door : D → DoorState L) (posts : List (Post D G)) (modeled : Bool) (disk : DiskState) (source sink sink' : LinkState) (number : ℕ) (asked : Option Asked) (why : WordsFault) → Reads asked (Err why) → EndsUnread why sink sink' number
+pub shell_unread_surely : {L D G : Type 0} (state : L → LinkState) (door : D → DoorState L) (posts : List (Post D G HubView)) (modeled : Bool) (disk : DiskState) (source sink sink' : LinkState) (number : ℕ) (asked : Option Asked) (why : WordsFault) → Reads asked (Err why) → EndsUnread why sink sink' number
     → EndsShellSurely state door posts posts (option_and_then (built (length posts)) asked) (unused modeled disk) source source sink sink' number
 shell_unread_surely state door posts modeled disk source sink sink' number asked words.Usage none ends = λ reads writes disks doors.
     subst (λ (o : Option Asked). IsDue (option_and_then (built (length posts)) o) number) (sym none) (refused_due sink sink' number ends.0 ends.1 ends.2 writes)

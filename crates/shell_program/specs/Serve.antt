@@ -23,10 +23,10 @@ served_line sessions events = codes "served " ++ decimal sessions ++ codes " ses
 abbrev pub new_hub : Name → HubView
 new_hub admin = record { admin = admin; log = [] }
 
-module _ {L D G : Type 0} (state : L → LinkState) (door : D → DoorState L) (admin : Name) (each : ℕ) (old new : List (Post D G)) (sink sink' : LinkState) (log : List Entry) where
+module _ {L D G : Type 0} (state : L → LinkState) (door : D → DoorState L) (admin : Name) (each : ℕ) (old new : List (Post D G HubView)) (sink sink' : LinkState) (log : List Entry) where
   -- The posts were served at a new hub, which has this log afterwards.
   abbrev pub ServesPosts : ℕ → Bool → Bool → Type 0
-  ServesPosts sessions failed lacked = ServesAll state door (new_hub admin) (record { admin = admin; log = log }) old new each sessions failed lacked
+  ServesPosts sessions failed lacked = ServesAll state door false (new_hub admin) (record { admin = admin; log = log }) old new each sessions failed lacked
 
   -- so it was, and the line was printed
   abbrev pub PrintsServed : ℕ → Bool → Bool → Type 0
@@ -42,7 +42,7 @@ module _ {L D G : Type 0} (state : L → LinkState) (door : D → DoorState L) (
 
   -- there was no memory for a hub that is shared: no door was asked, and nothing printed
   pub record ServesNone : Type 0 where
-    pub unasked : (k : ℕ) (d : Post D G) → (slice_index_or new k d).door ≡ (slice_index_or old k d).door
+    pub unasked : (k : ℕ) (d : Post D G HubView) → (slice_index_or new k d).door ≡ (slice_index_or old k d).door
     pub unprinted : sink' ≡ sink
     pub no_log : log ≡ []
 
@@ -61,6 +61,6 @@ StopsPrinting sink sink' text fault.NoMemory = (part : WritesPart sink sink' tex
 StopsPrinting sink sink' text other = ⊥
 
 -- A door failed in between: its count rose.
-abbrev pub ADoorFailed : {L D G : Type 0} → (D → DoorState L) → List (Post D G) → List (Post D G) → Type 0
-ADoorFailed {L} {D} {G} door old new =
-    (k : ℕ) × (k < length old) × ((d : Post D G) → HasRisen (door (slice_index_or old k d).door).faults (door (slice_index_or new k d).door).faults)
+abbrev pub ADoorFailed : {L D G H : Type 0} → (D → DoorState L) → List (Post D G H) → List (Post D G H) → Type 0
+ADoorFailed {L} {D} {G} {H} door old new =
+    (k : ℕ) × (k < length old) × ((d : Post D G H) → HasRisen (door (slice_index_or old k d).door).faults (door (slice_index_or new k d).door).faults)

@@ -6,6 +6,7 @@ use Rattle.edge_links.specs.Door.{DoorState}
 use Rattle.hub_history.specs.declared.entry.Entry.{Entry}
 use Rattle.shell_words.specs.declared.commands.Asked.{Asked}
 use Rattle.shell_words.specs.declared.commands.Asked.TheVariants.{Serve}
+use Rattle.hub.specs.Hub.{HubView}
 use Rattle.session_workers.specs.declared.post.Post.{Post}
 use Rattle.shell_program.specs.Keep.{DiskRun}
 use Rattle.shell_program.specs.Lone.{AUsedDiskFailed, EndsBy, IsDue}
@@ -13,7 +14,7 @@ use Rattle.shell_program.specs.Serve.{ADoorFailed, EndsServe}
 use Rattle.shell_program.specs.Status.{status_number}
 use Rattle.shell_program.specs.declared.status.Status.{Status}
 
-module _ {L D G : Type 0} (state : L → LinkState) (door : D → DoorState L) (old new : List (Post D G)) where
+module _ {L D G : Type 0} (state : L → LinkState) (door : D → DoorState L) (old new : List (Post D G HubView)) where
   -- The command decides: `serve` takes its sessions through the first posts, reads nothing else, and leaves the other posts and the disk as they were. Each
   -- other command leaves all posts so, and ends as with one caller.
   abbrev pub EndsShellBy : Option Asked → DiskRun → LinkState → LinkState → LinkState → LinkState → List Entry → Status → Type 0

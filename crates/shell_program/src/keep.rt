@@ -51,8 +51,8 @@ fn print_refusal<O: Sink>(alloc: Global, output: &mut O, fault: OpenFault) -> St
     }
 }
 
-// Ends where the journal wasn't opened.
-fn end_unopened<O: Sink>(alloc: Global, output: &mut O, fault: OpenFault) -> Status
+/// Ends where the journal wasn't opened: a file that is refused is named so in the output.
+pub fn end_unopened<O: Sink>(alloc: Global, output: &mut O, fault: OpenFault) -> Status
     ensures ends { EndsUnopened fault (O.state output.old) (O.state output.new) result }
     ensures tells { (status_number result ≡ 3) ⊎ ((O.state output.new).write_faults ≡ (O.state output.old).write_faults) }
 {

@@ -25,8 +25,11 @@ mod status;
 mod tally;
 mod words;
 
+pub use keep::end_unopened;
 pub use lone::{Ended, lone_main};
 pub use posts::posts_at;
 pub use program::shell_main;
-pub use status::Status;
+pub use script::ScriptFault;
+pub use serve::print_served;
+pub use status::{Status, served_status};
 pub use words::{behind_name, words_given};

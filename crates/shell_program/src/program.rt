@@ -10,6 +10,7 @@ use crate::load::run_load;
 use crate::lone::{Ended, check_alone, refuse, run_alone, unread};
 use crate::serve::run_serve;
 use edge_links::Door;
+use hub::Hub;
 use pktline_core::{Link, Sink, Source};
 use record_file::Disk;
 use session_core::Gate;
@@ -34,7 +35,7 @@ fn run_asked<
     asked: Asked,
     input: &mut I,
     output: &mut O,
-    posts: &mut [Post<D, G>],
+    posts: &mut [Post<D, G, Hub>],
     disk: &mut Y,
 ) -> Ended
     requires limits { IsWithinLimits asked }
@@ -79,7 +80,7 @@ pub fn shell_main<
     words: &[String],
     input: &mut I,
     output: &mut O,
-    posts: &mut [Post<D, G>],
+    posts: &mut [Post<D, G, Hub>],
     disk: &mut Y,
 ) -> Ended
     ensures ends { EndsShell L.state D.state posts.old posts.new (command (length posts.old) (map string_bytes words.now)) (record { modeled = Y.is_modeled; old = Y.state disk.old; new = Y.state disk.new }) (I.state input.old) (I.state input.new) (O.state output.old) (O.state output.new) result.status result.log }

@@ -38,8 +38,8 @@ fn line_text(alloc: Global, sessions: u64, events: usize) -> Result<Vec<u8>, NoM
     Ok(text)
 }
 
-// Prints the line behind so many sessions and entries.
-fn print_served<O: Sink>(
+/// Prints the line behind so many sessions and entries.
+pub fn print_served<O: Sink>(
     alloc: Global,
     output: &mut O,
     sessions: u64,
@@ -67,7 +67,7 @@ pub fn run_serve<
     rt: &R,
     alloc: Global,
     output: &mut O,
-    posts: &mut [Post<D, G>],
+    posts: &mut [Post<D, G, Hub>],
     admin: &UserName,
     each: u64,
 ) -> Ended

@@ -1,5 +1,6 @@
 // The words that the system gives, and posts at a listener.
 use base_types::NoMemory;
+use hub::Hub;
 use shell_program::{behind_name, posts_at, words_given};
 use std::io::ErrorKind;
 use std::test::Fail;
@@ -28,7 +29,7 @@ fn words_that_are_no_text_are_none(rt: HostRuntime) -> Result<(), Fail> {
 #[test]
 fn there_are_as_many_posts_as_are_wanted(rt: HostRuntime) -> Result<(), Fail> {
     for count in [0, 1, 8] {
-        assert_eq!(rt; posts_at(rt.alloc(), count, None)?.len(), count);
+        assert_eq!(rt; posts_at::<Hub>(rt.alloc(), count, None)?.len(), count);
     }
     Ok(())
 }

@@ -4,6 +4,7 @@ use crate::push_tests::{first_pack, push_of};
 use crate::session_tests::{DONE, EMPTY, MASTER, first_push};
 use base_types::NoMemory;
 use edge_links::MemoryDoor;
+use hub::Hub;
 use pktline_core::MemoryLink;
 use session_core::OpenGate;
 use session_workers::Post;
@@ -13,7 +14,7 @@ use std::sync::Wait;
 use std::test::Fail;
 use std::thread::Threads;
 
-type MemoryPost = Post<MemoryDoor<MemoryLink>, OpenGate>;
+type MemoryPost = Post<MemoryDoor<MemoryLink>, OpenGate, Hub>;
 
 // A post with one link, over which this input comes, and whose door fails at this call.
 fn post(alloc: Global, input: Vec<u8>, failing: u64) -> Result<MemoryPost, NoMemory> {

@@ -56,7 +56,7 @@ fn door_of(
     MemoryDoor::new(alloc, links, failing.to_vec(alloc)?)
 }
 
-type MemoryPost = Post<MemoryDoor<MemoryLink>, OpenGate>;
+type MemoryPost = Post<MemoryDoor<MemoryLink>, OpenGate, Hub>;
 
 // So many posts, each with a door of so many links of this input.
 fn posts_of(

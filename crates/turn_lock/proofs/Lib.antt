@@ -1,3 +1,4 @@
+pub mod Crosses
 mod Knowing
 pub mod Numbers
 mod RuleKept

@@ -57,9 +57,9 @@ ContainsBelow numbers k = (n : ℕ) → n < k → Contains numbers n
 abbrev pub HasJoinedAll : {E : Type 0} → PassState E → Type 0
 HasJoinedAll p = ContainsBelow p.numbers p.passes
 
--- the value is as it was, or its list has one entry more, which bears the number
+-- the value's list is as it was, or has one entry more, which bears the number
 abbrev pub AddsAtMostOne : {T E : Type 0} → (T → List E) → (E → ℕ) → ℕ → T → T → Type 0
-AddsAtMostOne {T} {E} entries caller n before after = (after ≡ before) ⊎ ((e : E) × (caller e ≡ n) × (entries after ≡ entries before ++ e ∷ []))
+AddsAtMostOne {T} {E} entries caller n before after = (entries after ≡ entries before) ⊎ ((e : E) × (caller e ≡ n) × (entries after ≡ entries before ++ e ∷ []))
 
 -- The step found a list and left it with one entry more, which bears the pass's number. The pass has then seen that list, and the entry is one more of its own
 pub record SeesItsEntry {E : Type 0} (caller : E → ℕ) (old new : PassState E) (between after : List E) : Type 0 where

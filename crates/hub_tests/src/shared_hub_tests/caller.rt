@@ -13,7 +13,7 @@ use hub::{
     Desk, Entered, Outcome, OutcomeList, PermChange, Pin, Pushed, RepoName, UserName, Want, judge,
 };
 use ref_store::{Command, CommandList};
-use shared_hub::{NoMemory, SharedDesk, SharedHub, SharedPass};
+use shared_hub::{EventHub, NoMemory, SharedDesk, SharedHub, SharedPass};
 use std::alloc::Global;
 use std::marker::Model;
 use std::process::Abort;
@@ -134,14 +134,14 @@ pub enum Act {
 
 /// A caller at its desk. Contracts see it as its pass.
 #[derive(Drop)]
-pub struct Caller<'a, R: Wait> {
-    desk: SharedDesk<'a, R>,
+pub struct Caller<'a, R: Wait, H: EventHub> {
+    desk: SharedDesk<'a, R, H>,
     job: &'a Job,
     pin: Option<Pin>,
     told: Told,
 }
 
-impl<'a, R: Wait> Model for Caller<'a, R> {
+impl<'a, R: Wait, H: EventHub> Model for Caller<'a, R, H> {
     ghost use Rattle.std.specs.Prelude.{◌≡◌, IfSome};
     ghost use Rattle.turn_lock.specs.Lock.{PassState};
     ghost use Rattle.access_check.specs.declared.verdicts.Want.TheVariants as want;
@@ -149,15 +149,20 @@ impl<'a, R: Wait> Model for Caller<'a, R> {
     ghost use Rattle.shared_hub.specs.Desk.{desk_of};
     ghost use Rattle.shared_hub.specs.declared.kept.KeptEntry.{KeptEntry};
 
-    ghost Value = { PassState KeptEntry };
+    ghost Value = { PassState (KeptEntry H) };
 
     ghost view = { λ c. c.desk };
 
     ghost invariant = { λ c. IfSome c.pin (λ pin. (pin.pinned.want ≡ want.Write) × Stands pin (desk_of c.desk).admin (desk_of c.desk).seen) };
 }
 
-impl<'a, R: Wait> Caller<'a, R> {
-    pub fn new(rt: &'a R, hub: &'a SharedHub, pass: SharedPass, job: &'a Job) -> Caller<'a, R>
+impl<'a, R: Wait, H: EventHub> Caller<'a, R, H> {
+    pub fn new(
+        rt: &'a R,
+        hub: &'a SharedHub<H>,
+        pass: SharedPass<H>,
+        job: &'a Job,
+    ) -> Caller<'a, R, H>
         requires of_hub { pass.lock ≡ hub.now }
         requires hub { IsHubPass pass }
         ensures { result ≡ pass }
@@ -171,7 +176,7 @@ impl<'a, R: Wait> Caller<'a, R> {
     }
 
     /// Its pass, and what its last push was told.
-    pub fn into_parts(self) -> (SharedPass, Told)
+    pub fn into_parts(self) -> (SharedPass<H>, Told)
         ensures pass { result.0 ≡ self.entry }
         ensures hub { IsHubPass result.0 }
     {
@@ -184,7 +189,7 @@ impl<'a, R: Wait> Caller<'a, R> {
         (desk.into_pass(), told)
     }
 
-    pub fn act(self, alloc: Global, act: Act) -> Caller<'a, R>
+    pub fn act(self, alloc: Global, act: Act) -> Caller<'a, R, H>
         ensures { IsSamePass self.entry result }
     {
         let mut caller = self;

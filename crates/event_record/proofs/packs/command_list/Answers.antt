@@ -1,4 +1,3 @@
-use Rattle.std.proofs.Common.{◌≡◌, ◌++◌, ◌∷◌, []}
 use Rattle.std.proofs.lemmas.Result.{err_from_is_err_and}
 use Rattle.event_record.specs.Reading.{command_within, no_cost, items_at}
 use Rattle.event_record.proofs.Loop.{goes_on, ends, is_done}

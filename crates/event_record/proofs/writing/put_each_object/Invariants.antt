@@ -1,4 +1,4 @@
-use Rattle.std.proofs.Common.{◌≡◌, ◌++◌, take}
+use Rattle.std.proofs.Common.{take}
 use Rattle.std.specs.List.{flat_map}
 use Rattle.event_record.specs.Fields.{object_bytes}
 use Rattle.event_record.specs.Writing.{Adds}

@@ -7,4 +7,4 @@ returns-in-Err-clause-refused c =
 
 pub loop-record-preserved : goal.loop-record-preserved
 loop-record-preserved c =
-    one_replayed c.args.admin.now c.args.records.now c.loop-record.record-index c.loop-record.replay c.in-Ok.replay c.record-item.result c.loop-record-test.true c.record-item.is c.loop-record.invariant c.in-Ok.ensures.admin c.in-Ok.ensures.legal c.in-Ok.ensures.event
+    one_replayed c.args.admin.now c.args.records.now c.loop-record.record-index c.loop-record.replay c.in-Ok.replay c.record-item.result c.loop-record-test.true c.record-item.is c.loop-record.invariant c.in-Ok.ensures.admin c.in-Ok.ensures.legal c.in-Ok.ensures.event c.in-Ok.ensures.storable

@@ -1,7 +1,7 @@
 use Rattle.std.proofs.Common.{◌≡◌, ◌++◌, ◌∷◌, [], ◌+◌, List, take, length, length-append, length-take, get_or, false, arith, sym, ◌∙◌, ap, subst}
-use Rattle.std.specs.Prelude.{Option, None}
+use Rattle.std.specs.Prelude.{Option}
 use Rattle.std.specs.List.{AllZip}
-use Rattle.std.proofs.lemmas.List.{take_all, take_more}
+use Rattle.std.proofs.lemmas.List.{take_more}
 use Rattle.git_object.specs.Content.{Content}
 use Rattle.ref_store.specs.declared.command.Command.{Command}
 use Rattle.ancestry.specs.declared.facts.Change.TheVariants.{Create}
@@ -12,7 +12,7 @@ use Rattle.update_check.specs.Check.{CheckView}
 use Rattle.hub_history.specs.declared.outcome.Outcome.{Outcome}
 use Rattle.hub_history.specs.Push.{Judges, JudgesAtPush}
 use Rattle.hub_history.specs.State.{Conf, InForce}
-use Rattle.push_judging.specs.Judged.{AreFactsOf, conf_kept, conf_of, confs_of}
+use Rattle.push_judging.specs.Judged.{AreFactsOf, conf_of, confs_of}
 use Rattle.push_judging.specs.Rows.{TellsNow}
 use Rattle.push_judging.proofs.LaterLemmas.{conf_here, conf_now, length-confs, told_more}
 use Rattle.push_judging.proofs.RowLemmas.{as_many, confs_more, zip_at}

@@ -110,7 +110,7 @@ returns-else-posts-workers-clause-ends g c =
     let back : rest ≡ drop workers posts = c.split_at_mut-used.ensures.back in
     subst (λ (o : Option Asked). EndsShell g.L.Endpoint.state g.D.Door.state posts (used ++ rest) o (unused g.Y.Disk.is_modeled (g.Y.Disk.state c.args.disk.now)) source source sink sink' c.run_serve.result.status c.run_serve.result.log) (sym found)
     (shell_serves g.L.Endpoint.state g.D.Door.state g.Y.Disk.is_modeled (g.Y.Disk.state c.args.disk.now) source sink sink' c.run_serve.result.log c.run_serve.result.status posts used rest c.in-Serve.admin workers c.in-Serve.sessions enough back
-    (subst (λ (xs : List (Post _ _)). (why : Status) × (c.run_serve.result.status ≡ status_number why) × EndsServe g.L.Endpoint.state g.D.Door.state c.in-Serve.admin c.in-Serve.sessions xs used sink sink' c.run_serve.result.log why) front c.run_serve.ensures.ends))
+    (subst (λ (xs : List (Post _ _ _)). (why : Status) × (c.run_serve.result.status ≡ status_number why) × EndsServe g.L.Endpoint.state g.D.Door.state c.in-Serve.admin c.in-Serve.sessions xs used sink sink' c.run_serve.result.log why) front c.run_serve.ensures.ends))
 
 pub returns-else-posts-workers-clause-tells : goal.returns-else-posts-workers-clause-tells
 returns-else-posts-workers-clause-tells g c = (inr refl, c.run_serve.ensures.tells)
@@ -132,7 +132,7 @@ returns-else-posts-workers-clause-sure g c =
     let back : rest ≡ drop workers posts = c.split_at_mut-used.ensures.back in
     subst (λ (o : Option Asked). EndsShellSurely g.L.Endpoint.state g.D.Door.state posts (used ++ rest) o (unused g.Y.Disk.is_modeled (g.Y.Disk.state c.args.disk.now)) source source sink sink' c.run_serve.result.status) (sym found)
     (shell_serves_surely g.L.Endpoint.state g.D.Door.state g.Y.Disk.is_modeled (g.Y.Disk.state c.args.disk.now) source sink sink' c.run_serve.result.log c.run_serve.result.status posts used rest c.in-Serve.admin workers c.in-Serve.sessions enough back
-    (subst (λ (xs : List (Post _ _)). (ADoorFailed g.D.Door.state xs used → ⊥) → (HasRisen sink.write_faults sink'.write_faults → ⊥) → (c.run_serve.result.status ≡ 0) ⊎ (c.run_serve.result.status ≡ 4)) front c.run_serve.ensures.sure))
+    (subst (λ (xs : List (Post _ _ _)). (ADoorFailed g.D.Door.state xs used → ⊥) → (HasRisen sink.write_faults sink'.write_faults → ⊥) → (c.run_serve.result.status ≡ 0) ⊎ (c.run_serve.result.status ≡ 4)) front c.run_serve.ensures.sure))
 
 pub returns-else-posts-workers-clause-legal : goal.returns-else-posts-workers-clause-legal
 returns-else-posts-workers-clause-legal g c =

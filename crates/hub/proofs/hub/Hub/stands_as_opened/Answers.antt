@@ -1,5 +1,4 @@
-use Rattle.std.proofs.Common.{◌≡◌, ◌+◌, ◌<◌, ℕ, length, take, sym, ◌∙◌, ap, subst}
-use Rattle.ref_store.specs.Refs.{Name}
+use Rattle.std.proofs.Common.{◌+◌, ◌<◌, ℕ, length, take, sym, ◌∙◌, ap, subst}
 use Rattle.hub_history.specs.History.{replay}
 use Rattle.hub_history.specs.State.{in_force}
 use Rattle.hub.specs.Hub.{state_of}

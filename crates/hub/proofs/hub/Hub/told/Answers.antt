@@ -1,8 +1,8 @@
-use Rattle.std.proofs.Common.{◌≡◌, ◌++◌, List, Option, sym, ◌∙◌, ap, subst}
+use Rattle.std.proofs.Common.{◌≡◌, List, Option, sym, ◌∙◌, ap, subst}
 use Rattle.ref_store.specs.Refs.{Name}
 use Rattle.hub_history.specs.declared.outcome.Outcome.{Outcome}
 use Rattle.hub_history.specs.Push.{JudgesAllAtPush}
-use Rattle.hub_history.specs.State.{InForce, Repository, in_force, repository_at, wild_of}
+use Rattle.hub_history.specs.State.{InForce, in_force, repository_at, wild_of}
 use Rattle.hub_history.proofs.JudgeLemmas.{unchanged}
 use Rattle.hub_state.specs.Prepared.{PackView}
 use Rattle.push_judging.specs.Judged.{AreTold, IsJudgement, confs_of}

@@ -2,7 +2,7 @@ use Rattle.std.proofs.Common.{refl, ◌∙◌, ap, length}
 use Rattle.hub_history.specs.Requests.{Look}
 use Rattle.hub.specs.Answer.{looked}
 use Rattle.hub.specs.Desk.{known_alone}
-use Rattle.hub_journal.proofs.DeskLemmas.{called_alone, calls_keep, goes, of_look}
+use Rattle.hub_journal.proofs.DeskLemmas.{called_alone, calls_keep, goes, goes_on, of_look}
 use Rattle.hub_journal.proofs.journal.JournalHubDesk.look.Goals as goal
 
 pub returns-clause-answers : goal.returns-clause-answers
@@ -26,5 +26,29 @@ returns-clause-goes g c = (
       (record { stored = c.args.self.now.stored; writer = c.args.self.now.writer; disk = g.Y.Disk.state c.args.self.now.disk.now })
       (record { stored = c.store.new.stored; writer = c.store.new.writer; disk = g.Y.Disk.state c.store.new.disk })
       (looked c.args.user.now c.look-answer.result) (Look c.args.user.now) c.in-Ok.group c.args.self.now.sound c.look-answer.ensures.logs (of_look c.args.user.now c.look-answer.result) first c.len-before.result c.len-count.result on
-      (c.len-before.ensures ∙ ap length c.log.ensures.log) (c.len-count.ensures ∙ ap length c.log-2.ensures.log) c.if-before-count.false c.in-Ok.ensures c.store.ensures,
+      (c.len-before.ensures ∙ ap length c.log.ensures.log) (c.len-count.ensures ∙ ap length c.log-2.ensures.log) c.if-before-count.false c.in-Ok.ensures.body c.in-Ok.ensures.storable c.store.ensures,
+)
+
+pub returns-then-before-count-clause-answers : goal.returns-then-before-count-clause-answers
+returns-then-before-count-clause-answers g c = (
+  c.args.self.now.hub.now.log,
+  called_alone c.args.self.now.start c.args.self.now.hub.now c.look-answer.new.self (looked c.args.user.now c.look-answer.result) c.look-answer.ensures.logs c.look-answer.ensures.legal,
+  c.look-answer.ensures.answers,
+)
+
+pub returns-then-before-count-clause-keeps : goal.returns-then-before-count-clause-keeps
+returns-then-before-count-clause-keeps g c =
+    calls_keep (known_alone c.args.self.now.start c.args.self.now.hub.now) (known_alone c.args.self.now.start c.look-answer.new.self) c.args.self.now.hub.now.log (looked c.args.user.now c.look-answer.result)
+    (called_alone c.args.self.now.start c.args.self.now.hub.now c.look-answer.new.self (looked c.args.user.now c.look-answer.result) c.look-answer.ensures.logs c.look-answer.ensures.legal)
+
+pub returns-then-before-count-clause-goes : goal.returns-then-before-count-clause-goes
+returns-then-before-count-clause-goes g c = (
+  refl,
+  refl,
+  λ first on.
+      goes_on g.Y.Disk.is_modeled c.args.self.now.start c.args.self.now.hub.now c.look-answer.new.self
+      (record { stored = c.args.self.now.stored; writer = c.args.self.now.writer; disk = g.Y.Disk.state c.args.self.now.disk.now })
+      (record { stored = c.args.self.now.stored; writer = c.args.self.now.writer; disk = g.Y.Disk.state c.args.self.now.disk.now })
+      (looked c.args.user.now c.look-answer.result) (Look c.args.user.now) c.in-Ok.group c.args.self.now.sound c.look-answer.ensures.logs (of_look c.args.user.now c.look-answer.result) first c.len-before.result c.len-count.result on
+      (c.len-before.ensures ∙ ap length c.log.ensures.log) (c.len-count.ensures ∙ ap length c.log-2.ensures.log) c.if-before-count.true,
 )

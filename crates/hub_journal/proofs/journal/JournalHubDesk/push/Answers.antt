@@ -1,5 +1,5 @@
-use Rattle.std.proofs.Common.{refl, ◌∙◌, ap, length, ℕ, ◌∷◌, []}
-use Rattle.event_record.specs.Bodies.{body_of}
+use Rattle.std.proofs.Common.{refl, ◌∙◌, ap, subst, length, ℕ, ◌∷◌, []}
+use Rattle.event_record.specs.Bodies.{body_of, IsStorable}
 use Rattle.hub_history.specs.Requests.{Push}
 use Rattle.hub.specs.Answer.{settled}
 use Rattle.hub.specs.Desk.{known_alone}
@@ -27,7 +27,7 @@ returns-clause-goes g c = (
       (record { stored = c.args.self.now.stored; writer = c.args.self.now.writer; disk = g.Y.Disk.state c.args.self.now.disk.now })
       (record { stored = c.store.new.stored; writer = c.store.new.writer; disk = g.Y.Disk.state c.store.new.disk })
       (settled c.args.pin c.args.pack c.args.commands c.args.atomic c.settle-answer.result) (Push c.args.pin.place c.args.pack c.args.commands c.args.atomic) c.in-Ok.group c.args.self.now.sound c.settle-answer.ensures.logs (of_push c.args.pin c.args.pack c.args.commands c.args.atomic c.settle-answer.result) first c.len-before.result c.len-count.result on
-      (c.len-before.ensures ∙ ap length c.log.ensures.log) (c.len-count.ensures ∙ ap length c.log-2.ensures.log) c.if-before-count.false (c.in-Ok.ensures ∙ ap (λ (n : ℕ). body_of 0 (Push n c.args.pack c.args.commands c.args.atomic) ∷ []) c.place.ensures) c.store.ensures,
+      (c.len-before.ensures ∙ ap length c.log.ensures.log) (c.len-count.ensures ∙ ap length c.log-2.ensures.log) c.if-before-count.false (c.in-Ok.ensures.body ∙ ap (λ (n : ℕ). body_of 0 (Push n c.args.pack c.args.commands c.args.atomic) ∷ []) c.place.ensures) (subst (λ (n : ℕ). IsStorable 0 (Push n c.args.pack c.args.commands c.args.atomic)) c.place.ensures c.in-Ok.ensures.storable) c.store.ensures,
 )
 
 pub invariant_of-self-2 : goal.invariant_of-self-2
@@ -37,7 +37,7 @@ invariant_of-self-2 g c = record {
       (record { stored = c.args.self.now.stored; writer = c.args.self.now.writer; disk = g.Y.Disk.state c.args.self.now.disk.now })
       (record { stored = c.store.new.stored; writer = c.store.new.writer; disk = g.Y.Disk.state c.store.new.disk })
       (settled c.args.pin c.args.pack c.args.commands c.args.atomic c.settle-answer.result) (Push c.args.pin.place c.args.pack c.args.commands c.args.atomic) c.in-Ok.group c.args.self.now.sound c.settle-answer.ensures.logs (of_push c.args.pin c.args.pack c.args.commands c.args.atomic c.settle-answer.result) c.len-before.result c.len-count.result
-      (c.len-before.ensures ∙ ap length c.log.ensures.log) (c.len-count.ensures ∙ ap length c.log-2.ensures.log) c.if-before-count.false (c.in-Ok.ensures ∙ ap (λ (n : ℕ). body_of 0 (Push n c.args.pack c.args.commands c.args.atomic) ∷ []) c.place.ensures) c.store.ensures;
+      (c.len-before.ensures ∙ ap length c.log.ensures.log) (c.len-count.ensures ∙ ap length c.log-2.ensures.log) c.if-before-count.false (c.in-Ok.ensures.body ∙ ap (λ (n : ℕ). body_of 0 (Push n c.args.pack c.args.commands c.args.atomic) ∷ []) c.place.ensures) c.store.ensures;
 }
 
 pub returns-then-before-count-clause-answers : goal.returns-then-before-count-clause-answers

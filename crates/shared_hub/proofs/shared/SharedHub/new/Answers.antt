@@ -1,8 +1,15 @@
+use Rattle.std.proofs.Common.{ap, ◌∙◌}
+use Rattle.turn_lock.specs.Lock.{first_pass}
+use Rattle.shared_hub.specs.Kept.{KeptState, listed}
 use Rattle.shared_hub.proofs.PassLemmas.{first_knows, first_of_hub}
 use Rattle.shared_hub.proofs.shared.SharedHub.new.Goals as goal
 
 pub returns-clause-pass : goal.returns-clause-pass
-returns-clause-pass c = first_of_hub c.in_ok-lock.lock c.args.hub c.in_ok-lock.pass c.log-log.ensures.legal c.in_ok-lock.ensures
+returns-clause-pass g c =
+    let is = c.in_ok-lock.ensures ∙ ap (λ (k : KeptState _). first_pass c.in_ok-lock.lock (listed k.first (g.H.EventHub.view k.hub))) c.new.ensures in
+    first_of_hub c.in_ok-lock.lock c.args.hub (g.H.EventHub.view c.args.hub) c.in_ok-lock.pass c.sound.ensures is
 
 pub returns-clause-desk : goal.returns-clause-desk
-returns-clause-desk c = first_knows c.in_ok-lock.lock c.args.hub c.in_ok-lock.pass c.in_ok-lock.ensures
+returns-clause-desk g c =
+    let is = c.in_ok-lock.ensures ∙ ap (λ (k : KeptState _). first_pass c.in_ok-lock.lock (listed k.first (g.H.EventHub.view k.hub))) c.new.ensures in
+    first_knows c.in_ok-lock.lock c.args.hub (g.H.EventHub.view c.args.hub) c.in_ok-lock.pass is

@@ -1,20 +1,17 @@
-use Rattle.std.proofs.Common.{subst, sym}
-use Rattle.hub.specs.Answer.{AnswersOpening, kept, opened}
-use Rattle.hub.specs.Hub.{HubView}
-use Rattle.shared_hub.proofs.ListLemmas.{hub_in-listed}
-use Rattle.shared_hub.proofs.StepLemmas.{adds, adds_one}
+use Rattle.hub.specs.Answer.{kept, opened}
+use Rattle.shared_hub.proofs.StepLemmas.{adds, adds_one, opens}
 use Rattle.shared_hub.proofs.steps.EnterStepKeptHub.run.Goals as goal
 
 pub returns-clause-adds : goal.returns-clause-adds
-returns-clause-adds c =
+returns-clause-adds g c =
     let me = c.args.self.now in
-    adds_one c.args.held.now (record { hub = c.enter.new.self }) me.caller (opened me.user.now me.repo.now me.want (kept c.enter.result)) c.enter.ensures.logs
+    let held = c.held.inside in
+    adds_one g.H.EventHub.view c.args.held.now held.first.value held.hub c.held.view_is c.enter.new.self me.caller (opened me.user.now me.repo.now me.want (kept c.enter.result)) c.enter.ensures.logs
 
 pub returns-clause-relates : goal.returns-clause-relates
-returns-clause-relates c =
+returns-clause-relates g c =
     let me = c.args.self.now in
-    let old = c.args.held.now.hub in
-    let new = c.enter.new.self in (
-      adds old new me.caller (opened me.user.now me.repo.now me.want (kept c.enter.result)) c.enter.ensures.logs c.enter.ensures.legal,
-      subst (λ (p : HubView × HubView). AnswersOpening p.0 p.1 me.user.now me.repo.now me.want c.enter.result) (λ i. (sym (hub_in-listed old) i, sym (hub_in-listed new) i)) c.enter.ensures.answers,
+    let held = c.held.inside in (
+      adds g.H.EventHub.view c.args.held.now held.first.value held.hub c.held.view_is c.enter.new.self me.caller (opened me.user.now me.repo.now me.want (kept c.enter.result)) c.enter.ensures.logs c.enter.ensures.legal,
+      opens g.H.EventHub.view c.args.held.now held.first.value held.hub c.held.view_is me.user.now me.repo.now me.want c.enter.new.self c.enter.result c.enter.ensures.answers,
     )

@@ -3,13 +3,15 @@ use Rattle.shared_hub.proofs.StepLemmas.{adds, adds_one, of_list}
 use Rattle.shared_hub.proofs.steps.LookStepKeptHub.run.Goals as goal
 
 pub returns-clause-adds : goal.returns-clause-adds
-returns-clause-adds c =
+returns-clause-adds g c =
     let me = c.args.self.now in
-    adds_one c.args.held.now (record { hub = c.look.new.self }) me.caller (looked me.user.now c.look.result) c.look.ensures.logs
+    let held = c.held.inside in
+    adds_one g.H.EventHub.view c.args.held.now held.first.value held.hub c.held.view_is c.look.new.self me.caller (looked me.user.now c.look.result) c.look.ensures.logs
 
 pub returns-clause-relates : goal.returns-clause-relates
-returns-clause-relates c =
-    let me = c.args.self.now in (
-      adds c.args.held.now.hub c.look.new.self me.caller (looked me.user.now c.look.result) c.look.ensures.logs c.look.ensures.legal,
-      of_list (λ h. AnswersLook h me.user.now c.look.result) c.args.held.now.hub c.look.ensures.answers,
+returns-clause-relates g c =
+    let me = c.args.self.now in
+    let held = c.held.inside in (
+      adds g.H.EventHub.view c.args.held.now held.first.value held.hub c.held.view_is c.look.new.self me.caller (looked me.user.now c.look.result) c.look.ensures.logs c.look.ensures.legal,
+      of_list g.H.EventHub.view c.args.held.now held.first.value held.hub c.held.view_is (λ h. AnswersLook h me.user.now c.look.result) c.look.ensures.answers,
     )

@@ -1,0 +1,74 @@
+//! The server: `host_main` of `host_program` over the words, the listener and the journal's file that the system gives.
+#![tactic(auto)]
+
+use clap::Error;
+use edge_links::{FileDisk, StdSink};
+use host_program::{host_main, read_words};
+use shell_program::{Status, posts_at, words_given};
+use std::alloc::Global;
+use std::env;
+use std::io::ErrorKind;
+use std::net::{Ipv4Addr, SocketAddr, SocketAddrV4, TcpListener};
+use std::process::ExitCode;
+
+fn status(status: Status) -> ExitCode {
+    ExitCode::from(status.number())
+}
+
+// Ends where the words aren't taken, or ask for help or the version, and says it.
+fn end_by_words<R: Print + Eprint>(rt: &R, error: &Error) -> ExitCode {
+    if error.kind() == clap::error::ErrorKind::OutOfMemory {
+        return status(Status::NoMemory);
+    }
+    let _printed = error.print(rt);
+    if error.use_stderr() {
+        return ExitCode::from(2);
+    }
+    ExitCode::SUCCESS
+}
+
+/// Ends with the status of `host_main`; with 5 where the port can't be bound, with 8 where the journal's file can't be
+/// opened, with 2 where the words aren't taken, and out of memory where the words or the posts find none.
+fn main(rt: HostRuntime) -> ExitCode {
+    let alloc: Global = rt.alloc();
+    let Ok(given) = words_given(alloc, env::args(&rt)) else {
+        return status(Status::NoMemory);
+    };
+    let words = match read_words(alloc, given.as_slice()) {
+        Ok(words) => words,
+        Err(error) => return end_by_words(&rt, &error),
+    };
+    let address = SocketAddr::V4(SocketAddrV4::new(Ipv4Addr::LOCALHOST, words.port));
+    let listener = match TcpListener::bind(&rt, address) {
+        Ok(listener) => listener,
+        Err(error) => {
+            let _said = eprintln!(rt; "cerolimau: port {}: {error}", words.port);
+            return status(Status::DoorFault);
+        }
+    };
+    let disk = match FileDisk::open(&rt, words.journal.as_str()) {
+        Ok(disk) => disk,
+        Err(error) if error.kind() == ErrorKind::WouldBlock => {
+            let _said = eprintln!(rt; "cerolimau: {}: another program has it open", words.journal);
+            return status(Status::DiskFault);
+        }
+        Err(error) => {
+            let _said = eprintln!(rt; "cerolimau: {}: {error}", words.journal);
+            return status(Status::DiskFault);
+        }
+    };
+    let Ok(mut posts) = posts_at(alloc, words.workers, Some(&listener)) else {
+        return status(Status::NoMemory);
+    };
+    let mut output = StdSink::new(rt.stdout());
+    let ended = host_main(
+        &rt,
+        alloc,
+        &words.admin,
+        &mut output,
+        &mut posts,
+        words.sessions,
+        disk,
+    );
+    ExitCode::from(ended.status)
+}

@@ -1,0 +1,187 @@
+use super::*;
+use conf_lex::UserName;
+use edge_links::MemoryDoor;
+use hub_journal::recover;
+use pktline_core::MemoryLink;
+use record_file::MemoryDisk;
+use session_core::OpenGate;
+use session_workers::Post;
+use std::alloc::Global;
+use std::process::Abort;
+use std::sync::Wait;
+use std::thread::Threads;
+use stored_hub::StoredHub;
+
+// An opening, a create of a branch, and its pack of a commit and an empty tree.
+const OPENING: &[u8] = b"0024carol git-receive-pack 'testing'";
+
+const COMMAND: &[u8] =
+    b"00750000000000000000000000000000000000000000 1c73cda3964d5dd51bdaad94efd235c910cf59de refs/heads/master\0report-status0000";
+
+const COMMIT: &[u8] =
+    b"tree 4b825dc642cb6eb9a060e54bf8d69288fbee4904\nauthor Carol <carol@example.com> 1700000000 +0000\ncommitter Carol <carol@example.com> 1700000000 +0000\n\nfirst\n";
+
+const TRAILER: [u8; 20] = [
+    0x64, 0xe5, 0x6d, 0xb6, 0x5e, 0x40, 0xed, 0x16, 0x0b, 0x3b, 0xd3, 0x40, 0x52, 0x5a, 0xb6, 0x1e,
+    0x82, 0x69, 0xdb, 0xdb,
+];
+
+// How many links each of the two doors has.
+const LINKS: usize = 2;
+
+type MemoryPost = Post<MemoryDoor<MemoryLink>, OpenGate, StoredHub<MemoryDisk>>;
+
+// What came of a run, and how many events are found again.
+#[derive(Drop)]
+struct Outcome {
+    status: u8,
+    logged: usize,
+    stored: u64,
+    printed: Vec<u8>,
+    found: usize,
+}
+
+fn admin(rt: &impl Abort, alloc: Global) -> UserName {
+    let name = UserName::parse(alloc, b"admin").expect(rt, "memory for a name");
+    name.expect(rt, "a user's name")
+}
+
+fn push_input(alloc: Global) -> Result<Vec<u8>, NoMemory> {
+    let mut input = OPENING.to_vec(alloc)?;
+    input.extend_from_slice(COMMAND)?;
+    input.extend_from_slice(b"PACK\0\0\0\x02\0\0\0\x02\x9c\x09")?;
+    input.extend_from_slice(COMMIT)?;
+    input.extend_from_slice(b"\x20")?;
+    input.extend_from_slice(&TRAILER)?;
+    Ok(input)
+}
+
+fn memory_link(alloc: Global, input: Vec<u8>) -> MemoryLink {
+    MemoryLink::new(input, 7, Vec::new(alloc), Vec::new(alloc))
+}
+
+// Two posts, each with links of a push.
+fn push_posts(alloc: Global) -> Result<Vec<MemoryPost>, NoMemory> {
+    let mut posts = Vec::new(alloc);
+    for _ in 0..2 {
+        let mut links = Vec::new(alloc);
+        for _ in 0..LINKS {
+            links.push(memory_link(alloc, push_input(alloc)?))?;
+        }
+        let door = MemoryDoor::new(alloc, links, Vec::new(alloc))?;
+        posts.push(Post::new(door, OpenGate))?;
+    }
+    Ok(posts)
+}
+
+// Two workers at a new disk, which fails at these of its calls.
+fn run_host<R: Abort + Threads + Wait + Sync>(rt: &R, alloc: Global, failing: Vec<u64>) -> Outcome {
+    let admin = admin(rt, alloc);
+    let disk = MemoryDisk::new(alloc, Vec::new(alloc), 4000, failing);
+    let disk = disk.expect(rt, "memory for a disk");
+    let mut posts = push_posts(alloc).expect(rt, "memory for posts");
+    assert!(rt; posts.len() == 2);
+    let mut output = memory_link(alloc, Vec::new(alloc));
+    let ended = host_main(rt, alloc, &admin, &mut output, &mut posts, 5, disk);
+    let disk = ended.disk.expect(rt, "memory to share a hub");
+    let mut left = disk.stopped(64, 255).expect(rt, "memory for a disk");
+    let found = match recover(alloc, &mut left, &admin) {
+        Ok(recovered) => recovered.into_hub().log().len(),
+        Err(_) => panic!(rt; "no journal"),
+    };
+    Outcome {
+        status: ended.status,
+        logged: ended.log.len(),
+        stored: ended.stored,
+        printed: output
+            .written()
+            .to_vec(alloc)
+            .expect(rt, "memory for a line"),
+        found,
+    }
+}
+
+#[test]
+fn two_workers_store_what_they_answer(rt: HostRuntime) {
+    let alloc = rt.alloc();
+    let outcome = run_host(&rt, alloc, Vec::new(alloc));
+    assert!(rt;
+        outcome.status == 0
+            && outcome.printed.as_slice() == b"served 4 sessions, 8 events\n".as_slice()
+    );
+    assert!(rt; outcome.logged == 8 && outcome.stored == 8 && outcome.found == 8);
+}
+
+// The call that fails, how many events are stored for certain, and how many are found. Opening makes five calls, and
+// each event four. Each worker ends behind the session that isn't answered.
+#[test]
+fn a_call_fails(rt: HostRuntime) {
+    let alloc = rt.alloc();
+    for (number, stored, found) in [
+        (5, 0, 0),
+        (6, 0, 0),
+        (7, 0, 0),
+        (8, 0, 1),
+        (9, 1, 1),
+        (20, 3, 4),
+        (36, 7, 8),
+    ] {
+        let failing = vec![in alloc; number].expect(&rt, "memory for a number");
+        let outcome = run_host(&rt, alloc, failing);
+        assert!(rt; outcome.status == 8 && outcome.found == found);
+        assert!(rt; outcome.stored == stored as u64 && outcome.logged == stored + 1);
+    }
+    let failing = vec![in alloc; 5].expect(&rt, "memory for a number");
+    let outcome = run_host(&rt, alloc, failing);
+    assert!(rt; outcome.printed.as_slice() == b"served 2 sessions, 0 events\n".as_slice());
+}
+
+// A fault while the journal is opened.
+#[test]
+fn a_refused_file(rt: HostRuntime) {
+    let alloc = rt.alloc();
+    let admin = admin(&rt, alloc);
+    let bytes = b"no journal".to_vec(alloc).expect(&rt, "memory for bytes");
+    let disk = MemoryDisk::new(alloc, bytes, 9, Vec::new(alloc));
+    let disk = disk.expect(&rt, "memory for a disk");
+    let mut posts = push_posts(alloc).expect(&rt, "memory for posts");
+    assert!(rt; posts.len() == 2);
+    let mut output = memory_link(alloc, Vec::new(alloc));
+    let ended = host_main(&rt, alloc, &admin, &mut output, &mut posts, 5, disk);
+    assert!(rt; ended.status == 9 && ended.log.is_empty() && ended.disk.is_some());
+    assert!(rt; output.written() == b"not a journal\n".as_slice());
+}
+
+// The words of a call, its name first, and what they come to: workers, port, sessions.
+fn words(rt: &impl Abort, alloc: Global, words: &[&str]) -> Option<(usize, u16, u64)> {
+    let mut given = Vec::new(alloc);
+    for word in words {
+        let word = String::from_str(alloc, word).expect(rt, "memory for a word");
+        given.push(word).expect(rt, "memory for words");
+    }
+    match read_words(alloc, given.as_slice()) {
+        Ok(words) => Some((words.workers, words.port, words.sessions)),
+        Err(_) => None,
+    }
+}
+
+#[test]
+fn words_of_host(rt: HostRuntime) {
+    let alloc = rt.alloc();
+    let few = words(&rt, alloc, &["cerolimau", "host", "--admin", "root"]);
+    assert!(rt; few == Some((8, 9418, 1_000_000_000_000_000)));
+    let all = [
+        "cerolimau",
+        "host",
+        "--admin=root",
+        "--workers",
+        "2",
+        "--port",
+        "80",
+        "--sessions",
+        "7",
+    ];
+    assert!(rt; words(&rt, alloc, &all) == Some((2, 80, 7)));
+    assert!(rt; words(&rt, alloc, &["cerolimau", "host"]) == None);
+    assert!(rt; words(&rt, alloc, &["cerolimau", "--help"]) == None);
+}

@@ -1,0 +1,7 @@
+use denote.Exit.{no}
+use denote.Param.Send.{arg_send, param_send}
+use Rattle.shared_hub.proofs.Crosses.{hub_send}
+use Rattle.shell_program_tests.proofs.session_workers_tests.a_door_that_fails_ends_its_worker_alone.Goals as goal
+
+pub serve_all-hub-requires-send-H : goal.serve_all-hub-requires-send-H
+serve_all-hub-requires-send-H c κs within = param_send 4 _ (arg_send _ no _ hub_send)

@@ -1,0 +1,19 @@
+//! A hub whose events are stored on a disk before they are answered, for callers that share it.
+//!
+//! - `stored`: the hub, its disk, and its making;
+//! - `calls`: its calls;
+//! - `laws`: what holds of such hubs.
+//!
+//! `docs/JOURNAL.md` has the form of the file, and what a crash leaves of it.
+#![tactic(auto)]
+
+mod calls;
+mod laws;
+mod stored;
+
+pub use base_types::NoMemory;
+pub use laws::hold_laws;
+pub use stored::{StoredHub, StoredParts};
+
+#[cfg(test)]
+mod tests;
