@@ -15,7 +15,7 @@ import tempfile
 from push_costs import EMPTY, EMPTY_ID, commit, object_id, push
 
 HEAD = b"GITOLOG1\x05admin"
-KINDS = {1: b"commit", 2: b"tree", 3: b"blob", 4: b"tag"}
+KINDS = 1, 2, 3, 4  # a commit, a tree, a blob, a tag
 
 
 class Bad(Exception):
@@ -77,11 +77,9 @@ def ids_and_objects(data):
     return commands, objects
 
 
-def is_formed(kind, body):
-    """Whether the body has its kind's form, of the two kinds that the journal has; None where this reader doesn't know."""
-    if kind == 2 and body == b"" or kind == 3:
-        return True
-    return None
+def is_known(kind, body):
+    """Whether this reader knows that the body has its kind's form: of the others only the program knows."""
+    return kind == 3 or (kind, body) in ((2, b""), (1, FIRST[1]))
 
 
 def event(data, opened):
@@ -99,7 +97,7 @@ def event(data, opened):
         place, data = number(data, 8)
         _, data = flag(data)
         commands, objects = ids_and_objects(data)
-        if any(is_formed(kind, body) is None and (kind, body) != (1, FIRST[1]) for kind, body in objects):
+        if not all(is_known(*it) for it in objects):
             return None
         if place not in opened or not commands:
             raise Bad
