@@ -24,6 +24,7 @@ class Client:
 
     def __init__(self):
         self.source = reader(0)
+        self._input = self.source.raw
         self.reads_packets = False  # whether it takes an ERR packet now
         self.is_gone = False
         self._sink = writer(1)
@@ -85,6 +86,10 @@ class Client:
             self.flush()
         else:
             self.tell(text)
+
+    def passed(self):
+        """How many bytes came from the client, and how many went to it."""
+        return self._input.passed, self._sink.raw.passed
 
     def _put_band(self, number, data):
         self._put(packet(number + data))

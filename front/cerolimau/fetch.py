@@ -18,35 +18,56 @@ HAVES_OF_A_QUESTION = 50_000
 MAX_LINES = 200_000  # of wants, shallow commits and depths
 WORDS = (b"side-band-64k", b"ofs-delta", b"no-progress", b"shallow", b"deepen-since", b"deepen-not", b"deepen-relative",
          b"allow-reachable-sha1-in-want")
+CUT = object()
 FILTER = "no partial clones here: clone without --filter"
 
 
 def fetch(client, sessions, heads, repository):
     """Returns the exit status."""
-    server, lines = sessions.open()
-    server.send(FLUSH)  # this session only advertises
-    server.close()
-    refs = Refs(lines)
-    branch = refs.put_head(chosen_branch(heads, repository))
-    refs.advertise(client, [*WORDS, *([b"symref=HEAD:" + branch] if branch else [])])
+    refs = advertise(client, sessions, heads, repository, WORDS)
+    request = Request(client)
+    if request.wants:
+        asking = Asking(sessions, refs)
+        send_pack(client, request, find_pack(client, request, asking, refs, negotiate))
+    return 0
+
+
+def fetch_once(client, sessions):
+    """One request of a client that says with each all that it said before, and waits for no answer inside of one (gitprotocol-http)."""
     request = Request(client)
     if not request.wants:
         return 0
-    asking = Asking(sessions, refs)
+    refs = Refs(advertised(sessions))
+    pack = find_pack(client, request, Asking(sessions, refs), refs, negotiate_once)
+    if pack:
+        send_pack(client, request, pack)
+    return 0
+
+
+def advertised(sessions):
+    """The lines of an advertisement, of a session of their own."""
+    server, lines = sessions.open()
+    server.send(FLUSH)
+    server.close()
+    return lines
+
+
+def advertise(client, sessions, heads, repository, words):
+    refs = Refs(advertised(sessions))
+    branch = refs.put_head(chosen_branch(heads, repository))
+    refs.advertise(client, [*words, *([b"symref=HEAD:" + branch] if branch else [])])
+    return refs
+
+
+def find_pack(client, request, asking, refs, negotiate_by):
+    """How many objects the client lacks, and these; None where the client asks on."""
     if request.shallows.are_asked() or not asking.advertise(request.wants):
         objects = asking.all_objects(request.wants, request.shallows.excluded)
         request.shallows.tell(client, objects, request.wants, refs)
-        haves = negotiate(client, lambda haves: next((have for have in haves if bytes_of(have) in objects), None))
-        pack = objects.pack(objects_for(objects, request.wants, haves, request.shallows))
-    else:
-        haves = negotiate(client, asking.common)
-        pack = asking.pack(request.wants, haves)
-    client.reads_packets = False
-    if b"side-band-64k" in request.words:
-        client.begin_bands()
-    send_pack(client, *pack)
-    client.end_bands()
-    return 0
+        haves = negotiate_by(client, lambda haves: next((have for have in haves if bytes_of(have) in objects), None))
+        return None if haves is None else objects.pack(objects_for(objects, request.wants, haves, request.shallows))
+    haves = negotiate_by(client, asking.common)
+    return None if haves is None else asking.pack(request.wants, haves)
 
 
 class Request:
@@ -108,6 +129,35 @@ def negotiate(client, common_of):
             return haves
         client.flush()
     raise Refused("a fetch may name %d commits that it has at most: clone anew" % MAX_HAVES)
+
+
+def negotiate_once(client, common_of):
+    """Reads what the client has. Behind a flush it is told of one common object and that this is enough, or that there is none, and asks on;
+    behind `done` it gets the pack. One that is told only what is shallow ends before that. Returns None where the client asks on."""
+    haves = []
+    while (line := read_last(client.source)) is not CUT:
+        text = b"" if line is None else line.rstrip(b"\n")
+        if text.startswith(b"have ") and len(haves) < MAX_HAVES:
+            haves.append(read_id(text[5:]))
+            continue
+        if text not in (b"", b"done"):
+            raise ServerRefused("malformed input" if len(haves) < MAX_HAVES else "too long")
+        common = common_of(haves) if haves else None
+        if text:
+            client.write(packet(b"ACK %s\n" % common if common else b"NAK\n"))
+            return haves
+        if common:
+            client.write(packet(b"ACK %s common\n" % common) + packet(b"ACK %s ready\n" % common))
+        client.write(packet(b"NAK\n"))
+        return None
+    return None
+
+
+def read_last(source):
+    """The next packet, or CUT where the request ends in front of it."""
+    if not source.peek(1):
+        return CUT
+    return read_packet(source)
 
 
 class Asking:
@@ -213,9 +263,13 @@ def followed(server):
     return kept.count, objects()
 
 
-def send_pack(client, count, objects):
-    for piece in git_pack(count, objects):
+def send_pack(client, request, pack):
+    client.reads_packets = False
+    if b"side-band-64k" in request.words:
+        client.begin_bands()
+    for piece in git_pack(*pack):
         client.write(piece)
         if client.is_gone:
             return
     client.flush()
+    client.end_bands()

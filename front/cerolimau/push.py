@@ -20,13 +20,22 @@ UNPACKER_ERROR = b"unpacker error"
 
 
 def push(client, sessions, repository, slice_objects, when_done):
-    """Returns the exit status. A push of more than so many objects is cut into slices. `when_done` is called with the refs that were done, before the client has all of the report: who has it
-    knows that what `when_done` does is done."""
+    """Returns the exit status. A push of more than so many objects is cut into slices. `when_done` is called with the rows and outcomes of its
+    commands, before the client has all of the report: who has it knows that what `when_done` does is done."""
+    advertise(client, sessions)
+    return receive(client, sessions, repository, slice_objects, when_done)
+
+
+def advertise(client, sessions):
     server, lines = sessions.open()
     server.send(FLUSH)  # this session only advertises
     server.close()
     refs = Refs(lines)
     refs.advertise(client, [*refs.words.split(), *WORDS])
+
+
+def receive(client, sessions, repository, slice_objects, when_done):
+    """What follows the advertisement, over ssh in the same session and over HTTP in a request of its own."""
     commands = Commands(client)
     if not commands.rows:
         return 0
@@ -44,7 +53,7 @@ def push(client, sessions, repository, slice_objects, when_done):
             unpacked, outcomes = push_once(client, sessions, commands, pack)
     except PackRefused as refused:
         unpacked, outcomes = str(refused).encode(), [UNPACKER_ERROR] * len(commands.rows)
-    when_done([ref for (_, _, ref), outcome in zip(commands.rows, outcomes) if outcome == b"ok"])
+    when_done(commands.rows, outcomes)
     write_report(client, commands, unpacked, outcomes)
     return 0 if unpacked == b"ok" and all(outcome == b"ok" for outcome in outcomes) else 1
 

@@ -2,45 +2,26 @@
 import os
 import signal
 
-from .ends import Client, Sessions
+from .ends import Client, ServerRefused, Sessions
 from .names import is_user, repository_of
+from .record import Record
+from .settings import OPTIONS, Settings
 from .slots import take_slot, take_worker
 from .streams import Cut, Refused, Spool, limit_waiting
 from .talk import BadCommand, talk
 
-OPTIONS = {
-    "--server": "127.0.0.1:9418", "--keys": "", "--heads": "", "--idle": "600", "--patience": "30", "--sessions": "4",
-    "--spool": "/var/tmp/cerolimau-%d" % os.geteuid(), "--spool-bytes": "8589934592", "--slice": "100000",
-    "--workers": "8",
-}
-NUMBERS = "--idle", "--patience", "--sessions", "--spool-bytes", "--slice", "--workers"
-USAGE = "usage: cerolimau-ssh [OPTION VALUE] .. USER [HOST COMMAND]; the options are " + ", ".join(OPTIONS)
+USAGE = "usage: cerolimau-ssh [OPTION VALUE] .. USER [HOST COMMAND]; the options are --conf, " + ", ".join(OPTIONS)
 COMMANDS = "there are git's clone, fetch and push, info, perms and help"
 MAX_COMMAND = 1000
 PUSH, FETCH = "git-receive-pack", "git-upload-pack"
 
 
-class Settings:
-    """The words of the command line. `words` are those that the lines of other users have too."""
-
-    def __init__(self, program, words):
-        values = dict(OPTIONS)
-        at = 0
-        while at + 1 < len(words) and words[at] in values:
-            values[words[at]] = words[at + 1]
-            at += 2
-        rest = words[at:]
-        if len(rest) not in (1, 3) or not all(values[option].isdigit() for option in NUMBERS) or not is_user(rest[0]):
-            raise Refused(USAGE)
-        self.words = [program, *words[:at]]
-        self.address = values["--server"]
-        self.keys = values["--keys"]
-        self.heads = values["--heads"]
-        self.spool = values["--spool"]
-        self.idle, self.patience, self.sessions, self.spool_bytes, self.slice, workers = (int(values[option]) for option in NUMBERS)
-        self.workers = {"fetch": max(1, workers // 2), "push": max(1, workers // 4)}  # how many may be busy with packs
-        self.user = rest[0]
-        self.command = rest[2] if len(rest) == 3 else os.environ.get("SSH_ORIGINAL_COMMAND", "")
+def read_words(settings):
+    """The user, and the text of what is asked for."""
+    rest = settings.rest
+    if len(rest) not in (1, 3) or not is_user(rest[0]):
+        raise Refused(USAGE)
+    return rest[0], rest[2] if len(rest) == 3 else os.environ.get("SSH_ORIGINAL_COMMAND", "")
 
 
 def read_command(text):
@@ -59,62 +40,107 @@ def read_command(text):
     return " ".join(words)
 
 
-def serve(client, settings, command):
-    sessions = Sessions(
-        settings.address, settings.user, command, settings.patience, lambda kind: take_worker(settings.spool, kind, settings.workers[kind]))
+def serve(client, settings, record, command):
+    sessions = sessions_of(settings, record.user, command)
     if command.startswith(FETCH):
         from .fetch import fetch
 
-        return fetch(client, sessions, settings.heads, repository_of(command))
+        return fetch(client, sessions, settings.heads, record.repository)
     if command.startswith(PUSH):
         from .push import push
 
-        return push(client, sessions, repository_of(command), settings.slice, lambda done: renew_keys(client, settings, command, done))
-    return talk(client, sessions, settings.user, command.split(" "))
+        return push(client, sessions, record.repository, settings.slice, follow_push(client, settings, record))
+    return talk(client, sessions, record.user, command.split(" "))
 
 
-def renew_keys(client, settings, command, done):
-    """Writes the lines of all keys anew where a push to gitolite-admin may have changed its keydir."""
-    if not settings.keys or repository_of(command) != "gitolite-admin" or b"refs/heads/master" not in done:
+def sessions_of(settings, user, command):
+    return Sessions(settings.address, user, command, settings.patience, lambda kind: take_worker(settings.spool, kind, settings.workers[kind]))
+
+
+def follow_push(client, settings, record):
+    """What is called with the rows and outcomes of a push: they are written down, what follows is put into its queue, and where the admin's
+    repository changed, the keys are written anew and the conf is looked at."""
+
+    def follow(rows, outcomes):
+        record.write_refs(rows, outcomes)
+        done = [row for row, outcome in zip(rows, outcomes) if outcome == b"ok"]
+        if done and settings.after_push:
+            from .after_push import enqueue
+
+            try:
+                enqueue(settings.after_push, record.user, record.repository, record.address, done)
+            except OSError as fault:
+                client.tell("the push is done, and what follows a push doesn't: %s" % fault)
+        if record.repository == "gitolite-admin" and b"refs/heads/master" in [ref for _, _, ref in done]:
+            follow_conf(client, settings, record.user)
+
+    return follow
+
+
+def follow_conf(client, settings, user):
+    """Writes the lines of all keys anew, and tells what a conf does that its admin may not want."""
+    if not settings.keys and not settings.rules:
         return
-    from .keydir import KEYDIR_COMMAND, fetch_keydir
+    from .admin_files import fetch_files, keys_of, warnings_of
     from .keys import KeyFile
 
     try:
-        with KeyFile(settings.keys) as key_file:
-            files = fetch_keydir(Sessions(settings.address, settings.user, KEYDIR_COMMAND, settings.patience))
-            faults = key_file.put(files, settings.words) if files is not None else []
+        files = fetch_files(sessions_of(settings, user, FETCH + " 'gitolite-admin'"))
+        if settings.rules:
+            for warning in warnings_of(settings.rules, files, user):
+                client.tell(warning)
+        keys = keys_of(files)
+        if settings.keys and keys is not None:
+            with KeyFile(settings.keys) as key_file:
+                for fault in key_file.put(keys, settings.words):
+                    client.tell(fault)
+    except ServerRefused as refused:
+        client.tell("from now on %s may not read gitolite-admin (%s), so the keys of keydir weren't taken over" % (user, refused))
     except (Refused, OSError, ValueError) as fault:
         client.tell("the keys of keydir weren't taken over: %s" % fault)
-        return
-    for fault in faults:
-        client.tell(fault)
 
 
 def main(program, words):
     signal.signal(signal.SIGINT, signal.SIG_DFL)  # an interrupt ends it without words
-    client = Client()
+    client, record = Client(), Record()
+    end(client, record, lambda: run(client, record, program, words))
+
+
+def end(client, record, run):
+    """Runs a session, tells how it ended, and exits."""
     try:
-        status = run(client, program, words)
+        status = run()
+        record.result = record.result if status == 0 else "refused"
     except Cut:
-        status = 1  # the client is gone
+        status, record.result = 1, "cut"  # the client is gone
     except Refused as refused:
         client.refuse(refused)
-        status = 1
+        status, record.result = 1, "refused: %s" % refused
     except Exception as fault:
-        client.refuse(Refused("the front end failed: %s: %s" % (type(fault).__name__, fault)))
-        status = 1
+        text = "the front end failed: %s: %s" % (type(fault).__name__, fault)
+        client.refuse(Refused(text))
+        status, record.result = 1, text
     client.flush()
+    record.write(*client.passed())
     os._exit(status)  # the thread of a fetch may still read
 
 
-def run(client, program, words):
+def run(client, record, program, words):
     settings = Settings(program, words)
-    command = read_command(settings.command)
-    if command.startswith("git-") and os.isatty(1):
+    user, text = read_words(settings)
+    command = read_command(text)
+    is_git = command.startswith("git-")
+    address = os.environ.get("SSH_CONNECTION", "").partition(" ")[0]
+    record.begin(settings.log, user, address, command.partition(" ")[0], repository_of(command) if is_git else "")
+    if is_git and os.isatty(1):
         raise Refused("%s is for git: a person sees nothing in it" % command.partition(" ")[0])
     limit_waiting(settings.idle)
-    client.reads_packets = command.startswith("git-")
-    slot = take_slot(settings.spool, settings.user, settings.sessions, settings.spool_bytes, settings.patience)
+    client.reads_packets = is_git
+    take_room(settings, user)
+    return serve(client, settings, record, command)
+
+
+def take_room(settings, user):
+    """A place among the user's sessions, and room for what is on its way."""
+    slot = take_slot(settings.spool, user, settings.sessions, settings.spool_bytes, settings.patience)
     Spool.folder, Spool.reserve = settings.spool, slot.reserve
-    return serve(client, settings, command)

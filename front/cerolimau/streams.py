@@ -28,9 +28,11 @@ def limit_waiting(seconds):
 
 
 class _Descriptor(io.RawIOBase):
-    def __init__(self, number):
+    def __init__(self, number, most=None):
         super().__init__()
         self.number = number
+        self.passed = 0  # bytes that were read or written
+        self._most = most  # bytes that may be read, if there is a bound
 
     def readable(self):
         return True
@@ -39,20 +41,26 @@ class _Descriptor(io.RawIOBase):
         return True
 
     def readinto(self, room):
+        if self._most is not None:
+            room = memoryview(room)[:self._most - self.passed]
         signal.alarm(idle_seconds)
         try:
-            return os.readv(self.number, [room])
+            count = os.readv(self.number, [room])
         except ConnectionResetError:
             return 0
+        self.passed += count
+        return count
 
     def write(self, data):
         signal.alarm(idle_seconds)
-        return os.write(self.number, data)
+        count = os.write(self.number, data)
+        self.passed += count
+        return count
 
 
-def reader(number):
-    """A buffered reader of a file descriptor. A connection that is reset ends."""
-    return io.BufferedReader(_Descriptor(number), BUFFER)
+def reader(number, most=None):
+    """A buffered reader of a file descriptor, of so many bytes at most. A connection that is reset ends."""
+    return io.BufferedReader(_Descriptor(number, most), BUFFER)
 
 
 def writer(number):

@@ -1,0 +1,162 @@
+"""Git's smart HTTP (gitprotocol-http), as a CGI program (RFC 3875): one request, of a user whom the web server names.
+
+Each request is served by sessions at the server, as a command over ssh is. Nothing that the client sends says who it is: `REMOTE_USER` is the
+web server's, and fields of the request reach a CGI program only as `HTTP_..`.
+"""
+import os
+import re
+import signal
+
+from .ends import Client, ServerRefused, Sessions
+from .names import NAME_BYTES, is_user, repository_of
+from .packets import FLUSH, packet
+from .record import Record
+from .settings import Settings
+from .shell import FETCH, PUSH, end, follow_push, sessions_of, take_room
+from .streams import Refused, limit_waiting, reader
+
+TARGET = re.compile(r"/(.+)/(info/refs|git-upload-pack|git-receive-pack)")
+SERVICES = FETCH, PUSH
+MORE_WORDS = b"multi_ack_detailed",  # by which a client without a dialogue learns what is common
+DUMB = "this server speaks Git's smart protocol alone: use git 1.6.6 or later"
+REASONS = {
+    200: "OK", 400: "Bad Request", 401: "Unauthorized", 403: "Forbidden", 404: "Not Found", 405: "Method Not Allowed",
+    415: "Unsupported Media Type",
+}
+
+
+class Answer(Refused):
+    """Why a request has no answer of Git's."""
+
+    def __init__(self, status, text):
+        super().__init__(text)
+        self.status = status
+
+
+class WebClient(Client):
+    """The client of one request. The head of the response goes out in front of its first byte."""
+
+    def __init__(self):
+        super().__init__()
+        self.media = ""  # of the response, once it is one of Git's
+        self.prefix = b""  # what stands before a refusal in it
+        self.asks_who = False  # whether a refusal is to ask for a name and a password
+        self._is_begun = False
+
+    def take_body(self, encoding, length):
+        """What comes is the request's body, of so many bytes where that is known."""
+        self.source = reader(0, length)
+        self._input = self.source.raw
+        if encoding:
+            import gzip
+
+            self.source = gzip.GzipFile(fileobj=self.source, mode="rb")
+
+    def begin(self, status, media):
+        fields = ["Status: %d %s" % (status, REASONS[status]), "Content-Type: " + media, "Cache-Control: no-cache"]
+        if status == 401:
+            fields.append('WWW-Authenticate: Basic realm="Git"')
+        self._is_begun = True
+        self._sink.write("".join(field + "\r\n" for field in [*fields, ""]).encode())
+
+    def tell(self, text):
+        if self._band is not None:
+            super().tell(text)  # else there is nobody to read it
+
+    def refuse(self, refused):
+        """In the response's own form where it may have begun, else as a text."""
+        if isinstance(refused, Answer) or self.asks_who and not self._is_begun or not self.media:
+            status = 401 if self.asks_who else refused.status if isinstance(refused, Answer) else 400
+            self.begin(status, "text/plain; charset=utf-8")
+            self._sink.write(("%s\n" % refused).encode(errors="replace"))
+            return
+        super().refuse(refused)
+
+    def flush(self):
+        if self.media and not self._is_begun:
+            self._put(b"")
+        super().flush()
+
+    def _put(self, data):
+        if not self._is_begun:
+            self.begin(200, self.media)
+            self._sink.write(self.prefix)
+        super()._put(data)
+
+
+def main(program, words):
+    signal.signal(signal.SIGINT, signal.SIG_DFL)
+    client, record = WebClient(), Record()
+    end(client, record, lambda: run(client, record, program, words, os.environ))
+
+
+def run(client, record, program, words, environment):
+    settings = Settings(program, words)
+    limit_waiting(settings.idle)
+    service, repository, is_question = read_target(environment)
+    user = environment.get("REMOTE_USER", "") or settings.anonymous
+    record.begin(settings.log, user, environment.get("REMOTE_ADDR", ""), service, repository)
+    client.asks_who = not environment.get("REMOTE_USER", "")
+    if not user:
+        raise Answer(401, "who are you?")
+    if not is_user(user):
+        raise Answer(403, "%s is no user's name" % ascii(user))
+    command = "%s '%s'" % (service, repository)
+    sessions = sessions_of(settings, user, command)
+    client.reads_packets = True
+    if not is_question:
+        read_fields_of_body(client, environment, service)
+    take_room(settings, user)
+    client.media = "application/x-%s-%s" % (service, "advertisement" if is_question else "result")
+    if is_question:
+        client.prefix = packet(b"# service=%s\n" % service.encode()) + FLUSH
+        return advertise(client, sessions, settings, service, repository)
+    if service == FETCH:
+        from .fetch import fetch_once
+
+        return fetch_once(client, sessions)
+    from .push import receive
+
+    return receive(client, sessions, repository, settings.slice, follow_push(client, settings, record))
+
+
+def read_target(environment):
+    """The service, the repository, and whether its advertisement is asked for."""
+    found = TARGET.fullmatch(environment.get("PATH_INFO", ""))
+    query, method = environment.get("QUERY_STRING", ""), environment.get("REQUEST_METHOD", "")
+    name = repository_of("x '%s'" % found[1]) if found and NAME_BYTES.issuperset(found[1]) else ""
+    if not name:
+        raise Answer(404, "no such path")
+    if found[2] != "info/refs":
+        if method != "POST":
+            raise Answer(405, "a POST is wanted")
+        return found[2], name, False
+    if method != "GET":
+        raise Answer(405, "a GET is wanted")
+    for service in SERVICES:
+        if query == "service=" + service:
+            return service, name, True
+    raise Answer(403, DUMB)
+
+
+def read_fields_of_body(client, environment, service):
+    if environment.get("CONTENT_TYPE", "") != "application/x-%s-request" % service:
+        raise Answer(415, "another type of content is wanted")
+    encoding, length = environment.get("HTTP_CONTENT_ENCODING", ""), environment.get("CONTENT_LENGTH", "")
+    if encoding not in ("", "identity", "gzip", "x-gzip"):
+        raise Answer(415, "content may be gzip, and nothing else")
+    if length and not (length.isascii() and length.isdigit()):
+        raise Answer(400, "no length")
+    client.take_body(encoding.endswith("gzip"), int(length) if length else None)
+
+
+def advertise(client, sessions, settings, service, repository):
+    if service == FETCH:
+        from .fetch import WORDS, advertise as advertise_fetch
+
+        advertise_fetch(client, sessions, settings.heads, repository, [*WORDS, *MORE_WORDS])
+    else:
+        from .push import advertise as advertise_push
+
+        advertise_push(client, sessions)
+    return 0
