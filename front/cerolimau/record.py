@@ -1,11 +1,10 @@
 """A line for each session, and for each ref that a push asks for: who did what, from where."""
 import os
-import re
 import time
 
 IDENT = "cerolimau"
-PLAIN = re.compile(r"[A-Za-z0-9./_:+@^{}~-]+")
-FIELD = re.compile(r'(\w+)=(?:"((?:[^"\\]|\\.)*)"|(\S*))')
+PLAIN = frozenset("ABCDEFGHIJKLMNOPQRSTUVWXYZabcdefghijklmnopqrstuvwxyz0123456789./_:+@^{}~-")
+FIELD = r'(\w+)=(?:"((?:[^"\\]|\\.)*)"|(\S*))'
 
 
 class Record:
@@ -55,14 +54,16 @@ def _shown(fields):
     """Fields of which nothing in a value can end the value or the line: ASCII, with other bytes escaped as Python has them."""
     for name, value in fields.items():
         text = value.decode("utf-8", "backslashreplace") if isinstance(value, bytes) else str(value)
-        if not PLAIN.fullmatch(text):
+        if not text or not PLAIN.issuperset(text):
             text = '"%s"' % text.encode("unicode_escape").decode().replace('"', '\\"')
         yield name, text
 
 
 def read_fields(line):
     """The fields of a line, whatever stands before them."""
-    return {name: (quoted.replace('\\"', '"') if quoted else plain) for name, quoted, plain in FIELD.findall(line)}
+    import re  # who writes lines needs none of it
+
+    return {name: (quoted.replace('\\"', '"') if quoted else plain) for name, quoted, plain in re.findall(FIELD, line)}
 
 
 def _private(path, flags):

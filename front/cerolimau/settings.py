@@ -1,6 +1,5 @@
 """What the command line and the file /etc/cerolimau.conf set."""
 import os
-import re
 
 from .names import is_user
 from .streams import Refused
@@ -12,7 +11,6 @@ OPTIONS = {
     "--log": "", "--after-push": "", "--rules": "", "--anonymous": "",
 }
 NUMBERS = "--idle", "--patience", "--sessions", "--spool-bytes", "--slice", "--workers"
-LINE = re.compile(r'([A-Z][A-Z_]*)=(?:"([^"]*)"|(\S*))')
 
 
 class Settings:
@@ -47,12 +45,14 @@ def read_conf(path):
 
 
 def read_names(path):
-    """The values of a file of lines `NAME=VALUE`, of which other programs read some. `#` begins a comment, and a file that isn't there sets nothing."""
+    """The values of a file of lines `NAME=VALUE`, of which other programs read some. A value may stand in quotes, `#` begins a comment, and a file that
+    isn't there sets nothing."""
     if not path:
         return {}
     try:
         with open(path, encoding="utf-8") as file:
-            found = [LINE.fullmatch(line.strip()) for line in file]
+            lines = file.read().splitlines()
     except FileNotFoundError:
         return {}
-    return {line[1]: line[2] or line[3] or "" for line in found if line}
+    rows = [line.strip().partition("=") for line in lines if not line.lstrip().startswith("#")]
+    return {name: value[1:-1] if value[:1] == value[-1:] == '"' and len(value) > 1 else value for name, _, value in rows if name.isidentifier()}

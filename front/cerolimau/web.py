@@ -4,10 +4,9 @@ Each request is served by sessions at the server, as a command over ssh is. Noth
 web server's, and fields of the request reach a CGI program only as `HTTP_..`.
 """
 import os
-import re
 import signal
 
-from .ends import Client, ServerRefused, Sessions
+from .ends import Client
 from .names import NAME_BYTES, is_user, repository_of
 from .packets import FLUSH, packet
 from .record import Record
@@ -15,8 +14,8 @@ from .settings import Settings
 from .shell import FETCH, PUSH, end, follow_push, sessions_of, take_room
 from .streams import Refused, limit_waiting, reader
 
-TARGET = re.compile(r"/(.+)/(info/refs|git-upload-pack|git-receive-pack)")
 SERVICES = FETCH, PUSH
+QUESTION = "info/refs"
 MORE_WORDS = b"multi_ack_detailed",  # by which a client without a dialogue learns what is common
 DUMB = "this server speaks Git's smart protocol alone: use git 1.6.6 or later"
 REASONS = {
@@ -122,20 +121,22 @@ def run(client, record, program, words, environment):
 
 def read_target(environment):
     """The service, the repository, and whether its advertisement is asked for."""
-    found = TARGET.fullmatch(environment.get("PATH_INFO", ""))
+    path = environment.get("PATH_INFO", "")
     query, method = environment.get("QUERY_STRING", ""), environment.get("REQUEST_METHOD", "")
-    name = repository_of("x '%s'" % found[1]) if found and NAME_BYTES.issuperset(found[1]) else ""
-    if not name:
+    end = next((end for end in (QUESTION, *SERVICES) if path.endswith("/" + end)), "")
+    name = path.removeprefix("/").removesuffix("/" + end)
+    repository = repository_of("x '%s'" % name) if end and NAME_BYTES.issuperset(name) else ""
+    if not repository:
         raise Answer(404, "no such path")
-    if found[2] != "info/refs":
+    if end != QUESTION:
         if method != "POST":
             raise Answer(405, "a POST is wanted")
-        return found[2], name, False
+        return end, repository, False
     if method != "GET":
         raise Answer(405, "a GET is wanted")
     for service in SERVICES:
         if query == "service=" + service:
-            return service, name, True
+            return service, repository, True
     raise Answer(403, DUMB)
 
 
