@@ -19,11 +19,11 @@ SIGNED = "signed pushes aren't taken here"
 UNPACKER_ERROR = b"unpacker error"
 
 
-def push(client, sessions, repository, slice_objects, when_done):
+def push(client, sessions, repository, slice_objects, refused_bytes, when_done):
     """Returns the exit status. A push of more than so many objects is cut into slices. `when_done` is called with the rows and outcomes of its
     commands, before the client has all of the report: who has it knows that what `when_done` does is done."""
     advertise(client, sessions)
-    return receive(client, sessions, repository, slice_objects, when_done)
+    return receive(client, sessions, repository, slice_objects, refused_bytes, when_done)
 
 
 def advertise(client, sessions):
@@ -34,7 +34,7 @@ def advertise(client, sessions):
     refs.advertise(client, [*refs.words.split(), *WORDS])
 
 
-def receive(client, sessions, repository, slice_objects, when_done):
+def receive(client, sessions, repository, slice_objects, refused_bytes, when_done):
     """What follows the advertisement, over ssh in the same session and over HTTP in a request of its own."""
     commands = Commands(client)
     if not commands.rows:
@@ -43,6 +43,8 @@ def receive(client, sessions, repository, slice_objects, when_done):
         client.begin_bands()
     is_whole = commands.is_atomic or repository == ADMIN_REPOSITORY  # a conf of a slice would come into force
     try:
+        if fault := refused_bytes.fault():
+            raise PackRefused(fault)
         pack = GitPack(client.source, not is_whole) if commands.need_pack() else None
         if pack and not is_whole and (len(pack.entries) > slice_objects or pack.total > MAX_BODIES):
             from .slices import push_slices
@@ -52,7 +54,9 @@ def receive(client, sessions, repository, slice_objects, when_done):
         else:
             unpacked, outcomes = push_once(client, sessions, commands, pack)
     except PackRefused as refused:
-        unpacked, outcomes = str(refused).encode(), [UNPACKER_ERROR] * len(commands.rows)
+        pack, unpacked, outcomes = None, str(refused).encode(), [UNPACKER_ERROR] * len(commands.rows)  # the server got none of it
+    if b"ok" not in outcomes:
+        refused_bytes.add(pack.total if pack else 0)
     when_done(commands.rows, outcomes)
     write_report(client, commands, unpacked, outcomes)
     return 0 if unpacked == b"ok" and all(outcome == b"ok" for outcome in outcomes) else 1

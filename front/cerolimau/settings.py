@@ -7,10 +7,10 @@ from .streams import Refused
 CONF = "/etc/cerolimau.conf"
 OPTIONS = {
     "--server": "127.0.0.1:9418", "--keys": "", "--heads": "", "--idle": "600", "--patience": "30", "--sessions": "4",
-    "--spool": "/var/tmp/cerolimau-%d" % os.geteuid(), "--spool-bytes": "8589934592", "--slice": "100000", "--workers": "8",
+    "--spool": "/var/tmp/cerolimau-%d" % os.geteuid(), "--spool-bytes": "8589934592", "--slice": "100000", "--workers": "8", "--refused-bytes": "2147483648",
     "--log": "", "--after-push": "", "--rules": "", "--anonymous": "",
 }
-NUMBERS = "--idle", "--patience", "--sessions", "--spool-bytes", "--slice", "--workers"
+NUMBERS = "--idle", "--patience", "--sessions", "--spool-bytes", "--slice", "--workers", "--refused-bytes"
 
 
 class Settings:
@@ -34,7 +34,8 @@ class Settings:
         self.after_push = values["--after-push"]
         self.rules = values["--rules"]
         self.anonymous = values["--anonymous"]
-        self.idle, self.patience, self.sessions, self.spool_bytes, self.slice, workers = (int(values[option]) for option in NUMBERS)
+        numbers = (int(values[option]) for option in NUMBERS)
+        self.idle, self.patience, self.sessions, self.spool_bytes, self.slice, workers, self.refused_bytes = numbers
         self.workers = {"fetch": max(1, workers // 2), "push": max(1, workers // 4)}  # how many may be busy with packs
 
 

@@ -6,7 +6,7 @@ from .ends import Client, ServerRefused, Sessions
 from .names import is_user, repository_of
 from .record import Record
 from .settings import OPTIONS, Settings
-from .slots import take_slot, take_worker
+from .slots import RefusedBytes, take_slot, take_worker
 from .streams import Cut, Refused, Spool, limit_waiting
 from .talk import BadCommand, talk
 
@@ -49,12 +49,16 @@ def serve(client, settings, record, command):
     if command.startswith(PUSH):
         from .push import push
 
-        return push(client, sessions, record.repository, settings.slice, follow_push(client, settings, record))
+        return push(client, sessions, record.repository, settings.slice, refused_bytes_of(settings, record.user), follow_push(client, settings, record))
     return talk(client, sessions, record.user, command.split(" "))
 
 
 def sessions_of(settings, user, command):
     return Sessions(settings.address, user, command, settings.patience, lambda kind: take_worker(settings.spool, kind, settings.workers[kind]))
+
+
+def refused_bytes_of(settings, user):
+    return RefusedBytes(settings.spool, user, settings.refused_bytes)
 
 
 def follow_push(client, settings, record):

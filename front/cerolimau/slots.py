@@ -93,6 +93,37 @@ class Slot:
         return total
 
 
+class RefusedBytes:
+    """How many bytes of objects a user's refused pushes have brought since midnight (UTC): the server's log keeps them for ever, so there is a bound."""
+
+    def __init__(self, folder, user, most):
+        self._path = os.path.join(folder, ".refused." + user)
+        self._user, self._most = user, most
+
+    def fault(self):
+        """Why no further push is taken today; empty where one is."""
+        with _locked(self._path) as file:
+            total = self._read(file)
+        if total <= self._most:
+            return ""
+        return "refused pushes of %s have brought %d bytes today, and may bring %d: wait until tomorrow" % (self._user, total, self._most)
+
+    def add(self, count):
+        with _locked(self._path) as file:
+            total = self._read(file) + count
+            file.truncate(0)
+            file.write(b"%d %d" % (_day(), total))
+
+    def _read(self, file):
+        file.seek(0)
+        words = file.read().split()
+        return int(words[1]) if len(words) == 2 and int(words[0]) == _day() else 0
+
+
+def _day():
+    return int(time.time()) // 86_400
+
+
 def _locked(path):
     """A file that is locked until it is closed."""
     file = open(path, "a+b")

@@ -11,7 +11,7 @@ from .names import NAME_BYTES, is_user, repository_of
 from .packets import FLUSH, packet
 from .record import Record
 from .settings import Settings
-from .shell import FETCH, PUSH, end, follow_push, sessions_of, take_room
+from .shell import FETCH, PUSH, end, follow_push, refused_bytes_of, sessions_of, take_room
 from .streams import Refused, limit_waiting, reader
 
 SERVICES = FETCH, PUSH
@@ -116,7 +116,7 @@ def run(client, record, program, words, environment):
         return fetch_once(client, sessions)
     from .push import receive
 
-    return receive(client, sessions, repository, settings.slice, follow_push(client, settings, record))
+    return receive(client, sessions, repository, settings.slice, refused_bytes_of(settings, user), follow_push(client, settings, record))
 
 
 def read_target(environment):

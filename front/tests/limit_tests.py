@@ -1,5 +1,6 @@
 """The server's limits, as the front end tells them."""
 import hashlib
+import os
 import struct
 import zlib
 
@@ -153,7 +154,22 @@ def slices(here):
     expect(said, "nothing was pushed", "%s folder/large has 16777217 bytes" % here.head(made, "HEAD:folder/large"))
 
 
+def refused_bytes(here):
+    """What refused pushes bring stays in the log, so a user has a bound on it for each day; what is done doesn't count."""
+    made = here.repository({"large": os.urandom(300_000)})
+    options = "--refused-bytes", "500000", "--spool", str(here.folder() / "spool")
+    denied = "master:refs/heads/personal/ann/x"
+    for _ in range(2):
+        expect(here.git("cal", "push", "here:site", denied, cwd=made, status=1, options=options), "DENIED by refs/heads/personal/")
+    here.git("bob", "push", "here:t/bytes", "master", cwd=made, options=options)
+    for command in denied, "master:refs/heads/personal/cal/x":
+        said = here.git("cal", "push", "here:site", command, cwd=made, status=1, options=options)
+        expect(said, "remote unpack failed: refused pushes of cal have brought 600", "bytes today, and may bring 500000: wait until tomorrow")
+    here.git("cal", "fetch", "here:t/bytes", "master", cwd=made, options=options)
+    here.git("bob", "push", "here:t/bytes", "master:more", cwd=made, options=options)
+
+
 TESTS = (
     too_many_objects, too_large_object, too_large_by_delta, too_many_bytes, too_many_bytes_by_deltas, huge_sizes, too_many_lines,
-    slices,
+    slices, refused_bytes,
 )
