@@ -7,6 +7,8 @@ import shutil
 import signal
 import socket
 import subprocess
+import threading
+import time
 import urllib.error
 import urllib.request
 
@@ -14,7 +16,7 @@ from cerolimau.packets import FLUSH, packet
 
 from .limit_tests import import_blobs
 from .ssh_tests import can_connect, wait_for
-from .world import CONF, FRONT, Skip, at_once, expect, run
+from .world import CONF, FRONT, Skip, at_once, expect, run, start_server
 
 NGINX, FCGIWRAP, APACHE = "/usr/sbin/nginx", "/usr/sbin/fcgiwrap", "/usr/sbin/apache2"
 MODULES = "/usr/lib/apache2/modules"
@@ -96,12 +98,13 @@ class Web:
 
 
 @contextlib.contextmanager
-def running_web(here, kind, anonymous=""):
+def running_web(here, kind, anonymous="", patience=1):
     if os.getuid() or not os.path.exists(FCGIWRAP) or not os.path.exists({"nginx": NGINX, "apache": APACHE}[kind]):
         raise Skip("it wants root, fcgiwrap and %s" % kind)
     room = here.folder()
     shutil.copytree(FRONT, room / "front", ignore=shutil.ignore_patterns("__pycache__", "tests"))
-    (room / "cerolimau.conf").write_text("SPOOL=%s\nLOG=%s\nANONYMOUS=%s\nPATIENCE=1\nSESSIONS=12\n" % (room / "spool", room / "log", anonymous))
+    (room / "cerolimau.conf").write_text("SPOOL=%s\nLOG=%s\nANONYMOUS=%s\nPATIENCE=%d\nSESSIONS=12\n" % (
+        room / "spool", room / "log", anonymous, patience))
     passwords = ["%s:{PLAIN}%s-word\n" % (user, user) for user in USERS]
     if kind == "apache":
         passwords = [run(["openssl", "passwd", "-apr1", user + "-word"]).join([user + ":", ""]) for user in USERS]
@@ -257,4 +260,32 @@ def anonymous_readers(here):
         expect(web.git("eve", "push", web.url("open"), "master:x", cwd=made, status=128), "Authentication failed")
 
 
-TESTS = *by("nginx"), *by("apache"), anonymous_readers
+def restart_over_nginx(here):
+    """While the server restarts, a push and a fetch over HTTP wait for it; where it stays away, the client is told so."""
+    with running_web(here, "nginx", patience=60) as web:
+        made = here.repository()
+        web.git("ann", "push", web.url("t/restarted"), "master", cwd=made)
+        here.server.kill()
+        here.server.wait()
+        there = here.folder()
+        calls = [
+            lambda: web.git("ann", "push", web.url("t/restarted"), "master:again", cwd=made),
+            lambda: web.git("bob", "clone", web.url("t/restarted"), ".", cwd=there),
+        ]
+        threads = [threading.Thread(target=call) for call in calls]
+        for thread in threads:
+            thread.start()
+        time.sleep(1)
+        here.server = start_server(here.host, here.room)
+        for thread in threads:
+            thread.join(60)
+        assert here.head(there) == here.head(made)
+        assert "refs/heads/again" in web.git("bob", "ls-remote", web.url("t/restarted"))
+    here.server.kill()
+    here.server.wait()
+    with running_web(here, "nginx") as web:
+        expect(web.git("bob", "ls-remote", web.url("t/restarted"), status=128), "fatal: remote error: cerolimau: the server isn't there")
+    here.server = start_server(here.host, here.room)
+
+
+TESTS = *by("nginx"), *by("apache"), anonymous_readers, restart_over_nginx
