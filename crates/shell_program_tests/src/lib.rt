@@ -1,21 +1,12 @@
-//! Tests of `session_core`, `receive_pack`, `upload_pack`, `git_session`, `session_workers` and `shell_program`, by what is public there. They are one crate, since each crate of tests proves anew how values of the types that it uses are dropped.
+//! Tests of `session_workers` and `shell_program`, by what is public there. They are one crate, since each crate of tests proves anew how values
+//! of the types that it uses are dropped.
 #![tactic(auto)]
 
 #[cfg(test)]
 mod edge_tests;
 #[cfg(test)]
-mod fetch_tests;
-#[cfg(test)]
 mod lone_tests;
 #[cfg(test)]
-mod push_tests;
-#[cfg(test)]
-mod receive_pack_tests;
-#[cfg(test)]
 mod serve_tests;
-#[cfg(test)]
-mod session_core_tests;
-#[cfg(test)]
-mod session_tests;
 #[cfg(test)]
 mod session_workers_tests;

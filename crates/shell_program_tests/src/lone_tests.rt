@@ -1,10 +1,9 @@
 // Want of memory in the program run by one caller. `front/tests` has rows of its words, streams and statuses.
-use crate::push_tests::{first_pack, push_of};
-use crate::session_tests::{DONE, EMPTY, first_push, is_granted, told};
 use base_types::NoMemory;
 use hub::Outcome;
 use pktline_core::MemoryLink;
 use record_file::MemoryDisk;
+use session_tests::samples::{DONE, EMPTY, first_pack, first_push, is_granted, push_of, told};
 use shell_program::{Ended, lone_main};
 use std::alloc::Global;
 use std::test::Fail;

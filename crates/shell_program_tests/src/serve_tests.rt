@@ -1,12 +1,11 @@
 // `serve` over memory doors.
 use crate::lone_tests::{USAGE, empty_disk, link, words};
-use crate::push_tests::{first_pack, push_of};
-use crate::session_tests::{DONE, EMPTY, MASTER, first_push};
 use base_types::NoMemory;
 use edge_links::MemoryDoor;
 use hub::Hub;
 use pktline_core::MemoryLink;
 use session_core::OpenGate;
+use session_tests::samples::{DONE, EMPTY, MASTER, first_pack, first_push, push_of};
 use session_workers::Post;
 use shell_program::shell_main;
 use std::alloc::Global;

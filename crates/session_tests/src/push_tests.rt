@@ -1,48 +1,13 @@
 // Sessions that push several commands, or a pack that is refused. The shipped script has the rows of what each is told.
 ghost use Rattle.std.specs.Prelude.{◌≤◌};
 
-use crate::session_tests::{OPENING, first_push, new_desk, serve};
+use crate::git_session_tests::{new_desk, serve};
+use crate::samples::{OPENING, first_pack, first_push};
 use hub::NoMemory;
 use raw_pack::PackFault;
 use session_core::SessionEnd;
 use std::alloc::Global;
 use std::test::Fail;
-
-// The old value, the new value and a space, of a create at the commit of the first push.
-const CREATE: &[u8] =
-    b"0000000000000000000000000000000000000000 1c73cda3964d5dd51bdaad94efd235c910cf59de ";
-
-// A packet of a create, whose length is given in its four digits.
-fn add_create(input: &mut Vec<u8>, size: &[u8], name: &[u8]) -> Result<(), NoMemory> {
-    input.extend_from_slice(size)?;
-    input.extend_from_slice(CREATE)?;
-    input.extend_from_slice(name)?;
-    Ok(())
-}
-
-// An opening, these creates, a flush, and a pack.
-pub fn push_of(
-    alloc: Global,
-    creates: &[(&[u8], &[u8])],
-    pack: &[u8],
-) -> Result<Vec<u8>, NoMemory> {
-    let mut input = OPENING.to_vec(alloc)?;
-    for (size, name) in creates {
-        add_create(&mut input, size, name)?;
-    }
-    input.extend_from_slice(b"0000")?;
-    input.extend_from_slice(pack)?;
-    Ok(input)
-}
-
-// The pack of the first push.
-pub fn first_pack(alloc: Global) -> Result<Vec<u8>, NoMemory> {
-    let input = first_push(alloc)?;
-    match input.split_at_checked(157) {
-        Some((_, pack)) => Ok(pack.to_vec(alloc)?),
-        None => Ok(input),
-    }
-}
 
 // The first packet has 36 bytes, the commands up to their flush 121, and the two entries of the pack 170 and 1.
 #[test]

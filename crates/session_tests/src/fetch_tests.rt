@@ -1,5 +1,6 @@
 // Fetches up to their limits, and fetches that are cut off. The shipped script has the rows of what each is told.
-use crate::session_tests::{first_push, new_desk, serve};
+use crate::git_session_tests::{new_desk, serve};
+use crate::samples::first_push;
 use git_session::{SessionBuffer, session};
 use hub::{LoneDesk, NoMemory};
 use pktline_core::MemoryLink;

@@ -1,43 +1,12 @@
 // Sessions over a link of memory and the only desk of a new hub.
+use crate::samples::{OPENING, first_push, is_answered};
 use conf_lex::UserName;
 use git_session::{SessionBuffer, session};
-use hub::{EnterKept, EntryList, Event, Hub, LoneDesk, NoMemory, Outcome, Verdict};
+use hub::{EnterKept, Hub, LoneDesk, NoMemory, Verdict};
 use pktline_core::MemoryLink;
 use session_core::{Gate, OpenGate, SessionEnd};
 use std::alloc::Global;
 use std::test::Fail;
-
-pub const OPENING: &[u8] = b"0024carol git-receive-pack 'testing'";
-
-const COMMAND: &[u8] =
-    b"00750000000000000000000000000000000000000000 1c73cda3964d5dd51bdaad94efd235c910cf59de refs/heads/master\0report-status0000";
-
-const COMMIT: &[u8] =
-    b"tree 4b825dc642cb6eb9a060e54bf8d69288fbee4904\nauthor Carol <carol@example.com> 1700000000 +0000\ncommitter Carol <carol@example.com> 1700000000 +0000\n\nfirst\n";
-
-const TRAILER: [u8; 20] = [
-    0x64, 0xe5, 0x6d, 0xb6, 0x5e, 0x40, 0xed, 0x16, 0x0b, 0x3b, 0xd3, 0x40, 0x52, 0x5a, 0xb6, 0x1e,
-    0x82, 0x69, 0xdb, 0xdb,
-];
-
-pub const EMPTY: &[u8] =
-    b"00660000000000000000000000000000000000000000 capabilities^{}\0report-status delete-refs no-thin atomic\n0000";
-
-pub const MASTER: &[u8] =
-    b"00681c73cda3964d5dd51bdaad94efd235c910cf59de refs/heads/master\0report-status delete-refs no-thin atomic\n0000";
-
-pub const DONE: &[u8] = b"000eunpack ok\n0019ok refs/heads/master\n0000";
-
-// An opening, a create of a branch, and its pack.
-pub fn first_push(alloc: Global) -> Result<Vec<u8>, NoMemory> {
-    let mut input = OPENING.to_vec(alloc)?;
-    input.extend_from_slice(COMMAND)?;
-    input.extend_from_slice(b"PACK\0\0\0\x02\0\0\0\x02\x9c\x09")?;
-    input.extend_from_slice(COMMIT)?;
-    input.extend_from_slice(b"\x20")?;
-    input.extend_from_slice(&TRAILER)?;
-    Ok(input)
-}
 
 pub fn new_desk(alloc: Global) -> Result<LoneDesk, NoMemory> {
     let Some(admin) = UserName::parse(alloc, b"admin")? else {
@@ -64,30 +33,6 @@ pub fn serve(
     );
     let written = link.written().to_vec(alloc)?;
     Ok((end, written))
-}
-
-// Whether an opening at a place of the log was answered so.
-pub fn is_answered(log: &EntryList, place: usize, due: EnterKept) -> bool {
-    let Some(entry) = log.get(place) else {
-        return false;
-    };
-    match &entry.event {
-        Event::Entered { answer, .. } => *answer == due,
-        _ => false,
-    }
-}
-
-pub fn is_granted(log: &EntryList, place: usize) -> bool {
-    is_answered(log, place, EnterKept::Granted)
-}
-
-// What the first command of the push at a place of the log was told.
-pub fn told(log: &EntryList, place: usize) -> Option<&Outcome> {
-    let entry = log.get(place)?;
-    match &entry.event {
-        Event::Pushed { outcomes, .. } => outcomes.get(0),
-        _ => None,
-    }
 }
 
 // A gate that tells how often it was called, and the place of the last opening.

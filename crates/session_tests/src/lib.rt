@@ -1,0 +1,17 @@
+//! Tests of `session_core`, `receive_pack`, `upload_pack` and `git_session`, by what is public there. They are one crate, since each crate of
+//! tests proves anew how values of the types that it uses are dropped.
+//!
+//! - `samples`: what sessions of several crates of tests read and write.
+#![tactic(auto)]
+
+#[cfg(test)]
+mod fetch_tests;
+#[cfg(test)]
+mod git_session_tests;
+#[cfg(test)]
+mod push_tests;
+#[cfg(test)]
+mod receive_pack_tests;
+pub mod samples;
+#[cfg(test)]
+mod session_core_tests;
