@@ -129,7 +129,7 @@ def read_target(environment):
     path = environment.get("PATH_INFO", "")
     query, method = environment.get("QUERY_STRING", ""), environment.get("REQUEST_METHOD", "")
     end = next((end for end in (QUESTION, *SERVICES) if path.endswith("/" + end)), "")
-    name = path.removeprefix("/").removesuffix("/" + end)
+    name = path.removesuffix("/" + end).removeprefix("/")
     repository = repository_of("x '%s'" % name) if end and NAME_BYTES.issuperset(name) else ""
     if not repository:
         raise Answer(404, "no such path")
