@@ -85,7 +85,15 @@ class Questions:
 
 def answers(conf, asked, program):
     """The answers by their keys, and the numbers of the idle rules: those that cover an asked repository and decide no question."""
-    return one_file(conf, asked, program) if len(conf.files) == 1 else several_files(conf, asked)
+    return one_file(conf, asked, program) if len(conf.files) == 1 and has_report(program) else several_files(conf, asked)
+
+
+def has_report(program):
+    """Whether the program has the command `access`: its usage line names it."""
+    try:
+        return " access" in subprocess.run([program], stdin=subprocess.DEVNULL, stdout=subprocess.PIPE, text=True).stdout
+    except OSError:
+        return False
 
 
 def one_file(conf, asked, program):

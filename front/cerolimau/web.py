@@ -6,7 +6,7 @@ web server's, and fields of the request reach a CGI program only as `HTTP_..`.
 import os
 import signal
 
-from .ends import Client
+from .ends import Client, ServerRefused
 from .names import NAME_BYTES, is_user, repository_of
 from .packets import FLUSH, packet
 from .record import Record
@@ -63,13 +63,18 @@ class WebClient(Client):
             super().tell(text)  # else there is nobody to read it
 
     def refuse(self, refused):
-        """In the response's own form where it may have begun, else as a text."""
-        if isinstance(refused, Answer) or self.asks_who and not self._is_begun or not self.media:
-            status = 401 if self.asks_who else refused.status if isinstance(refused, Answer) else 400
-            self.begin(status, "text/plain; charset=utf-8")
-            self._sink.write(("%s\n" % refused).encode(errors="replace"))
+        """In the form of git's responses, or as a text: where the request is none of git's, and where somebody without a name may give one."""
+        if isinstance(refused, Answer):
+            status = refused.status
+        elif self.asks_who and isinstance(refused, ServerRefused) and not self._is_begun:
+            status = 401
+        elif not self.media:
+            status = 400
+        else:
+            super().refuse(refused)
             return
-        super().refuse(refused)
+        self.begin(status, "text/plain; charset=utf-8")
+        self._sink.write(("%s\n" % refused).encode(errors="replace"))
 
     def flush(self):
         if self.media and not self._is_begun:
@@ -124,7 +129,7 @@ def read_target(environment):
     path = environment.get("PATH_INFO", "")
     query, method = environment.get("QUERY_STRING", ""), environment.get("REQUEST_METHOD", "")
     end = next((end for end in (QUESTION, *SERVICES) if path.endswith("/" + end)), "")
-    name = path.removeprefix("/").removesuffix("/" + end)
+    name = path.removesuffix("/" + end).removeprefix("/")
     repository = repository_of("x '%s'" % name) if end and NAME_BYTES.issuperset(name) else ""
     if not repository:
         raise Answer(404, "no such path")

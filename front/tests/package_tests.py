@@ -115,7 +115,7 @@ def in_a_machine(here, package, script, folders=()):
     (files / "day").write_text(script)
     text = INSIDE.format(room=room, files=files)
     ran = subprocess.run(["unshare", "--mount", "--net", "sh", "-ex", "-c", text],
-                         stdin=subprocess.DEVNULL, stdout=subprocess.PIPE, stderr=subprocess.STDOUT, text=True, errors="replace", timeout=250)
+                         stdin=subprocess.DEVNULL, stdout=subprocess.PIPE, stderr=subprocess.STDOUT, text=True, errors="replace", timeout=900)
     if "wrong fs type" in ran.stdout:
         raise Skip("no overlay file system")
     expect(ran.stdout, "the day is over\n")

@@ -4,7 +4,7 @@ import os
 import shutil
 import subprocess
 
-from cerolimau.access_questions import Conf, Questions, one_file, several_files
+from cerolimau.access_questions import Conf, Questions, has_report, one_file, several_files
 
 from .world import CONF, FRONT, Skip, expect, run, write_files
 
@@ -67,6 +67,8 @@ def programs(here):
 def answers_by_both_programs(here):
     """A conf of one file has the same answers by the report and by the rules; one of several files is asked too, and one with a fault is refused."""
     programs(here)
+    if not has_report(here.program):
+        raise Skip("the program has no command access")
     conf = Conf("one", {"gitolite.conf": CONF.encode()}, str(ACCESS_ROWS))
     asked = Questions.read(ASK)
     found, idle = one_file(conf, asked, here.program)

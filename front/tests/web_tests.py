@@ -256,6 +256,7 @@ def anonymous_readers(here):
         web.git("", "clone", web.url("open"), cwd=here.folder())
         expect(web.git("", "push", web.url("open"), "master:x", cwd=made, status=128), "could not read Username")
         assert web.ask("open/info/refs?service=git-receive-pack", user="")[0] == 401
+        assert web.ask("open/HEAD", user="")[0] == 404
         assert web.ask("open/info/refs?service=git-receive-pack", user="ann", password="a guess")[0] == 401
         expect(web.git("eve", "push", web.url("open"), "master:x", cwd=made, status=128), "Authentication failed")
 
