@@ -1,0 +1,9 @@
+pub mod WritingLemmas
+mod AnswerLemmas
+mod DueLemmas
+mod MarkLemmas
+mod PlaceLemmas
+mod ReadingLemmas
+mod ReportLemmas
+mod RoleLemmas
+mod TextLemmas

@@ -1,0 +1,10 @@
+use Rattle.std.proofs.Common.{◌≡◌, Err, rules}
+use Rattle.access_report.specs.declared.report.ReportFault.TheVariants.{NoMemory}
+use Rattle.access_report.proofs.TextLemmas.{some_idle, some_waiting}
+use Rattle.access_report.proofs.WritingLemmas.{stops_first}
+use Rattle.access_report.proofs.report.print_idle.Goals as goal
+
+pub returns-in_err-push_idle_line-clause-err : goal.returns-in_err-push_idle_line-clause-err
+returns-in_err-push_idle_line-clause-err g c =
+    let answer : c.from_residual.result ≡ Err NoMemory = search rules in
+    rw answer (λ ps are questions deciding. stops_first _ _ (some_waiting _ _ (some_idle _ _ _ _)))

@@ -1,0 +1,10 @@
+pub mod Lists
+pub mod Reading
+pub mod Answers
+pub mod Marks
+pub mod Text
+pub mod Report
+pub mod Writing
+pub mod Changes
+pub mod Access
+pub mod Laws
