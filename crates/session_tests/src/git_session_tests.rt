@@ -1,10 +1,10 @@
 // Sessions over a link of memory and the only desk of a new hub.
-use crate::samples::{OPENING, first_push, is_answered};
 use conf_lex::UserName;
 use git_session::{SessionBuffer, session};
 use hub::{EnterKept, Hub, LoneDesk, NoMemory, Verdict};
 use pktline_core::MemoryLink;
 use session_core::{Gate, OpenGate, SessionEnd};
+use session_samples::{OPENING, first_push, is_answered};
 use std::alloc::Global;
 use std::test::Fail;
 

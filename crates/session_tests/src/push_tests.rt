@@ -2,10 +2,10 @@
 ghost use Rattle.std.specs.Prelude.{◌≤◌};
 
 use crate::git_session_tests::{new_desk, serve};
-use crate::samples::{OPENING, first_pack, first_push};
 use hub::NoMemory;
 use raw_pack::PackFault;
 use session_core::SessionEnd;
+use session_samples::{OPENING, add_create, first_pack, first_push};
 use std::alloc::Global;
 use std::test::Fail;
 

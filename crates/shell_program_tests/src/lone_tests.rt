@@ -3,7 +3,7 @@ use base_types::NoMemory;
 use hub::Outcome;
 use pktline_core::MemoryLink;
 use record_file::MemoryDisk;
-use session_tests::samples::{DONE, EMPTY, first_pack, first_push, is_granted, push_of, told};
+use session_samples::{DONE, EMPTY, first_pack, first_push, is_granted, push_of, told};
 use shell_program::{Ended, lone_main};
 use std::alloc::Global;
 use std::test::Fail;

@@ -5,7 +5,7 @@ use edge_links::MemoryDoor;
 use hub::Hub;
 use pktline_core::MemoryLink;
 use session_core::OpenGate;
-use session_tests::samples::{DONE, EMPTY, MASTER, first_pack, first_push, push_of};
+use session_samples::{DONE, EMPTY, MASTER, first_pack, first_push, push_of};
 use session_workers::Post;
 use shell_program::shell_main;
 use std::alloc::Global;

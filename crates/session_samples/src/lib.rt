@@ -1,4 +1,6 @@
 //! What sessions of several crates of tests read and write, and what is looked for in their logs.
+#![tactic(auto)]
+
 use hub::{EnterKept, EntryList, Event, NoMemory, Outcome};
 use std::alloc::Global;
 
@@ -42,8 +44,8 @@ pub fn first_push(alloc: Global) -> Result<Vec<u8>, NoMemory> {
 const CREATE: &[u8] =
     b"0000000000000000000000000000000000000000 1c73cda3964d5dd51bdaad94efd235c910cf59de ";
 
-// A packet of a create, whose length is given in its four digits.
-fn add_create(input: &mut Vec<u8>, size: &[u8], name: &[u8]) -> Result<(), NoMemory> {
+/// A packet of a create, whose length is given in its four digits.
+pub fn add_create(input: &mut Vec<u8>, size: &[u8], name: &[u8]) -> Result<(), NoMemory> {
     input.extend_from_slice(size)?;
     input.extend_from_slice(CREATE)?;
     input.extend_from_slice(name)?;

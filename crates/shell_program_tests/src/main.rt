@@ -1,5 +1,7 @@
 //! Tests of `session_workers` and `shell_program`, by what is public there. They are one crate, since each crate of tests proves anew how values
 //! of the types that it uses are dropped.
+//!
+//! It is a program, which does nothing, since `rt ci` takes minutes to begin and end a library that stands so high.
 #![tactic(auto)]
 
 #[cfg(test)]
@@ -10,3 +12,5 @@ mod lone_tests;
 mod serve_tests;
 #[cfg(test)]
 mod session_workers_tests;
+
+fn main(_rt: HostRuntime) {}
