@@ -162,7 +162,7 @@ def refused_bytes(here):
     for _ in range(2):
         expect(here.git("cal", "push", "here:site", denied, cwd=made, status=1, options=options), "DENIED by refs/heads/personal/")
     here.git("bob", "push", "here:t/bytes", "master", cwd=made, options=options)
-    for command in denied, "master:refs/heads/personal/cal/x":
+    for command in denied, "master:refs/heads/personal/cal/bytes":
         said = here.git("cal", "push", "here:site", command, cwd=made, status=1, options=options)
         expect(said, "remote unpack failed: refused pushes of cal have brought 600", "bytes today, and may bring 500000: wait until tomorrow")
     here.git("cal", "fetch", "here:t/bytes", "master", cwd=made, options=options)
