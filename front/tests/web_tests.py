@@ -249,6 +249,9 @@ def refused_requests(web):
 
 def anonymous_readers(here):
     """Where the setup says so, whoever has no name is a user of its choice, and is asked for a name where that one is refused."""
+    clone = here.room / "gitolite-admin"
+    here.git("admin", "fetch", "origin", cwd=clone)  # others may have pushed keys
+    here.git("admin", "reset", "--hard", "origin/master", cwd=clone)
     here.put_conf(CONF + "repo open\n    RW+ = ann\n    R = anonymous\n")
     with running_web(here, "nginx", "anonymous") as web:
         made = here.repository()
