@@ -161,12 +161,12 @@ def refused_bytes(here):
     denied = "master:refs/heads/personal/ann/x"
     for _ in range(2):
         expect(here.git("cal", "push", "here:site", denied, cwd=made, status=1, options=options), "DENIED by refs/heads/personal/")
-    here.git("bob", "push", "here:t/bytes", "master", cwd=made, options=options)
+    here.git("bob", "push", "here:t/refused", "master", cwd=made, options=options)
     for command in denied, "master:refs/heads/personal/cal/bytes":
         said = here.git("cal", "push", "here:site", command, cwd=made, status=1, options=options)
         expect(said, "remote unpack failed: refused pushes of cal have brought 600", "bytes today, and may bring 500000: wait until tomorrow")
-    here.git("cal", "fetch", "here:t/bytes", "master", cwd=made, options=options)
-    here.git("bob", "push", "here:t/bytes", "master:more", cwd=made, options=options)
+    here.git("cal", "fetch", "here:t/refused", "master", cwd=made, options=options)
+    here.git("bob", "push", "here:t/refused", "master:more", cwd=made, options=options)
 
 
 TESTS = (
