@@ -19,7 +19,7 @@ static ROWS: [(&str, &str, &str, &str, Printed); 14] = [
         "repo site\nuser bob\nref refs/heads/a/x\n",
         CONF,
         "",
-        "site bob any read R allowed by 3\nsite bob any write W allowed by 3\nsite bob refs/heads/a/x create W allowed by 3\nsite bob refs/heads/a/x forward W allowed by 3\nsite bob refs/heads/a/x rewind + fallthru\nsite bob refs/heads/a/x delete + fallthru\nidle 1 2\n",
+        "site bob any read R allowed by 4\nsite bob any write W allowed by 4\nsite bob refs/heads/a/x create W allowed by 4\nsite bob refs/heads/a/x forward W allowed by 4\nsite bob refs/heads/a/x rewind + fallthru\nsite bob refs/heads/a/x delete + fallthru\nidle 1 2 3\n",
         Printed::Report,
     ),
     // a pattern with the creator's name in its hole covers nothing that another created
