@@ -26,4 +26,7 @@ def read_job(path):
 
 
 def _shared(path, flags):
-    return os.open(path, flags, 0o660)
+    """The account of the hooks reads it, whatever the umask; the queue's folder keeps others out."""
+    made = os.open(path, flags, 0o644)
+    os.fchmod(made, 0o644)
+    return made

@@ -35,6 +35,8 @@ man -l /usr/share/man/man8/cerolimau-setup.8.gz > /dev/null
 cerolimau --version
 cerolimau-setup root.pub
 cerolimau-setup root.pub
+printf '#!/bin/sh\\ncat > /var/lib/cerolimau-hooks/ran\\n' > /etc/cerolimau/after-push.d/10-note
+chmod 755 /etc/cerolimau/after-push.d/10-note
 mkdir -p /run/sshd
 ssh-keygen -q -A
 /usr/sbin/sshd
@@ -46,6 +48,8 @@ cp /tmp/bob.pub keydir/
 cerolimau-check-conf . --admin root
 git add . && git commit -qm rules && git push -q origin master
 git push -q git@localhost:site master
+for second in 1 2 3 4 5; do grep -qs refs/heads/master /var/lib/cerolimau-hooks/ran && break; sleep 1; done
+grep -q refs/heads/master /var/lib/cerolimau-hooks/ran
 cd ..
 GIT_SSH_COMMAND="ssh -i /tmp/bob -o StrictHostKeyChecking=no -o IdentitiesOnly=yes -o BatchMode=yes -o LogLevel=ERROR"
 git clone -q git@localhost:site clone
