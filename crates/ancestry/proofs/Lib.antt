@@ -11,5 +11,7 @@ pub mod ReachedLemmas
 pub mod LineLemmas
 pub mod GenerationLemmas
 pub mod AboveLemmas
-pub mod PlaceLemmas
+pub mod RunLemmas
+pub mod RunSetLemmas
+pub mod ClosureLemmas
 pub mod TagLemmas

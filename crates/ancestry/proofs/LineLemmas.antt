@@ -1,17 +1,15 @@
--- Ancestors and lines, and walks that stop short.
-use Rattle.std.proofs.Common.{◌≡◌, Bool, true, false, cond, List, [], ◌∷◌, ◌++◌, map, Option, None, Some, Contains, refl, sym, ap, subst}
+-- Ancestors and lines, and links.
+use Rattle.std.proofs.Common.{List, [], ◌∷◌, ◌++◌, map, Option, None, Some, Contains, refl, sym, ap, subst}
 use Rattle.std.specs.Option.{option_map_or}
-use Rattle.std.specs.List.{list_any}
-use Rattle.ancestry.proofs.ListLemmas.{contains_here, contains_one, contains_none, contains_map, map_contains, any_contains, contains_any}
+use Rattle.ancestry.proofs.ListLemmas.{contains_here, contains_one, contains_none, contains_map, map_contains}
 use Rattle.git_object.specs.Content.{Content}
 use Rattle.git_object.specs.declared.object_id.ObjectId.{ObjectId}
 use Rattle.git_object.specs.declared.kind.Kind.{Kind}
 use Rattle.git_object.specs.Object.{links_of}
-use Rattle.ref_store.specs.Objects.{first_named, same_id}
-use Rattle.ref_store.proofs.ObjectLemmas.{id_is, id_itself}
+use Rattle.ref_store.specs.Objects.{first_named}
 use Rattle.ancestry.specs.Reached.{IsReached, Root, Next}
-use Rattle.ancestry.specs.Sent.{linked_at, linked_outside}
-use Rattle.ancestry.specs.Walk.{Want, IsMet, wanted_by, links_at}
+use Rattle.ancestry.specs.Sent.{linked_at}
+use Rattle.ancestry.specs.Walk.{Want, IsMet, wanted_by}
 use Rattle.ancestry.specs.Walk as walk
 use Rattle.ancestry.specs.Ancestors.{parents_at, IsAncestor, IsLine}
 
@@ -31,39 +29,6 @@ module _ (objects : List Content) where
   pub of_line : (ancestor id : ObjectId) (line : List ObjectId) → IsLine objects id line ancestor → IsAncestor objects ancestor id
   of_line ancestor id [] is = Root ancestor (subst (λ (i : ObjectId). Contains (id ∷ []) i) is (contains_here id []))
   of_line ancestor id (next ∷ line) is = further next id ancestor (of_line ancestor next line is.1) (Next id next (Root id (contains_here id [])) is.0)
-
--- ---- walks that go nowhere from some names
-
-contains_if : (b : Bool) (ids : List ObjectId) (id : ObjectId) → Contains (cond b [] ids) id → Contains ids id
-contains_if true ids id c = absurd (contains_none id c)
-contains_if false ids id c = c
-
-pub outside_none : (objects : List Content) (had : List ObjectId) (id : ObjectId) → Contains had id → linked_outside objects had id ≡ []
-outside_none objects had id c = ap (λ (b : Bool). cond b [] (linked_at objects id)) (contains_any (same_id id) had id c (id_itself id))
-
-pub outside_links : (objects : List Content) (had : List ObjectId) (id : ObjectId) → ¬ Contains had id → linked_outside objects had id ≡ linked_at objects id
-outside_links objects had id isnt = by_test (list_any (same_id id) had) refl
-  where
-    by_test : (b : Bool) → list_any (same_id id) had ≡ b → linked_outside objects had id ≡ linked_at objects id
-    by_test true t = let found = any_contains (same_id id) had t in absurd (isnt (subst (λ (i : ObjectId). Contains had i) (sym (id_is id found.0 found.2)) found.1))
-    by_test false t = ap (λ (b : Bool). cond b [] (linked_at objects id)) t
-
--- what is reached from the wants and not from the haves is met where a walk goes nowhere from what is had
-module _ (objects : List Content) (wants haves had : List ObjectId) (known : (id : ObjectId) → (Contains had id → IsReached (linked_at objects) haves id) × (IsReached (linked_at objects) haves id → Contains had id)) where
-  pub outside_reached : (id : ObjectId) → IsReached (linked_outside objects had) wants id → IsReached (linked_at objects) wants id
-  outside_reached id (Root root c) = Root id c
-  outside_reached id (Next from to is link) = Next from id (outside_reached from is) (contains_if (list_any (same_id from) had) (linked_at objects from) id link)
-
-  pub fresh_outside : (id : ObjectId) → IsReached (linked_at objects) wants id → ¬ IsReached (linked_at objects) haves id → IsReached (linked_outside objects had) wants id
-  fresh_outside id (Root root c) not_had = Root id c
-  fresh_outside id (Next from to is link) not_had = Next from id (fresh_outside from is before) (by_test (list_any (same_id from) had) refl)
-    where
-      before : ¬ IsReached (linked_at objects) haves from
-      before reached = not_had (Next from id reached link)
-
-      by_test : (b : Bool) → list_any (same_id from) had ≡ b → Contains (linked_outside objects had from) id
-      by_test true t = let found = any_contains (same_id from) had t in absurd (before ((known from).0 (subst (λ (i : ObjectId). Contains had i) (sym (id_is from found.0 found.2)) found.1)))
-      by_test false t = subst (λ (b : Bool). Contains (cond b [] (linked_at objects from)) id) (sym t) link
 
 -- ---- links, and walks that want a kind
 

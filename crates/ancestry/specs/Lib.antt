@@ -9,6 +9,8 @@ pub mod Seen
 pub mod IdSet
 pub mod Reached
 pub mod Ancestors
+pub mod Runs
 pub mod Sent
+pub mod Closures
 pub mod Tags
 pub mod Laws

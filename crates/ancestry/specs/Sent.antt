@@ -1,12 +1,12 @@
 -- What a fetch sends.
-use Rattle.std.specs.Prelude.{◌≡◌, ◌↔◌, ℕ, List, [], map, Some, slice_get, if◌then◌else◌}
+use Rattle.std.specs.Prelude.{◌≡◌, ◌↔◌, ℕ, List, [], map, Some, slice_get}
 use Rattle.std.specs.Option.{option_map_or}
-use Rattle.std.specs.List.{Contains, list_any}
+use Rattle.std.specs.List.{Contains}
 use Rattle.std.specs.List.Sorted.{IsStrictlyIncreasing}
 use Rattle.git_object.specs.Content.{Content}
 use Rattle.git_object.specs.Object.{links_of, object_name}
 use Rattle.git_object.specs.declared.object_id.ObjectId.{ObjectId}
-use Rattle.ref_store.specs.Objects.{first_named, same_id}
+use Rattle.ref_store.specs.Objects.{first_named}
 use Rattle.ancestry.specs.Reached.{IsReached}
 
 -- the names to which the object of this name links; where there is none, it links nowhere
@@ -24,20 +24,3 @@ pub record IsSent (objects : List Content) (wants haves : List ObjectId) (place 
 pub record AreSent (objects : List Content) (wants haves : List ObjectId) (places : List ℕ) : Type 0 where
   pub order : IsStrictlyIncreasing places
   pub are_those : (place : ℕ) → Contains places place ↔ IsSent objects wants haves place
-
--- steps on the way, which private functions cite
-
--- the links, but of some objects none
-abbrev pub linked_outside : List Content → List ObjectId → ObjectId → List ObjectId
-linked_outside objects without id = if list_any (same_id id) without then [] else linked_at objects id
-
--- the places of the objects whose names are among these and not among those, in order
-pub record IsPlaceOf (objects : List Content) (among without : List ObjectId) (place : ℕ) : Type 0 where
-  pub object : Content
-  pub there : slice_get objects place ≡ Some object
-  pub is : Contains among (object_name object)
-  pub is_not : ¬ Contains without (object_name object)
-
-pub record ArePlaces (objects : List Content) (among without : List ObjectId) (places : List ℕ) : Type 0 where
-  pub order : IsStrictlyIncreasing places
-  pub are_those : (place : ℕ) → Contains places place ↔ IsPlaceOf objects among without place

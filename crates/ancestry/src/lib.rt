@@ -10,19 +10,28 @@
 //! - `id_set`, `reached`: names, each once, and the one walk that goes along them;
 //! - `generations`: along the parents of commits, down to a generation;
 //! - `ancestors`: ancestors, and merges among them;
+//! - `front`: the first objects of a repository;
+//! - `runs`, `run_sets`: places in runs, and sets of them;
+//! - `closures`: what some objects lead to, as places, which are kept;
+//! - `closing`: how that is found;
 //! - `sent`: what a fetch sends;
 //! - `tags`: what a tag stands for;
 //! - `laws`: laws of the definitions.
 #![tactic(auto)]
 
 mod ancestors;
+mod closing;
+mod closures;
 mod facts;
+mod front;
 mod generations;
 mod id_set;
 mod known;
 mod laws;
 mod layers;
 mod reached;
+mod run_sets;
+mod runs;
 mod seen;
 mod sent;
 mod table;
@@ -33,6 +42,7 @@ mod wholeness;
 
 pub use ancestors::{Advance, advance_between, brings_merge, is_ancestor};
 pub use base_types::NoMemory;
+pub use closures::{Closures, closures_of};
 pub use facts::{Change, Facts};
 pub use known::{Findings, Known};
 pub use laws::hold_laws;

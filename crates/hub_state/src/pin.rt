@@ -8,7 +8,7 @@ ghost use Rattle.hub_history.specs.State.{store_of, wild_of};
 use crate::conf::ConfInForce;
 use crate::hosted::HostedRepo;
 use access_check::Want;
-use ancestry::Known;
+use ancestry::{Closures, Known};
 use conf_lex::{RepoName, UserName};
 use ref_store::Repo;
 use rule_compile::Policy;
@@ -41,6 +41,7 @@ impl Model for Pin {
 }
 
 impl Pin {
+    ghost use Rattle.ancestry.specs.Closures.{AreClosures};
     ghost use Rattle.ancestry.specs.Known.{AreKnown};
 
     pub fn new(
@@ -103,6 +104,13 @@ impl Pin {
         ensures { AreKnown self.now.pinned.repository.objects result.now }
     {
         self.hosted.known()
+    }
+
+    /// What some of its objects lead to.
+    pub fn closures(&self) -> &Closures
+        ensures { AreClosures self.now.pinned.repository.objects result.now }
+    {
+        self.hosted.closures()
     }
 
     pub fn conf(&self) -> &ConfInForce

@@ -1,25 +1,28 @@
 // What is found out of a push's pack before its turn.
 ghost use Rattle.std.specs.Prelude.{◌≡◌};
+ghost use Rattle.ancestry.specs.Closures.{AreClosures};
 ghost use Rattle.ancestry.specs.Known.{AreFound, AreKnown};
 ghost use Rattle.hub_state.specs.Prepared.{IsPrepared};
 
-use ancestry::{Findings, Known};
+use ancestry::{Closures, Findings, Known};
 use ref_store::{FreshObjects, Lens, Repo};
 use std::marker::Model;
 
 /// A pack beside the repository as it was at an opening: what it adds, with the segments that there are then where a command may be done; what walks
-/// found out; and what is known, with that where it is kept.
+/// found out; and what is known, with that where it is kept; and what the old values of its refs lead to.
 #[derive(Drop)]
 pub struct PreparedPack {
     repo: Repo,
     lens: Lens,
     findings: Findings,
     known: Known,
+    closures: Closures,
     // Nothing once it is taken.
     fresh: Option<FreshObjects>,
 }
 
 impl Model for PreparedPack {
+    ghost use Rattle.ancestry.specs.Closures.{AreClosures};
     ghost use Rattle.ancestry.specs.Known.{AreFound, AreKnown};
     ghost use Rattle.hub_state.specs.Prepared.{IsPrepared, PackView};
 
@@ -27,7 +30,7 @@ impl Model for PreparedPack {
 
     ghost view = { λ p. record { before = p.repo.objects; objects = p.lens } };
 
-    ghost invariant = { λ p. AreFound p.lens p.findings × AreKnown p.lens p.known × IsPrepared p.repo.objects p.lens p.fresh };
+    ghost invariant = { λ p. AreFound p.lens p.findings × AreKnown p.lens p.known × AreClosures p.repo.objects p.closures × IsPrepared p.repo.objects p.lens p.fresh };
 }
 
 impl PreparedPack {
@@ -36,10 +39,12 @@ impl PreparedPack {
         lens: Lens,
         findings: Findings,
         known: Known,
+        closures: Closures,
         fresh: Option<FreshObjects>,
     ) -> PreparedPack
         requires found { AreFound lens findings }
         requires known { AreKnown lens known }
+        requires closures { AreClosures repo.objects closures }
         requires fresh { IsPrepared repo.objects lens fresh }
         ensures { result ≡ record { before = repo.objects; objects = lens } }
     {
@@ -48,6 +53,7 @@ impl PreparedPack {
             lens,
             findings,
             known,
+            closures,
             fresh,
         }
     }
@@ -74,6 +80,13 @@ impl PreparedPack {
         &self.findings
     }
 
+    /// What the old values of its refs lead to.
+    pub fn closures(&self) -> &Closures
+        ensures { AreClosures self.now.before result.now }
+    {
+        &self.closures
+    }
+
     /// What is known of the objects, the pack's among them.
     pub fn into_known(self) -> Known
         ensures { AreKnown self.objects result }
@@ -83,6 +96,7 @@ impl PreparedPack {
             lens: _,
             findings: _,
             known,
+            closures: _,
             fresh: _,
         } = self;
         known

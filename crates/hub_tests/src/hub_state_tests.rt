@@ -1,6 +1,6 @@
 //! A repository and a conf, and the pin of an opening.
 
-use ancestry::Known;
+use ancestry::{Closures, Known};
 use hub_state::{ConfInForce, HostedRepo, Pin, RepoName, UserName, Want};
 use ref_store::Repo;
 use std::alloc::Global;
@@ -21,7 +21,9 @@ fn has_creator(hosted: &HostedRepo) -> bool {
 
 // Whether a repository keeps its creator as its refs change, and loses it with other roles.
 fn keeps_its_creator(alloc: Global, hosted: &HostedRepo) -> Result<bool, Fail> {
-    let moved = hosted.with_repo(alloc, Repo::empty(alloc)?, Known::nothing(alloc))?;
+    let repo = Repo::empty(alloc)?;
+    let known = Known::nothing(alloc);
+    let moved = hosted.with_repo(alloc, repo, known, Closures::none(alloc))?;
     let plain = moved.with_wild(alloc, Wild::plain(alloc))?;
     Ok(has_creator(&moved) && has_creator(&moved.clone()?) && !has_creator(&plain))
 }

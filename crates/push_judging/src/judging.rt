@@ -2,6 +2,7 @@
 ghost use Rattle.std.specs.Prelude.{◌≡◌, ◌++◌, IfOk, IsTrue, false};
 ghost use Rattle.std.specs.FinMap as map;
 ghost use Rattle.std.specs.Option.{option_map_or};
+ghost use Rattle.ancestry.specs.Closures.{AreClosures};
 ghost use Rattle.ancestry.specs.Known.{AreFound, AreKnown};
 ghost use Rattle.ref_store.specs.Refs.{Name};
 ghost use Rattle.rule_compile.specs.Patterns.{AreTrue, Patterns};
@@ -14,9 +15,9 @@ ghost use Rattle.push_judging.specs.Judged.{AreFactsOf, IsJudgement, conf_of, co
 ghost use Rattle.push_judging.specs.Rows.{IsCheckOf, Tells};
 
 use crate::rows::{Told, by_command, by_conf, by_new_value, by_rules};
-use ancestry::{Facts, Findings, Known, Walks};
-use base_types::{NameMap, NoMemory};
-use git_object::ObjectList;
+use ancestry::{Closures, Facts, Findings, Known, Walks, closures_of};
+use base_types::{NameMap, NoMemory, Text};
+use git_object::{ObjectId, ObjectList};
 use hub_state::{ConfInForce, Outcome, Pin, PreparedPack};
 use ref_store::{Command, CommandList, Compared, FreshObjects, Lens, Repo};
 use std::alloc::Global;
@@ -24,6 +25,12 @@ use std::marker::Model;
 use update_check::UpdateCheck;
 use vref::facts_of_all;
 use wild_perms::Wild;
+
+// Of so many refs that a push moves what their values lead to is made.
+const MANY: usize = 4;
+
+// The branch that `HEAD` names.
+const HEAD: &[u8] = b"refs/heads/master";
 
 /// What each command of a push is told before the refs are asked, if anything, and the conf that each would put in force, if it would.
 #[derive(Drop)]
@@ -120,7 +127,16 @@ pub fn judge(
         findings,
     } = tell_all(alloc, pin, &lens, pack, commands.as_slice())?;
     let pending = is_pending(&told.outcomes, atomic);
-    let pack = prepared_pack(alloc, pin, lens, pack, findings, pending)?;
+    let pack = prepared_pack(
+        alloc,
+        pin,
+        lens,
+        pack,
+        commands.as_slice(),
+        &told.outcomes,
+        findings,
+        pending,
+    )?;
     Ok(Judged {
         told,
         facts,
@@ -252,6 +268,8 @@ fn prepared_pack(
     pin: &Pin,
     lens: Lens,
     pack: &ObjectList,
+    commands: &[Command],
+    outcomes: &[Option<Outcome>],
     findings: Findings,
     pending: bool,
 ) -> Result<PreparedPack, NoMemory>
@@ -260,9 +278,53 @@ fn prepared_pack(
     ensures { IfOk result (λ p. p ≡ record { before = pin.now.pinned.repository.objects; objects = lens }) }
 {
     let repo = pin.repo().copy()?;
+    let closures = closures_of_tips(alloc, &repo, pin.closures(), commands, outcomes)?;
     let known = known_behind(alloc, pin, pack, &findings, pending)?;
     let fresh = fresh_in(&repo, &lens, pack, pending)?;
-    Ok(PreparedPack::new(repo, lens, findings, known, fresh))
+    Ok(PreparedPack::new(repo, lens, findings, known, closures, fresh))
+}
+
+// What the values lead to of those refs that may still be moved, and of `HEAD`, on which topics build.
+fn closures_of_tips(
+    alloc: Global,
+    repo: &Repo,
+    kept: &Closures,
+    commands: &[Command],
+    outcomes: &[Option<Outcome>],
+) -> Result<Closures, NoMemory>
+    requires { AreClosures repo.now.objects kept.now }
+    ensures { IfOk result (AreClosures repo.now.objects) }
+{
+    let tips = tips_of(alloc, repo, commands, outcomes)?;
+    closures_of(alloc, repo, kept, &tips)
+}
+
+// These values; none where no command may be done.
+fn tips_of(
+    alloc: Global,
+    repo: &Repo,
+    commands: &[Command],
+    outcomes: &[Option<Outcome>],
+) -> Result<Vec<ObjectId>, NoMemory> {
+    let mut tips = Vec::new(alloc);
+    if !is_pending(outcomes, false) {
+        return Ok(tips);
+    }
+    for k in 0..commands.len().min(outcomes.len()) {
+        if tips.len() < MANY && outcomes[k].is_none() && is_moved_from(repo, &commands[k]) {
+            tips.push(commands[k].old)?;
+        }
+    }
+    let head = repo.value(&Text::of(alloc, HEAD)?);
+    if head != ObjectId::zero() {
+        tips.push(head)?;
+    }
+    Ok(tips)
+}
+
+// Whether a command moves a ref from the value that it has.
+fn is_moved_from(repo: &Repo, command: &Command) -> bool {
+    command.old != ObjectId::zero() && repo.value(&command.name) == command.old
 }
 
 // What a pack adds to a repository, with the segments that it has then where a command may be done.

@@ -3,6 +3,7 @@ ghost use Rattle.std.specs.Prelude.{◌≡◌, ◌+◌, ◌++◌, ◌<◌, ◌�
 ghost use Rattle.std.specs.List.{list_any, position};
 ghost use Rattle.ref_store.specs.RefName.{is_ref_name};
 ghost use Rattle.ref_store.specs.Objects.{HasNamesOnce, with_pack};
+ghost use Rattle.ancestry.specs.Closures.{AreClosures, Begins};
 ghost use Rattle.ancestry.specs.Known.{AreKnown, Extends};
 ghost use Rattle.git_object.specs.Content.{Content};
 ghost use Rattle.hub_history.specs.Collision.{collision};
@@ -10,7 +11,7 @@ ghost use Rattle.hub_history.specs.Push.{beside, by_refs, in_order, is_done, rep
 ghost use Rattle.push_settling.specs.Running.{FitCommands, FitsCommand, IsReadyFor};
 ghost use Rattle.ref_store.specs.Store.{TellsOfComparing};
 
-use ancestry::Known;
+use ancestry::{Closures, Known};
 use base_types::NoMemory;
 use git_object::ObjectList;
 use hub_state::{HostedRepo, Outcome, OutcomeList, PreparedPack};
@@ -48,6 +49,7 @@ pub fn settle(
     requires fit { FitCommands commands.now judged.now }
     requires among { collision now.now.objects pack.now ≡ None → Extends prepared.objects (with_pack now.now.objects pack.now) }
     requires behind { prepared.objects ≡ prepared.before ++ pack.now }
+    requires grew { Begins prepared.before now.now.objects }
     requires same { same ≡ true → prepared.before ≡ now.now.objects }
     ensures outcomes { IfOk result (λ d. d.outcomes ≡ outcomes_in now.now pack.now commands.now atomic judged.now) }
     ensures next { IfOk result (λ d. d.next ≡ repository_left now.now pack.now commands.now d.outcomes) }
@@ -130,6 +132,7 @@ fn settle_with(
     requires room { length now.now.objects + length fresh.objects ≤ 4294967295 }
     requires ready { IfSome fresh.before (λ before. before ≡ now.now.objects) }
     requires among { Extends prepared.objects (now.now.objects ++ fresh.objects) }
+    requires grew { Begins prepared.before now.now.objects }
     requires unchanged { unchanged ≡ true → prepared.objects ≡ now.now.objects }
     ensures outcomes { IfOk result (λ d. d.outcomes ≡ together atomic (in_order now.now.refs commands.now judged.now)) }
     ensures next { IfOk result (λ d. d.next ≡ repository_left_with now.now (now.now.objects ++ fresh.objects) commands.now d.outcomes) }
@@ -184,6 +187,7 @@ fn settle_done(
     requires room { length now.now.objects + length fresh.objects ≤ 4294967295 }
     requires ready { IfSome fresh.before (λ before. before ≡ now.now.objects) }
     requires among { Extends prepared.objects (now.now.objects ++ fresh.objects) }
+    requires grew { Begins prepared.before now.now.objects }
     ensures outcomes { IfOk result (λ d. d.outcomes ≡ outcomes) }
     ensures next { IfOk result (λ d. d.next ≡ Some (record { objects = now.now.objects ++ fresh.objects; refs = repo.refs; creator = now.now.creator; roles = now.now.roles })) }
     ensures same { IfOk result (λ d. d.same ≡ None) }
@@ -232,7 +236,8 @@ fn remember(
         return Ok(None);
     }
     let repo = now.repo().copy()?;
-    Ok(Some(now.with_repo(alloc, repo, prepared.into_known())?))
+    let closures = now.closures().clone()?;
+    Ok(Some(now.with_repo(alloc, repo, prepared.into_known(), closures)?))
 }
 
 // The commands in order, over the refs as the earlier ones left them.
@@ -350,11 +355,26 @@ fn land(
     requires room { length now.now.objects + length fresh.objects ≤ 4294967295 }
     requires ready { IfSome fresh.before (λ before. before ≡ now.now.objects) }
     requires among { Extends prepared.objects (now.now.objects ++ fresh.objects) }
+    requires grew { Begins prepared.before now.now.objects }
     ensures { IfOk result (λ next. next ≡ record { objects = now.now.objects ++ fresh.objects; refs = repo.refs; creator = now.now.creator; roles = now.now.roles }) }
 {
     repo.add(fresh)?;
+    let closures = closures_with(alloc, now, &prepared, repo.count())?;
     let known = known_with(alloc, now, prepared, same)?;
-    now.with_repo(alloc, repo, known)
+    now.with_repo(alloc, repo, known, closures)
+}
+
+// What some objects lead to, the old values of the refs that the push moves among them, where there are so
+// many objects.
+fn closures_with(
+    alloc: Global,
+    now: &HostedRepo,
+    prepared: &PreparedPack,
+    count: usize,
+) -> Result<Closures, NoMemory>
+    ensures { (more : List Content) → Begins now.now.objects more → Begins prepared.now.before more → IfOk result (AreClosures more) }
+{
+    now.closures().with(alloc, prepared.closures(), count)
 }
 
 // What is known once the fresh objects are added: as it was joined when the push was judged, where no objects came since, and else what is known now with

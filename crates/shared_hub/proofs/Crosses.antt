@@ -15,6 +15,8 @@ use Rattle.ref_store.specs.contracts.repo.Repo as Repo
 use Rattle.ref_store.specs.contracts.lens.Lens as Lens
 use Rattle.ancestry.specs.contracts.table.Table as Table
 use Rattle.ancestry.specs.contracts.known.Known as Known
+use Rattle.ancestry.specs.contracts.runs.Runs as Runs
+use Rattle.ancestry.specs.contracts.closures.Closures as Closures
 use Rattle.wild_perms.specs.contracts.wild.Wild as Wild
 use Rattle.rule_compile.specs.contracts.fault.PolicyFault as Fault
 use Rattle.hub_history.specs.contracts.outcome.Outcome as Outcome
@@ -85,6 +87,18 @@ known_send = search (generations_send, generations_sync, heap.crosses, sendable)
 known_sync : IsSync (Known.the_field).row
 known_sync = search (generations_send, generations_sync, heap.crosses, sendable) depth 100 fits 50000
 
+runs_send : IsSend Runs.the_row
+runs_send = search (heap.crosses, sendable) depth 60
+
+runs_sync : IsSync Runs.the_row
+runs_sync = search (heap.crosses, sendable) depth 60
+
+closures_send : IsSend Closures.the_row
+closures_send = search (runs_send, runs_sync, heap.crosses, sendable) depth 100 fits 50000
+
+closures_sync : IsSync Closures.the_row
+closures_sync = search (runs_send, runs_sync, heap.crosses, sendable) depth 100 fits 50000
+
 wild_send : IsSend Wild.the_row
 wild_send = search (heap.crosses, sendable) depth 60
 
@@ -98,7 +112,7 @@ conf_sync : IsSync Conf.the_row
 conf_sync = search (policy_send, policy_sync, lens_send, lens_sync, heap.crosses, sendable) depth 100 fits 50000
 
 hosted_send : IsSend Hosted.the_row
-hosted_send = search (repo_send, repo_sync, wild_send, wild_sync, known_send, known_sync, heap.crosses, sendable) depth 100 fits 50000
+hosted_send = search (repo_send, repo_sync, wild_send, wild_sync, known_send, known_sync, closures_send, closures_sync, heap.crosses, sendable) depth 100 fits 50000
 
 pub pin_send : IsSend Pin.the_row
 pin_send = search (conf_send, hosted_send, heap.crosses, sendable) depth 60

@@ -4,7 +4,8 @@ ghost use Rattle.ancestry.specs.Known.{AreFound, AreKnown};
 
 use crate::ancestry_tests::{absent, lens_of, put, put_commit, put_tag, put_tree, repo_of};
 use ancestry::{
-    Advance, Findings, Known, Walks, advance_between, brings_merge, is_ancestor, peel, reach,
+    Advance, Closures, Findings, Known, Walks, advance_between, brings_merge, is_ancestor, peel,
+    reach,
 };
 use git_object::{Kind, ObjectId, ObjectList};
 use ref_store::{Lens, Repo};
@@ -231,7 +232,9 @@ fn ids_at(rt: &impl Abort, alloc: Global, ids: &[ObjectId], numbers: &[usize]) -
 fn check_sent(rt: &impl Abort, alloc: Global, repo: &Repo, ids: &[ObjectId], row: &SentRow) {
     let wants = ids_at(rt, alloc, ids, row.1);
     let haves = ids_at(rt, alloc, ids, row.2);
-    let sent = reach(alloc, repo, row.0, &wants, &haves).expect(rt, "memory for what is sent");
+    let none = Closures::none(alloc);
+    let sent = reach(alloc, repo, row.0, &none, &wants, &haves);
+    let sent = sent.expect(rt, "memory for what is sent");
     assert!(rt; sent.as_slice() == row.3, "{:?} for {:?}", row.1, row.2);
 }
 

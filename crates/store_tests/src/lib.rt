@@ -4,6 +4,8 @@
 #[cfg(test)]
 mod ancestry_tests;
 #[cfg(test)]
+mod closures_tests;
+#[cfg(test)]
 mod git_object_tests;
 #[cfg(test)]
 mod history_tests;

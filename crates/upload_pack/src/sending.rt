@@ -1,5 +1,6 @@
 // What a fetch is sent.
 ghost use Rattle.std.specs.Prelude.{◌≡◌, ◌<◌, length, All, IfOk};
+ghost use Rattle.ancestry.specs.Closures.{AreClosures};
 ghost use Rattle.pktline_core.specs.Links.{KeepsReading};
 ghost use Rattle.hub.specs.Desk.{DeskView};
 ghost use Rattle.interaction_tree.specs.Interaction.{write};
@@ -8,7 +9,7 @@ ghost use Rattle.raw_pack.specs.Writing.{objects_at};
 ghost use Rattle.session_core.specs.End.{TellsLink, outcome_of};
 ghost use Rattle.upload_pack.specs.Sending.{pack_bytes, sent};
 
-use ancestry::reach;
+use ancestry::{Closures, reach};
 use base_types::NoMemory;
 use git_object::ObjectId;
 use pktline_core::Link;
@@ -22,13 +23,15 @@ pub fn send_pack<L: Link>(
     alloc: Global,
     link: &mut L,
     repo: &Repo,
+    closures: &Closures,
     wants: &[ObjectId],
     haves: &[ObjectId],
 ) -> Result<(), SessionEnd>
+    requires { AreClosures repo.now.objects closures.now }
     ensures runs { (desk : DeskView) → Runs (L.state link.old) (L.state link.new) desk desk (write (pack_bytes repo.now.objects wants.now haves.now)) (outcome_of result) }
     ensures tells { TellsLink (L.state link.old) (L.state link.new) result }
 {
-    let places = places_sent(alloc, repo, wants, haves)?;
+    let places = places_sent(alloc, repo, closures, wants, haves)?;
     write_pack(link, repo, &places)?;
     Ok(())
 }
@@ -37,12 +40,14 @@ pub fn send_pack<L: Link>(
 fn places_sent(
     alloc: Global,
     repo: &Repo,
+    closures: &Closures,
     wants: &[ObjectId],
     haves: &[ObjectId],
 ) -> Result<Vec<u32>, NoMemory>
+    requires { AreClosures repo.now.objects closures.now }
     ensures objects { IfOk result (λ places. objects_at repo.now.objects places.items ≡ sent repo.now.objects wants.now haves.now) }
     ensures within { IfOk result (λ places. All (λ place. place < length repo.now.objects) places.items) }
     ensures few { IfOk result (λ places. length places.items < 4294967296) }
 {
-    reach(alloc, repo, repo.count(), wants, haves)
+    reach(alloc, repo, repo.count(), closures, wants, haves)
 }

@@ -1,5 +1,6 @@
 // What follows an opening for reading.
 ghost use Rattle.std.specs.Prelude.{◌≡◌, ◌≤◌, length, IfOk};
+ghost use Rattle.ancestry.specs.Closures.{AreClosures};
 ghost use Rattle.pktline_core.specs.Links.{KeepsReading};
 ghost use Rattle.hub.specs.Desk.{DeskView};
 ghost use Rattle.hub_history.specs.State.{HasShortNames, store_of};
@@ -15,6 +16,7 @@ use crate::advertising::{advertise, not_ours};
 use crate::haves::take_haves;
 use crate::sending::send_pack;
 use crate::wants::{IdList, first_want_in, take_wants};
+use ancestry::Closures;
 use git_object::ObjectId;
 use hub::Pin;
 use pktline_core::{Link, Pkt, PktReader};
@@ -68,7 +70,7 @@ pub fn upload_wants<L: Link>(
     ensures runs { (desk : DeskView) → Runs (L.state link.old) (L.state link.new) desk desk (wanting (store_of pin.now.pinned.repository) reader.old.offset) (outcome_of result) }
     ensures tells { TellsLink (L.state link.old) (L.state link.new) result }
 {
-    fetch_from(alloc, link, reader, pin.repo())
+    fetch_from(alloc, link, reader, pin.repo(), pin.closures())
 }
 
 fn fetch_from<L: Link>(
@@ -76,7 +78,9 @@ fn fetch_from<L: Link>(
     link: &mut L,
     reader: &mut PktReader,
     repo: &Repo,
+    closures: &Closures,
 ) -> Result<FetchEnd, SessionEnd>
+    requires closures { AreClosures repo.now.objects closures.now }
     requires ready { IsReady reader.old (L.state link.old) }
     ensures runs { (desk : DeskView) → Runs (L.state link.old) (L.state link.new) desk desk (wanting repo.now reader.old.offset) (outcome_of result) }
     ensures tells { TellsLink (L.state link.old) (L.state link.new) result }
@@ -86,7 +90,7 @@ fn fetch_from<L: Link>(
         Ok(Pkt::Flush) => Ok(FetchEnd::Served),
         Ok(Pkt::Line(line)) => {
             let first = first_want_in(link, offset, without_feed(line))?;
-            fetch(alloc, link, reader, repo, first)
+            fetch(alloc, link, reader, repo, closures, first)
         }
         Err(fault) => Err(end_by(link, offset, fault)),
     }
@@ -98,15 +102,17 @@ fn fetch<L: Link>(
     link: &mut L,
     reader: &mut PktReader,
     repo: &Repo,
+    closures: &Closures,
     first: ObjectId,
 ) -> Result<FetchEnd, SessionEnd>
+    requires closures { AreClosures repo.now.objects closures.now }
     requires ready { IsReady reader.old (L.state link.old) }
     ensures runs { (desk : DeskView) → Runs (L.state link.old) (L.state link.new) desk desk (fetching repo.now first reader.old.offset) (outcome_of result) }
     ensures tells { TellsLink (L.state link.old) (L.state link.new) result }
 {
     let wants = take_wants(alloc, link, reader, first)?;
     match not_ours(alloc, repo, wants.as_slice())? {
-        None => serve(alloc, link, reader, repo, &wants),
+        None => serve(alloc, link, reader, repo, closures, &wants),
         Some(id) => refuse_want(alloc, link, id),
     }
 }
@@ -136,13 +142,22 @@ fn serve<L: Link>(
     link: &mut L,
     reader: &mut PktReader,
     repo: &Repo,
+    closures: &Closures,
     wants: &IdList,
 ) -> Result<FetchEnd, SessionEnd>
+    requires closures { AreClosures repo.now.objects closures.now }
     requires ready { IsReady reader.old (L.state link.old) }
     ensures runs { (desk : DeskView) → Runs (L.state link.old) (L.state link.new) desk desk (serving repo.now wants.now reader.old.offset) (outcome_of result) }
     ensures tells { TellsLink (L.state link.old) (L.state link.new) result }
 {
     let common = take_haves(alloc, link, reader, repo)?;
-    send_pack(alloc, link, repo, wants.as_slice(), common.as_slice())?;
+    send_pack(
+        alloc,
+        link,
+        repo,
+        closures,
+        wants.as_slice(),
+        common.as_slice(),
+    )?;
     Ok(FetchEnd::Served)
 }

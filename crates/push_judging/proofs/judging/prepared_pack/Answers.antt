@@ -1,8 +1,12 @@
 use Rattle.std.proofs.Common.{List, ◌++◌, sym, ◌∙◌, ap, subst}
 use Rattle.git_object.specs.Content.{Content}
 use Rattle.ref_store.specs.Store.{Store}
+use Rattle.ancestry.specs.Closures.{AreClosures}
 use Rattle.ancestry.specs.Known.{AreFound, AreKnown}
 use Rattle.push_judging.proofs.judging.prepared_pack.Goals as goal
+
+pub closures_of_tips-requires : goal.closures_of_tips-requires
+closures_of_tips-requires c = subst (λ (s : Store). AreClosures s.objects c.closures.result.now) (sym (c.in_ok-repo.ensures ∙ c.repo.ensures.repo)) c.closures.ensures
 
 pub known_behind-requires : goal.known_behind-requires
 known_behind-requires c = subst (λ (os : List Content). AreFound os c.args.findings) c.requires.lens c.requires.found

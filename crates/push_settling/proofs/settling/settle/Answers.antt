@@ -3,6 +3,7 @@ use Rattle.std.specs.List.{list_any}
 use Rattle.git_object.specs.Content.{Content}
 use Rattle.ref_store.specs.Objects.{HasNamesOnce, with_pack}
 use Rattle.ref_store.specs.Store.{Store}
+use Rattle.ancestry.specs.Closures.{Begins}
 use Rattle.ancestry.specs.Known.{Extends}
 use Rattle.hub_history.specs.declared.outcome.Outcome.TheVariants.{Collided, Full}
 use Rattle.hub_state.specs.Prepared.{PackView}
@@ -19,6 +20,9 @@ settle_with-requires-clause-among c =
     let told = c.in-Fresh.ensures.told in
     subst (λ (os : List Content). Extends c.compared.new.prepared.objects os) told.1
     (subst (λ (p : PackView). Extends p.objects (with_pack now.objects pack)) (sym c.compared.ensures.prepared) (c.requires.among (collision_none now.objects pack told.0)))
+
+pub settle_with-requires-clause-grew : goal.settle_with-requires-clause-grew
+settle_with-requires-clause-grew c = subst (λ (p : PackView). Begins p.before c.args.now.now.objects) (sym c.compared.ensures.prepared) c.requires.grew
 
 pub settle_with-requires-clause-unchanged : goal.settle_with-requires-clause-unchanged
 settle_with-requires-clause-unchanged c = λ is.

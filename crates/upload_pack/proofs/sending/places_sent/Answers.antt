@@ -1,7 +1,13 @@
-use Rattle.std.proofs.Common.{arith}
+use Rattle.std.proofs.Common.{List, sym, subst, arith}
+use Rattle.std.proofs.lemmas.List.{take_all}
 use Rattle.std.proofs.lemmas.Result.{IfOk-weaker}
+use Rattle.git_object.specs.Content.{Content}
+use Rattle.ancestry.specs.Closures.{AreClosures}
 use Rattle.upload_pack.proofs.SendingLemmas.{among_all, objects_sent, places_few, places_within}
 use Rattle.upload_pack.proofs.sending.places_sent.Goals as goal
+
+pub reach-requires : goal.reach-requires
+reach-requires c = subst (λ (os : List Content). AreClosures os c.args.closures.now) (sym (take_all c.count.result c.args.repo.now.objects (omega (arith, c.count.ensures.count)))) c.requires
 
 pub returns-clause-objects : goal.returns-clause-objects
 returns-clause-objects c =

@@ -33,6 +33,16 @@ settle-requires-clause-same c = λ is.
     let long : length pinned.repository.objects ≡ length c.in_ok-now.now.objects = sym (ap (λ (s : Store). length s.objects) c.repo.ensures.repo) ∙ c.has_as_many-same.ensures is ∙ ap (λ (s : Store). length s.objects) c.repo-2.ensures in
     c.requires.before ∙ pinned_same pinned.repository.objects c.in_ok-now.now.objects begins long
 
+pub settle-requires-clause-grew : goal.settle-requires-clause-grew
+settle-requires-clause-grew c =
+    let hub = c.args.self.now in
+    let pinned = c.args.pin.now.pinned in
+    let now_is : c.in_ok-now.now ≡ repository_at (state_of hub) pinned.repo = c.in_ok-now.ensures.hosted ∙ ap (λ (n : Name). repository_at (state_of hub) n) c.repo_name.ensures in
+    let begins : Begins pinned.repository.objects c.in_ok-now.now.objects =
+    subst (λ (r : Repository). Begins pinned.repository.objects r.objects) (sym now_is)
+    (pinned_first c.some_patterns_are_true.ensures.0 c.some_patterns_are_true.ensures.1 hub.admin hub.log c.log-log.ensures.legal c.args.pin.now c.requires.stands) in
+    subst (λ (os : List Content). Begins os c.in_ok-now.now.objects) (sym c.requires.before) begins
+
 pub settle-requires-clause-among : goal.settle-requires-clause-among
 settle-requires-clause-among c = λ apart.
     let hub = c.args.self.now in
