@@ -113,23 +113,20 @@ def reading(data):
         return 9, b"not a journal\n"
     if data[8:9 + data[8]] != HEAD[8:]:
         return 9, b"other admin\n"
-    at, records = len(HEAD), []
+    at, place, opened = len(HEAD), 0, set()
     while data[at] != 0:
         size = int.from_bytes(data[at + 1:at + 9], "big") if len(data) >= at + 9 else 1 << 64
         if len(data) < at + 9 + size + 1:
             return 9, b"bad record at %d\n" % at
-        records.append((at, data[at + 9:at + 9 + size]))
-        at += 9 + size
-    opened = set()
-    for place, (offset, body) in enumerate(records):
         try:
-            what = event(body, opened)
+            what = event(data[at + 9:at + 9 + size], opened)
         except Bad:
-            return 9, b"bad record at %d\n" % offset
+            return 9, b"bad record at %d\n" % at
         if what is None:
             return None
         if what == "opened":
             opened.add(place)
+        at, place = at + 9 + size, place + 1
     return 0, b""
 
 

@@ -1,7 +1,8 @@
 -- A body that is read is the body of what was read, and the body of what can be stored is read again.
-use Rattle.std.proofs.Common.{◌≡◌, ℕ, ◌^◌, ◌<◌, ◌≤◌, Bool, true, false, cond, eqb, List, [], ◌∷◌, ◌++◌, length, Option, Some, None, refl, sym, ap, subst, ◌∙◌, append_assoc, append-nil, arith, inl, inr, ◌⊎◌}
+use Rattle.std.proofs.Common.{◌≡◌, ℕ, ◌^◌, ◌<◌, ◌≤◌, Bool, true, false, cond, eqb, List, [], ◌∷◌, ◌++◌, length, take, Option, Some, None, refl, sym, ap, subst, ◌∙◌, append_assoc, append-nil, arith, inl, inr, ◌⊎◌}
 use Rattle.std.specs.List.{AllByRecursion}
-use Rattle.std.specs.Int.{w64, to_be_bytes}
+use Rattle.std.specs.Int.{w64, to_be_bytes, from_be_bytes}
+use Rattle.std.proofs.lemmas.Nat.{from_be_bytes-to_be_bytes_8}
 use Rattle.std.proofs.lemmas.Bool.{eqb-true}
 use Rattle.std.proofs.lemmas.List.{nil_from_length}
 use Rattle.conf_lex.specs.Names.{is_user_name}
@@ -17,6 +18,7 @@ use Rattle.hub_history.specs.Requests.{Request, Enter, Push, Permit, Look}
 use Rattle.event_record.specs.Fields.{text_bytes, commands_bytes, pack_bytes, HasIds}
 use Rattle.event_record.specs.Bodies.{AreStorable, IsStorable, IsWithinLimits, body_of, change_bytes, flag_byte, request_bytes, want_byte}
 use Rattle.event_record.specs.Reading.{◌>>=◌, number_at, text_at, user_at, repo_at, commands_at, pack_at}
+use Rattle.event_record.specs.Fronts.{place_at}
 use Rattle.event_record.specs.BodyReading.{flag_at, want_of, enter_at, push_at, holder_at, grant, revoke, change_at, permit_at, look_at, request_at, body_at}
 use Rattle.event_record.proofs.FieldLaws.{IsBytes, IsBytes-rest, bind_some, if_some, some_is, Takes, Takes-then, wide64, number_takes, number_again, text_takes, text_again, user_takes, user_again, repo_takes, repo_again, IsCommand}
 use Rattle.event_record.proofs.PackLaws.{AreCommands, commands_take, commands_again, pack_takes, pack_again}
@@ -284,3 +286,7 @@ one_body caller other request another is has e =
     let both : Some (caller, request) ≡ Some (other, another) = sym (body_again caller request is) ∙ ap body_at e ∙ body_again other another has in
     let same = some_is (caller, request) (other, another) both in
     (ap (λ (p : ℕ × Request). p.0) same, ap (λ (p : ℕ × Request). p.1) same)
+
+-- the first bytes of a push's body say where its opening is
+pub front_again : (caller place : ℕ) (pack : List Content) (commands : List Command) (atomic : Bool) → IsStorable caller (Push place pack commands atomic) → place_at (take 17 (body_of caller (Push place pack commands atomic))) ≡ Some place
+front_again caller place pack commands atomic is = ap (λ (n : ℕ). Some n) (from_be_bytes-to_be_bytes_8 place is.1.0)

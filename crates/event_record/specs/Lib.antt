@@ -4,3 +4,4 @@ pub mod Writing
 pub mod Bodies
 pub mod Asked
 pub mod BodyReading
+pub mod Fronts

@@ -3,6 +3,7 @@
 //! - `request`: what was asked, and by which caller;
 //! - `fields`, `packs`: numbers, texts, names, commands and objects at the front of bytes;
 //! - `bodies`: reading a whole body;
+//! - `fronts`: what its first bytes say;
 //! - `writing`, `records`: building the record of an event;
 //! - `laws`: what holds of the form of bodies.
 //!
@@ -12,6 +13,7 @@
 mod bodies;
 mod body_fault;
 mod fields;
+mod fronts;
 mod laws;
 mod packs;
 mod records;
@@ -21,6 +23,7 @@ mod writing;
 pub use base_types::NoMemory;
 pub use bodies::read_body;
 pub use body_fault::BodyFault;
+pub use fronts::{PUSH_FRONT, push_place};
 pub use laws::hold_laws;
 pub use records::{enter_record, look_record, permit_record, push_record};
 pub use request::{CallerRequest, Request};

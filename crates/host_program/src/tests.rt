@@ -112,26 +112,26 @@ fn two_workers_store_what_they_answer(rt: HostRuntime) {
     assert!(rt; outcome.logged == 8 && outcome.stored == 8 && outcome.found == 8);
 }
 
-// The call that fails, how many events are stored for certain, and how many are found. Opening makes five calls, and
+// The call that fails, how many events are stored for certain, and how many are found. Opening makes six calls, and
 // each event four. Each worker ends behind the session that isn't answered.
 #[test]
 fn a_call_fails(rt: HostRuntime) {
     let alloc = rt.alloc();
     for (number, stored, found) in [
-        (5, 0, 0),
         (6, 0, 0),
         (7, 0, 0),
-        (8, 0, 1),
-        (9, 1, 1),
-        (20, 3, 4),
-        (36, 7, 8),
+        (8, 0, 0),
+        (9, 0, 1),
+        (10, 1, 1),
+        (21, 3, 4),
+        (37, 7, 8),
     ] {
         let failing = vec![in alloc; number].expect(&rt, "memory for a number");
         let outcome = run_host(&rt, alloc, failing);
         assert!(rt; outcome.status == 8 && outcome.found == found);
         assert!(rt; outcome.stored == stored as u64 && outcome.logged == stored + 1);
     }
-    let failing = vec![in alloc; 5].expect(&rt, "memory for a number");
+    let failing = vec![in alloc; 6].expect(&rt, "memory for a number");
     let outcome = run_host(&rt, alloc, failing);
     assert!(rt; outcome.printed.as_slice() == b"served 2 sessions, 0 events\n".as_slice());
 }

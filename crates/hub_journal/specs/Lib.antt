@@ -3,3 +3,4 @@ pub mod Replay
 pub mod Journal
 pub mod Faults
 pub mod Recovery
+pub mod LastPushes

@@ -1,6 +1,5 @@
 -- What opening a journal answers.
 use Rattle.std.specs.Prelude.{◌≡◌, ◌⊎◌, ⊤, ℕ, ◌≤◌, ◌<◌, List, [], length, take, Some, Result, Err}
-use Rattle.std.specs.List.{slice_get}
 use Rattle.base_types.specs.Counts.{HasRisen}
 use Rattle.ref_store.specs.Refs.{Name}
 use Rattle.hub_history.specs.declared.entry.Entry.{Entry}
@@ -8,12 +7,13 @@ use Rattle.hub_history.specs.History.{IsLegal}
 use Rattle.hub_history.specs.Requests.{Request}
 use Rattle.hub.specs.Hub.{HubView}
 use Rattle.record_file.specs.Disks.{DiskState}
-use Rattle.record_file.specs.Opening.{bodies_of, with_offsets}
-use Rattle.record_file.specs.Records.{Holds, IsNoRecordFile, HasAnotherName, IsBadAt}
+use Rattle.record_file.specs.Reading.{IsBadGate, IsReadTo, IsRecordAt}
+use Rattle.record_file.specs.Records.{IsNoRecordFile, HasAnotherName}
 use Rattle.record_file.specs.declared.stored_record.StoredRecord.{StoredRecord}
 use Rattle.event_record.specs.Bodies.{body_of, IsStorable}
 use Rattle.hub_journal.specs.Events.{AreStorableEntries, HoldsEvents, bodies_in, head_for, magic}
-use Rattle.hub_journal.specs.Replay.{IsImpossible}
+use Rattle.event_record.specs.Fronts.{place_at}
+use Rattle.hub_journal.specs.Replay.{IsAwaited, IsImpossible, ReplayView, last_push}
 use Rattle.record_file.specs.declared.open_fault.OpenFault as records
 use Rattle.record_file.specs.declared.open_fault.OpenFault.TheVariants as records_fault
 use Rattle.hub_journal.specs.declared.open_fault.OpenFault.{OpenFault}
@@ -36,23 +36,37 @@ pub record IsImpossibleBody (hub : HubView) (body : List ℕ) : Type 0 where
 abbrev pub IsBadBody : HubView → List ℕ → Type 0
 IsBadBody hub body = ((caller : ℕ) (request : Request) → IsStorable caller request → body ≡ body_of caller request → ⊥) ⊎ IsImpossibleBody hub body
 
--- why the event of a record wasn't replayed
-abbrev pub RefusesRecord : HubView → StoredRecord → OpenFault → Type 0
-RefusesRecord hub its (BadRecord offset) = (its.offset ≡ offset) × IsBadBody hub its.body
-RefusesRecord hub its NoMemory = ⊤
-RefusesRecord hub its fault = ⊥
+-- A push with this body was foreseen: its opening is known to have a push at the next place of the hub's log, or at a later one.
+abbrev pub IsForeseenBody : ReplayView → List ℕ → Type 0
+IsForeseenBody replay body = (opening : ℕ) → place_at (take 17 body) ≡ Some opening → IsAwaited (last_push replay.last_pushes) (length replay.hub.log) opening
 
--- The record with this offset is bad behind the events of those before it, which are good.
-pub record IsBadEventAt (admin : Name) (records : List StoredRecord) (offset : ℕ) : Type 0 where
+-- why the event of a record wasn't replayed
+abbrev pub RefusesRecord : ReplayView → StoredRecord → OpenFault → Type 0
+RefusesRecord replay its (BadRecord offset) = (its.offset ≡ offset) × (IsForeseenBody replay its.body → IsBadBody replay.hub its.body)
+RefusesRecord replay its NoMemory = ⊤
+RefusesRecord replay its fault = ⊥
+
+-- At this offset is a whole record, of no event that can be asked of the hub.
+pub record IsBadRecordAt (hub : HubView) (file : List ℕ) (offset : ℕ) : Type 0 where
+  pub body : List ℕ
+  pub next : ℕ
+  pub there : IsRecordAt file offset body next
+  pub bad : IsBadBody hub body
+
+-- Behind the records of a legal log's events, at this offset, is no whole record and no zero gate, or the record of no event that can be asked of the hub of that log.
+pub record HasBadEventAt (admin : Name) (file : List ℕ) (offset : ℕ) : Type 0 where
   pub log : List Entry
   pub legal : IsLegal admin log
   pub storable : AreStorableEntries log
-  pub index : ℕ
-  pub before : bodies_in log ≡ bodies_of (take index records)
-  pub its : StoredRecord
-  pub there : slice_get records index ≡ Some its
-  pub offset_is : its.offset ≡ offset
-  pub bad : IsBadBody (record { admin = admin; log = log }) its.body
+  pub read : IsReadTo (head_for admin) (bodies_in log) file offset
+  pub bad : IsBadGate file offset ⊎ IsBadRecordAt (record { admin = admin; log = log }) file offset
+
+-- why an admin's events weren't made of the records of a file; the other faults say nothing of it
+abbrev pub RefusesEvents : Name → List ℕ → OpenFault → Type 0
+RefusesEvents admin file (BadRecord offset) = HasBadEventAt admin file offset
+RefusesEvents admin file DiskFault = ⊤
+RefusesEvents admin file NoMemory = ⊤
+RefusesEvents admin file fault = ⊥
 
 -- the fault of a file of records, as one of a journal
 abbrev pub journal_fault : records.OpenFault → OpenFault
@@ -62,24 +76,11 @@ journal_fault (records_fault.BadRecord offset) = BadRecord offset
 journal_fault records_fault.DiskFault = DiskFault
 journal_fault records_fault.NoMemory = NoMemory
 
--- why an admin's events weren't made of these records; the other faults say nothing of them
-abbrev pub RefusesRecords : Name → List StoredRecord → OpenFault → Type 0
-RefusesRecords admin records (BadRecord offset) = IsBadEventAt admin records offset
-RefusesRecords admin records NoMemory = ⊤
-RefusesRecords admin records fault = ⊥
-
--- the file is one of whole records, of which this one is bad
-pub record HasBadEventAt (admin : Name) (file : List ℕ) (offset : ℕ) : Type 0 where
-  pub records : List StoredRecord
-  pub offsets : records ≡ with_offsets (length (head_for admin)) (bodies_of records)
-  pub holds : Holds (head_for admin) (bodies_of records) file
-  pub bad : IsBadEventAt admin records offset
-
 -- why a file isn't the journal of an admin's hub, each fault by its word; the other faults say nothing of the file
 abbrev pub IsNoJournal : Name → List ℕ → OpenFault → Type 0
 IsNoJournal admin file NotAJournal = IsNoRecordFile magic file
 IsNoJournal admin file OtherAdmin = HasAnotherName magic admin file
-IsNoJournal admin file (BadRecord offset) = IsBadAt (head_for admin) file offset ⊎ HasBadEventAt admin file offset
+IsNoJournal admin file (BadRecord offset) = HasBadEventAt admin file offset
 IsNoJournal admin file DiskFault = ⊤
 IsNoJournal admin file NoMemory = ⊤
 

@@ -2,6 +2,7 @@
 //!
 //! - `replay`: a hub made again of what was asked of it, one event after the other;
 //! - `pins`: copies of pins, for pushes after one opening;
+//! - `last_pushes`: after which openings a file has pushes;
 //! - `open_fault`, `recovery`: the hub of a journal's file, from any file;
 //! - `storing`, `journal`: a hub as a desk that stores each event before it returns.
 //!
@@ -9,6 +10,7 @@
 #![tactic(auto)]
 
 mod journal;
+mod last_pushes;
 mod laws;
 mod open_fault;
 mod pins;

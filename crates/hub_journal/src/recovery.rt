@@ -1,18 +1,21 @@
 // The hub of a journal's file.
-ghost use Rattle.std.specs.Prelude.{◌≡◌, ◌++◌, ◌∷◌, [], ℕ, List, false, IsTrue, IfOk, IfErr};
+ghost use Rattle.std.specs.Prelude.{◌≡◌, ◌++◌, ◌∷◌, [], ℕ, List, false, IsTrue, IfOk, IfErr, OnOk};
 ghost use Rattle.hub_history.specs.History.{IsLegal};
 ghost use Rattle.record_file.specs.Crashes.{Leaves, LeavesOnly};
 ghost use Rattle.record_file.specs.Files.{EndsAtGate, IsDurable};
-ghost use Rattle.record_file.specs.Opening.{bodies_of};
+ghost use Rattle.record_file.specs.Reading.{IsAtGate, IsClosedAt, IsReadTo};
 ghost use Rattle.record_file.specs.Records.{Holds, HoldsAllOrNone};
 ghost use Rattle.hub_journal.specs.Events.{AreStorableEntries, bodies_in, head_for};
-ghost use Rattle.hub_journal.specs.Recovery.{AreEventsOf, IsNoJournal, RefusesRecord, RefusesRecords, ReportsFaults, journal_fault};
+ghost use Rattle.hub_journal.specs.LastPushes.{TellsPushes};
+ghost use Rattle.hub_journal.specs.Replay.{last_push};
+ghost use Rattle.hub_journal.specs.Recovery.{AreEventsOf, IsNoJournal, RefusesEvents, RefusesRecord, ReportsFaults, journal_fault};
 
+use crate::last_pushes::find_last_pushes;
 use crate::{OpenFault, Replay, ReplayFault};
 use conf_lex::UserName;
 use event_record::{BodyFault, read_body};
 use hub::Hub;
-use record_file::{Disk, RecordWriter, StoredRecord};
+use record_file::{Disk, RecordReader, RecordWriter, StoredRecord};
 use std::alloc::Global;
 
 // The first bytes of a journal.
@@ -47,7 +50,9 @@ impl Recovered {
 /// Makes the hub of an admin's journal again, from any file that a crash may have left. An empty file is made a journal
 /// without events. What follows the last record is cut off.
 ///
-/// The file's records are in memory meanwhile. It may be stopped at any moment and begun again.
+/// It reads the front of each record first, to know after which openings there are pushes, and then one record after the
+/// other: beside the hub one record is in memory, and a pin of each opening whose last push is still to come. It may be
+/// stopped at any moment and begun again.
 pub fn recover<Y: Disk>(
     alloc: Global,
     disk: &mut Y,
@@ -70,18 +75,27 @@ pub fn recover<Y: Disk>(
         → LeavesOnly (HoldsAllOrNone (head_for admin.now) bodies more) (Y.state disk.old).file (Y.state disk.new).file }
 {
     let name = admin.bytes();
-    let (writer, records) = match RecordWriter::open(alloc, disk, MAGIC, name) {
-        Ok(opened) => opened,
+    let mut reader = match RecordReader::start(alloc, disk, MAGIC, name) {
+        Ok(reader) => reader,
         Err(fault) => return Err(fault_of(fault)),
     };
-    match replay_all(alloc, admin, records.as_slice()) {
-        Ok(hub) => Ok(Recovered { hub, writer }),
-        Err(fault) => Err(fault),
+    let last_pushes = match find_last_pushes(alloc, disk, reader) {
+        Ok(last_pushes) => last_pushes,
+        Err(fault) => return Err(fault),
+    };
+    let replay = Replay::start(alloc, admin, last_pushes)?;
+    let hub = match replay_all(alloc, disk, &mut reader, replay) {
+        Ok(hub) => hub,
+        Err(fault) => return Err(fault),
+    };
+    match reader.finish(disk) {
+        Ok(writer) => Ok(Recovered { hub, writer }),
+        Err(_fault) => Err(OpenFault::DiskFault),
     }
 }
 
 // The fault of a file of records, as one of a journal.
-fn fault_of(fault: record_file::OpenFault) -> OpenFault
+pub(crate) fn fault_of(fault: record_file::OpenFault) -> OpenFault
     ensures { result ≡ journal_fault fault }
 {
     match fault {
@@ -93,34 +107,55 @@ fn fault_of(fault: record_file::OpenFault) -> OpenFault
     }
 }
 
-// The hub of all records, from the first one on.
-fn replay_all(alloc: Global, admin: &UserName, records: &[StoredRecord]) -> Result<Hub, OpenFault>
-    ensures admin { IfOk result (λ hub. hub.admin ≡ admin.now) }
+// The hub of all records, from the reader's gate on.
+fn replay_all<Y: Disk>(
+    alloc: Global,
+    disk: &mut Y,
+    reader: &mut RecordReader,
+    replay: Replay,
+) -> Result<Hub, OpenFault>
+    requires at_gate { IsAtGate reader.old (Y.state disk.old).size }
+    requires new { replay.hub.log ≡ [] }
+    ensures faults { ReportsFaults result (Y.state disk.old) (Y.state disk.new) }
+    ensures at_gate { IsAtGate reader.new (Y.state disk.new).size }
+    ensures file { IsTrue Y.is_modeled → (Y.state disk.new).file ≡ (Y.state disk.old).file }
+    ensures admin { IfOk result (λ hub. hub.admin ≡ replay.hub.admin) }
     ensures legal { IfOk result (λ hub. IsLegal hub.admin hub.log) }
-    ensures events { IfOk result (λ hub. bodies_in hub.log ≡ bodies_of records.now) }
     ensures storable { IfOk result (λ hub. AreStorableEntries hub.log) }
-    ensures refused { IfErr result (RefusesRecords admin.now records.now) }
+    ensures read { IfOk result (λ hub. IsTrue Y.is_modeled → (head : List ℕ) → IsReadTo head [] (Y.state disk.old).file.content reader.old.offset → IsReadTo head (bodies_in hub.log) (Y.state disk.old).file.content reader.new.offset) }
+    ensures closed { OnOk result (IsTrue Y.is_modeled → IsClosedAt (Y.state disk.old).file.content reader.new.offset) }
+    ensures refused { IfErr result (λ fault. IsTrue Y.is_modeled → IsReadTo (head_for replay.hub.admin) [] (Y.state disk.old).file.content reader.old.offset
+        → TellsPushes (head_for replay.hub.admin) (Y.state disk.old).file.content (last_push replay.last_pushes) → RefusesEvents replay.hub.admin (Y.state disk.old).file.content fault) }
 {
-    let mut replay = Replay::start(alloc, admin)?;
-    for record in records {
-        replay = match replay_record(alloc, replay, record) {
+    let mut replay = replay;
+    loop {
+        let next = match reader.next_record(alloc, disk) {
+            Ok(next) => next,
+            Err(fault) => return Err(fault_of(fault)),
+        };
+        let Some(record) = next else {
+            let hub = replay.into_hub();
+            // called for its clause that the log is legal
+            let _log = hub.log();
+            return Ok(hub);
+        };
+        replay = match replay_record(alloc, replay, &record) {
             Ok(replay) => replay,
             Err(fault) => return Err(fault),
         };
     }
-    let hub = replay.into_hub();
-    // called for its clause that the log is legal
-    let _log = hub.log();
-    Ok(hub)
 }
 
 fn replay_record(alloc: Global, replay: Replay, stored: &StoredRecord) -> Result<Replay, OpenFault>
-    ensures admin { IfOk result (λ after. after.admin ≡ replay.admin) }
-    ensures legal { IfOk result (λ after. IsLegal after.admin after.log) }
-    ensures event { IfOk result (λ after. bodies_in after.log ≡ bodies_in replay.log ++ stored.now.body ∷ []) }
-    ensures storable { IfOk result (λ after. AreStorableEntries replay.log → AreStorableEntries after.log) }
+    ensures admin { IfOk result (λ after. after.hub.admin ≡ replay.hub.admin) }
+    ensures last_pushes { IfOk result (λ after. after.last_pushes ≡ replay.last_pushes) }
+    ensures legal { IfOk result (λ after. IsLegal after.hub.admin after.hub.log) }
+    ensures event { IfOk result (λ after. bodies_in after.hub.log ≡ bodies_in replay.hub.log ++ stored.now.body ∷ []) }
+    ensures storable { IfOk result (λ after. AreStorableEntries replay.hub.log → AreStorableEntries after.hub.log) }
     ensures refused { IfErr result (λ fault. RefusesRecord replay stored.now fault) }
 {
+    // called for its clause that the front of a push's body says after which opening it is, which the proof cites
+    event_record::hold_laws();
     let request = match read_body(alloc, stored.body.bytes()) {
         Ok(request) => request,
         Err(BodyFault::BadBody) => return Err(OpenFault::BadRecord(stored.offset)),

@@ -1,13 +1,16 @@
 // A hub made again of what was asked of it.
-ghost use Rattle.std.specs.Prelude.{◌≡◌, [], IfOk, IfErr, OnOk};
+ghost use Rattle.std.specs.Prelude.{◌≡◌, ◌+◌, [], ℕ, false, Some, IfOk, IfErr, OnOk, length};
+ghost use Rattle.std.specs.BTreeMap as btree;
+ghost use Rattle.std.specs.Ordering.{nat_cmp};
 ghost use Rattle.access_check.specs.declared.verdicts.Want.TheVariants as want;
 ghost use Rattle.git_object.specs.Object.{FitOnePack};
 ghost use Rattle.hub_history.specs.History.{HasShortRole, IsLegal, Stands};
+ghost use Rattle.hub_history.specs.Opening.{Opening};
 ghost use Rattle.hub_history.specs.Push.{AreWithinLimits};
 ghost use Rattle.hub_history.specs.Requests.{Enter, Push, Permit, Look};
 ghost use Rattle.event_record.specs.Asked.{asked};
 ghost use Rattle.event_record.specs.Bodies.{IsStorable, AreStorable};
-ghost use Rattle.hub_journal.specs.Replay.{IsImpossible, Keeps, Replays, writing_only};
+ghost use Rattle.hub_journal.specs.Replay.{ArePins, IsAwaited, IsForeseen, IsImpossible, Keeps, KeepsAwaited, LeavesPins, Replays, last_push, writing_only};
 
 use crate::NoMemory;
 use crate::pins::copy_pin;
@@ -39,54 +42,68 @@ impl From<NoMemory> for ReplayFault {
     }
 }
 
-/// A hub that is made again, one request after the other. Contracts see the hub.
+/// A hub that is made again, one request after the other. Contracts see the hub, and after which openings a push is
+/// awaited.
 ///
-/// It keeps a pin of each opening for writing that was granted, since a later push may name it.
+/// Of openings for writing it keeps the pins of those alone after which a push is to come, each until that push. So it
+/// holds no state of a repository that nothing asks for any more.
 #[derive(Drop)]
 pub struct Replay {
     hub: Hub,
     pins: BTreeMap<u64, Pin>,
+    last_pushes: BTreeMap<u64, u64>,
 }
 
 impl Model for Replay {
     ghost use Rattle.std.specs.Ordering.{nat_cmp};
     ghost use Rattle.std.specs.BTreeMap as btree;
-    ghost use Rattle.hub.specs.Hub.{HubView};
-    ghost use Rattle.hub_journal.specs.Replay.{ArePins};
+    ghost use Rattle.hub_journal.specs.Replay.{ArePins, ReplayView, last_push};
 
-    ghost Value = { HubView };
+    ghost Value = { ReplayView };
 
-    ghost view = { λ r. r.hub };
+    ghost view = { λ r. record { hub = r.hub; last_pushes = r.last_pushes.entries } };
 
-    ghost invariant = { λ r. ArePins r.hub (λ place. btree.get nat_cmp r.pins place) };
+    ghost invariant = { λ r. ArePins (last_push r.last_pushes.entries) r.hub (λ place. btree.get nat_cmp r.pins place) };
 }
 
 impl Replay {
-    /// A new hub, of which nothing was asked.
-    pub fn start(alloc: Global, admin: &UserName) -> Result<Replay, NoMemory>
-        ensures { IfOk result (λ replay. replay ≡ record { admin = admin.now; log = [] }) }
+    /// A new hub, of which nothing was asked. Of openings at which a push is to come, the map has the place of the last
+    /// such push.
+    pub fn start(
+        alloc: Global,
+        admin: &UserName,
+        last_pushes: BTreeMap<u64, u64>,
+    ) -> Result<Replay, NoMemory>
+        ensures hub { IfOk result (λ replay. replay.hub ≡ record { admin = admin.now; log = [] }) }
+        ensures last_pushes { IfOk result (λ replay. replay.last_pushes ≡ last_pushes.entries) }
     {
         Ok(Replay {
             hub: Hub::start(alloc, admin)?,
             pins: BTreeMap::new(alloc),
+            last_pushes,
         })
     }
 
     /// The hub. It keeps no pin.
     pub fn into_hub(self) -> Hub
-        ensures { result ≡ self }
+        ensures { result ≡ self.hub }
     {
-        let Replay { hub, pins: _ } = self;
+        let Replay {
+            hub,
+            pins: _,
+            last_pushes: _,
+        } = self;
         hub
     }
 
     /// Asks of the hub what was asked once. It costs what the hub's call does, and for a push what `judge` does.
     pub fn next(self, alloc: Global, request: CallerRequest) -> Result<Replay, ReplayFault>
         requires storable { IsStorable request.caller (asked request.request) }
-        ensures replays { IfOk result (λ replay. Replays self replay request.caller (asked request.request)) }
-        ensures legal { IfOk result (λ replay. IsLegal replay.admin replay.log) }
-        ensures possible { OnOk result (IsImpossible self (asked request.request) → ⊥) }
-        ensures impossible { IfErr result (λ fault. fault ≡ ReplayFault.Impossible → IsImpossible self (asked request.request)) }
+        ensures replays { IfOk result (λ replay. Replays self.hub replay.hub request.caller (asked request.request)) }
+        ensures last_pushes { IfOk result (λ replay. replay.last_pushes ≡ self.last_pushes) }
+        ensures legal { IfOk result (λ replay. IsLegal replay.hub.admin replay.hub.log) }
+        ensures possible { OnOk result (IsImpossible self.hub (asked request.request) → ⊥) }
+        ensures impossible { IfErr result (λ fault. fault ≡ ReplayFault.Impossible → IsForeseen self (asked request.request) → IsImpossible self.hub (asked request.request)) }
     {
         let CallerRequest { caller, request } = request;
         match request {
@@ -112,19 +129,32 @@ impl Replay {
         repo: &RepoName,
         want: Want,
     ) -> Result<Replay, ReplayFault>
-        ensures replays { IfOk result (λ replay. Replays self replay caller (Enter user.now repo.now want)) }
-        ensures legal { IfOk result (λ replay. IsLegal replay.admin replay.log) }
+        ensures replays { IfOk result (λ replay. Replays self.hub replay.hub caller (Enter user.now repo.now want)) }
+        ensures last_pushes { IfOk result (λ replay. replay.last_pushes ≡ self.last_pushes) }
+        ensures legal { IfOk result (λ replay. IsLegal replay.hub.admin replay.hub.log) }
         ensures fault { IfErr result (λ fault. fault ≡ ReplayFault.NoMemory) }
     {
-        let Replay { mut hub, mut pins } = self;
+        let Replay {
+            mut hub,
+            mut pins,
+            last_pushes,
+        } = self;
         let kept = ask_enter(alloc, &mut hub, caller, user, repo, want)?;
-        let Some(pin) = kept else {
-            return Ok(Replay { hub, pins });
+        let Some(pin) = awaited_only(&last_pushes, hub.log().len() as u64, kept) else {
+            return Ok(Replay {
+                hub,
+                pins,
+                last_pushes,
+            });
         };
         let Ok(_) = pins.insert(pin.place(), pin) else {
             return Err(ReplayFault::NoMemory);
         };
-        Ok(Replay { hub, pins })
+        Ok(Replay {
+            hub,
+            pins,
+            last_pushes,
+        })
     }
 
     fn push(
@@ -138,21 +168,32 @@ impl Replay {
     ) -> Result<Replay, ReplayFault>
         requires commands { AreStorable commands }
         requires fit { FitOnePack pack }
-        ensures replays { IfOk result (λ replay. Replays self replay caller (Push place pack commands atomic)) }
-        ensures legal { IfOk result (λ replay. IsLegal replay.admin replay.log) }
-        ensures possible { OnOk result (IsImpossible self (Push place pack commands atomic) → ⊥) }
-        ensures impossible { IfErr result (λ fault. fault ≡ ReplayFault.Impossible → IsImpossible self (Push place pack commands atomic)) }
+        ensures replays { IfOk result (λ replay. Replays self.hub replay.hub caller (Push place pack commands atomic)) }
+        ensures last_pushes { IfOk result (λ replay. replay.last_pushes ≡ self.last_pushes) }
+        ensures legal { IfOk result (λ replay. IsLegal replay.hub.admin replay.hub.log) }
+        ensures possible { OnOk result (IsImpossible self.hub (Push place pack commands atomic) → ⊥) }
+        ensures impossible { IfErr result (λ fault. fault ≡ ReplayFault.Impossible → IsForeseen self (Push place pack commands atomic) → IsImpossible self.hub (Push place pack commands atomic)) }
     {
-        let Replay { mut hub, pins } = self;
-        let Some(kept) = pins.get(&place) else {
-            return Err(ReplayFault::Impossible);
-        };
+        let Replay {
+            mut hub,
+            mut pins,
+            last_pushes,
+        } = self;
         if commands.is_empty() {
             return Err(ReplayFault::Impossible);
         }
-        let pin = copy_pin(alloc, kept)?;
-        ask_push(alloc, &mut hub, caller, pin, pack, commands, atomic)?;
-        Ok(Replay { hub, pins })
+        let goes_on = is_awaited(&last_pushes, hub.log().len() as u64 + 1, place);
+        let Some(pin) = take_pin(alloc, &mut pins, place, goes_on)? else {
+            return Err(ReplayFault::Impossible);
+        };
+        let Ok(()) = ask_push(alloc, &mut hub, caller, pin, pack, commands, atomic) else {
+            return Err(ReplayFault::NoMemory);
+        };
+        Ok(Replay {
+            hub,
+            pins,
+            last_pushes,
+        })
     }
 
     fn permit(
@@ -164,24 +205,83 @@ impl Replay {
         change: PermChange,
     ) -> Result<Replay, ReplayFault>
         requires { HasShortRole change }
-        ensures replays { IfOk result (λ replay. Replays self replay caller (Permit user.now repo.now change)) }
-        ensures legal { IfOk result (λ replay. IsLegal replay.admin replay.log) }
+        ensures replays { IfOk result (λ replay. Replays self.hub replay.hub caller (Permit user.now repo.now change)) }
+        ensures last_pushes { IfOk result (λ replay. replay.last_pushes ≡ self.last_pushes) }
+        ensures legal { IfOk result (λ replay. IsLegal replay.hub.admin replay.hub.log) }
         ensures fault { IfErr result (λ fault. fault ≡ ReplayFault.NoMemory) }
     {
-        let Replay { mut hub, pins } = self;
+        let Replay {
+            mut hub,
+            pins,
+            last_pushes,
+        } = self;
         ask_permit(alloc, &mut hub, caller, user, repo, change)?;
-        Ok(Replay { hub, pins })
+        Ok(Replay {
+            hub,
+            pins,
+            last_pushes,
+        })
     }
 
     fn look(self, alloc: Global, caller: u64, user: &UserName) -> Result<Replay, ReplayFault>
-        ensures replays { IfOk result (λ replay. Replays self replay caller (Look user.now)) }
-        ensures legal { IfOk result (λ replay. IsLegal replay.admin replay.log) }
+        ensures replays { IfOk result (λ replay. Replays self.hub replay.hub caller (Look user.now)) }
+        ensures last_pushes { IfOk result (λ replay. replay.last_pushes ≡ self.last_pushes) }
+        ensures legal { IfOk result (λ replay. IsLegal replay.hub.admin replay.hub.log) }
         ensures fault { IfErr result (λ fault. fault ≡ ReplayFault.NoMemory) }
     {
-        let Replay { mut hub, pins } = self;
+        let Replay {
+            mut hub,
+            pins,
+            last_pushes,
+        } = self;
         ask_look(alloc, &mut hub, caller, user)?;
-        Ok(Replay { hub, pins })
+        Ok(Replay {
+            hub,
+            pins,
+            last_pushes,
+        })
     }
+}
+
+// Whether a push at this place of the log or a later one is after the opening.
+fn is_awaited(last_pushes: &BTreeMap<u64, u64>, from: u64, opening: u64) -> bool
+    ensures { result ≡ false → IsAwaited (last_push last_pushes.now.entries) from opening → ⊥ }
+{
+    match last_pushes.get(&opening) {
+        Some(last) => from <= *last,
+        None => false,
+    }
+}
+
+// The pin of an opening, where a push at this place of the log or a later one is after it.
+fn awaited_only(last_pushes: &BTreeMap<u64, u64>, from: u64, kept: Option<Pin>) -> Option<Pin>
+    ensures { KeepsAwaited (last_push last_pushes.now.entries) from kept result }
+{
+    let pin = kept?;
+    if is_awaited(last_pushes, from, pin.place()) {
+        return Some(pin);
+    }
+    None
+}
+
+// The pin of an opening: the one that is kept, or a copy of it where a push is to come after this one.
+fn take_pin(
+    alloc: Global,
+    pins: &mut BTreeMap<u64, Pin>,
+    place: u64,
+    goes_on: bool,
+) -> Result<Option<Pin>, NoMemory>
+    requires { (pin : Opening) → btree.get nat_cmp pins.old place ≡ Some pin → pin.pinned.want ≡ want.Write }
+    ensures found { IfOk result (λ pin. pin ≡ btree.get nat_cmp pins.old place) }
+    ensures left { OnOk result (LeavesPins goes_on place (λ q. btree.get nat_cmp pins.old q) (λ q. btree.get nat_cmp pins.new q)) }
+{
+    if !goes_on {
+        return Ok(pins.remove(&place));
+    }
+    let Some(kept) = pins.get(&place) else {
+        return Ok(None);
+    };
+    Ok(Some(copy_pin(alloc, kept)?))
 }
 
 // An opening. Its pin is kept where it is for writing.

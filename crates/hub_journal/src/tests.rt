@@ -147,21 +147,21 @@ fn each_event_is_stored(rt: HostRuntime) {
     assert!(rt; found(&rt, alloc, &mut disk, "admin") == Ok(3));
 }
 
-// Opening makes five calls, and each event four.
+// Opening makes six calls, and each event four.
 #[test]
 fn stopped_after_each_call(rt: HostRuntime) {
     let alloc = rt.alloc();
     let (disk, _) = stored(&rt, alloc, Vec::new(alloc));
     for (calls, least, most) in [
-        (5, 0, 0),
         (6, 0, 0),
         (7, 0, 0),
-        (8, 0, 1),
-        (9, 1, 1),
+        (8, 0, 0),
+        (9, 0, 1),
         (10, 1, 1),
         (11, 1, 1),
-        (12, 1, 2),
-        (13, 2, 2),
+        (12, 1, 1),
+        (13, 1, 2),
+        (14, 2, 2),
         (64, 2, 2),
     ] {
         for filler in [0, 255] {
@@ -177,7 +177,7 @@ fn stopped_after_each_call(rt: HostRuntime) {
 #[test]
 fn a_call_fails(rt: HostRuntime) {
     let alloc = rt.alloc();
-    for (number, certain, count) in [(5, 0, 0), (8, 0, 1), (9, 1, 1), (12, 1, 2)] {
+    for (number, certain, count) in [(6, 0, 0), (9, 0, 1), (10, 1, 1), (13, 1, 2)] {
         let failing = vec![in alloc; number];
         let failing = failing.expect(&rt, "memory for a number");
         let (disk, stored) = stored(&rt, alloc, failing);
@@ -192,7 +192,7 @@ fn a_call_fails(rt: HostRuntime) {
 fn cut_to(rt: &impl Abort, alloc: Global, bytes: &[u8], size: usize) -> Result<usize, OpenFault> {
     let bytes = bytes.get(..size).expect(rt, "enough bytes");
     let bytes = bytes.to_vec(alloc).expect(rt, "memory for bytes");
-    let disk = MemoryDisk::new(alloc, bytes, 9, Vec::new(alloc));
+    let disk = MemoryDisk::new(alloc, bytes, 100, Vec::new(alloc));
     found(
         rt,
         alloc,
@@ -242,6 +242,9 @@ fn each_fault_of_opening(rt: HostRuntime) {
     // a record without a body, and the push alone, which is after no opening
     let empty = b"GITOLOG1\x05admin\x01\0\0\0\0\0\0\0\0\0";
     assert!(rt; cut_to(&rt, alloc, empty, 24) == Err(OpenFault::BadRecord(HEAD)));
+    // of a bad body and a record behind it that isn't whole, the first is told
+    let both = b"GITOLOG1\x05admin\x01\0\0\0\0\0\0\0\0\x01";
+    assert!(rt; cut_to(&rt, alloc, both, 24) == Err(OpenFault::BadRecord(HEAD)));
     let mut alone = bytes
         .get(..14)
         .expect(&rt, "a head")

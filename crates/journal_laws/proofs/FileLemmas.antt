@@ -2,7 +2,7 @@
 use Rattle.std.proofs.Common.{◌≡◌, inl, inr, ℕ, zero, suc, ◌<◌, List, [], ◌∷◌, ◌++◌, length, map, take, drop, refl, sym, ◌∙◌, ap, subst, arith, append_assoc, length-append}
 use Rattle.std.specs.Prelude.{Option, Some, None}
 use Rattle.std.specs.List.{flat_map, slice_get}
-use Rattle.std.proofs.lemmas.List.{take-append-drop}
+use Rattle.std.proofs.lemmas.List.{length-map, take_at, take-append-drop}
 use Rattle.ref_store.specs.Refs.{Name}
 use Rattle.ref_store.specs.declared.command.Command.{Command}
 use Rattle.rule_compile.specs.Patterns.{AreTrue, Patterns}
@@ -15,11 +15,11 @@ use Rattle.hub_history.specs.Requests.{Request, request_of}
 use Rattle.hub_history.proofs.HistoryLemmas.{beginning_legal, due_behind}
 use Rattle.history_laws.specs.StateLaws.{OneLog, asked_in}
 use Rattle.record_file.specs.Records.{HasAnotherName, Holds, IsBadAt, IsNoRecordFile, record_bytes}
-use Rattle.record_file.specs.Opening.{bodies_of}
-use Rattle.record_file.specs.declared.stored_record.StoredRecord.{StoredRecord}
+use Rattle.record_file.proofs.OneReading.{goes_on, read_whole}
+use Rattle.record_file.proofs.ReadLemmas.{reads_bad}
 use Rattle.event_record.specs.Bodies.{IsStorable, body_of}
 use Rattle.hub_journal.specs.Events.{AreStorableEntries, IsStorableEntry, bodies_in, body_in, head_for, magic}
-use Rattle.hub_journal.specs.Recovery.{HasBadEventAt, IsBadEventAt}
+use Rattle.hub_journal.specs.Recovery.{HasBadEventAt, IsBadBody}
 use Rattle.hub_journal.specs.Replay.{IsImpossible}
 use Rattle.hub_journal.specs.declared.open_fault.OpenFault.TheVariants as fault
 use Rattle.journal_laws.specs.Laws.{BodiesTellTheLog, FoundIsBeginning, IsJournalLog, OwnIsNotRefused}
@@ -45,20 +45,14 @@ front_same (x ∷ xs) (y ∷ ys) behind after long is =
     let rest : xs ≡ ys = front_same xs ys behind after (omega (arith, long)) (rest_same x y (xs ++ behind) (ys ++ after) is) in
     λ i. first i ∷ rest i
 
-bodies_taken : (count : ℕ) (records : List StoredRecord) → bodies_of (take count records) ≡ take count (bodies_of records)
-bodies_taken zero records = refl
-bodies_taken (suc n) [] = refl
-bodies_taken (suc n) (r ∷ records) = ap (λ (l : List (List ℕ)). r.body ∷ l) (bodies_taken n records)
-
 events_taken : (count : ℕ) (log : List Entry) → bodies_in (take count log) ≡ take count (bodies_in log)
 events_taken zero log = refl
 events_taken (suc n) [] = refl
 events_taken (suc n) (e ∷ log) = ap (λ (l : List (List ℕ)). body_in e ∷ l) (events_taken n log)
 
-body_there : (records : List StoredRecord) (index : ℕ) (its : StoredRecord) → slice_get records index ≡ Some its → slice_get (bodies_of records) index ≡ Some its.body
-body_there [] index its is = absurd cc
-body_there (r ∷ records) zero its is = let same : r ≡ its = cc in ap (λ (x : StoredRecord). Some x.body) same
-body_there (r ∷ records) (suc n) its is = body_there records n its is
+there_at : (xs : List (List ℕ)) (x : List ℕ) (ys : List (List ℕ)) → slice_get (xs ++ x ∷ ys) (length xs) ≡ Some x
+there_at [] x ys = refl
+there_at (y ∷ xs) x ys = there_at xs x ys
 
 event_there : (log : List Entry) (index : ℕ) (body : List ℕ) → slice_get (bodies_in log) index ≡ Some body → (e : Entry) × (slice_get log index ≡ Some e) × (body ≡ body_in e)
 event_there [] index body is = absurd cc
@@ -164,32 +158,41 @@ module _ (one_log : OneLog) (one_body : OneBody) where
 
     module _ (never_bad : NeverBad) (patterns : Patterns) (true : AreTrue patterns) where
       -- the event at the place of a record that is said to be bad
-      no_bad_event : (admin : Name) (log : List Entry) (file : List ℕ) (offset : ℕ) → IsJournalLog admin log → Holds (head_for admin) (bodies_in log) file → HasBadEventAt admin file offset → ⊥
-      no_bad_event admin log file offset kept holds has =
-          let same : bodies_of has.records ≡ bodies_in log = one_reading (head_for admin) file (bodies_of has.records) (bodies_in log) has.holds holds in
-          let bad : IsBadEventAt admin has.records offset = has.bad in
-          let before : bad.log ≡ take bad.index log =
-          bodies_tell admin bad.log (take bad.index log) (bad.legal, bad.storable) (beginning_kept admin log bad.index kept)
-          (bad.before ∙ bodies_taken bad.index has.records ∙ ap (λ (bs : List (List ℕ)). take bad.index bs) same ∙ sym (events_taken bad.index log)) in
-          let found = event_there log bad.index bad.its.body (subst (λ (bs : List (List ℕ)). slice_get bs bad.index ≡ Some bad.its.body) same (body_there has.records bad.index bad.its bad.there)) in
+      no_bad_record : (admin : Name) (log before : List Entry) (body : List ℕ) (more : List (List ℕ)) → IsJournalLog admin log → IsJournalLog admin before → bodies_in log ≡ bodies_in before ++ body ∷ more → IsBadBody (record { admin = admin; log = before }) body → ⊥
+      no_bad_record admin log before body more kept whole goes_on bad =
+          let index : ℕ = length before in
+          let long : length (bodies_in before) ≡ index = length-map before body_in in
+          let first : bodies_in before ≡ bodies_in (take index log) =
+          sym (take_at (bodies_in before) (body ∷ more) index long) ∙ ap (λ (bs : List (List ℕ)). take index bs) (sym goes_on) ∙ sym (events_taken index log) in
+          let same : before ≡ take index log = bodies_tell admin before (take index log) whole (beginning_kept admin log index kept) first in
+          let there : slice_get (bodies_in log) index ≡ Some body =
+          ap (λ (bs : List (List ℕ)). slice_get bs index) goes_on ∙ ap (λ (n : ℕ). slice_get (bodies_in before ++ body ∷ more) n) (sym long) ∙ there_at (bodies_in before) body more in
+          let found = event_there log index body there in
           let e : Entry = found.0 in
-          let able : IsStorableEntry e = storable_there log bad.index e kept.1 found.1 in
-          elim bad.bad [
+          let able : IsStorableEntry e = storable_there log index e kept.1 found.1 in
+          elim bad [
             | inl none ↦ none e.caller (request_of e.event) able found.2
             | inr impossible ↦
                 let asks = one_body impossible.caller e.caller impossible.request (request_of e.event) impossible.storable able (sym impossible.spells ∙ found.2) in
-                was_possible patterns admin (take bad.index log) e.event (due_behind admin log bad.index e kept.0 found.1 patterns true)
-                (subst (λ (l : List Entry). IsImpossible (record { admin = admin; log = l }) (request_of e.event)) before
-                (subst (IsImpossible (record { admin = admin; log = bad.log })) asks.1 impossible.impossible))
+                was_possible patterns admin (take index log) e.event (due_behind admin log index e kept.0 found.1 patterns true)
+                (subst (λ (l : List Entry). IsImpossible (record { admin = admin; log = l }) (request_of e.event)) same
+                (subst (IsImpossible (record { admin = admin; log = before })) asks.1 impossible.impossible))
+          ]
+
+      no_bad_event : (admin : Name) (log : List Entry) (file : List ℕ) (offset : ℕ) → IsJournalLog admin log → Holds (head_for admin) (bodies_in log) file → HasBadEventAt admin file offset → ⊥
+      no_bad_event admin log file offset kept holds has =
+          let whole = read_whole (head_for admin) (bodies_in log) file holds in
+          elim has.bad [
+            | inl gate ↦ never_bad (head_for admin) file (bodies_in log) offset holds (reads_bad (head_for admin) (bodies_in has.log) file offset has.read gate)
+            | inr its ↦
+                let on = goes_on (head_for admin) file (bodies_in log) (bodies_in has.log) whole.end offset its.next its.body whole.read (inl whole.closed) has.read its.there in
+                no_bad_record admin log has.log its.body on.more kept (has.legal, has.storable) on.all_is its.bad
           ]
 
       pub own_is_not_refused : OwnIsNotRefused
       own_is_not_refused admin log least file fault.NotAJournal kept some is = absurd (no_record_file admin (bodies_in (take some.count log)) file some.holds is)
       own_is_not_refused admin log least file fault.OtherAdmin kept some is = absurd (another_name admin (bodies_in (take some.count log)) file some.holds is)
-      own_is_not_refused admin log least file (fault.BadRecord offset) kept some is =
-          elim is [
-            | inl bad ↦ absurd (never_bad (head_for admin) file (bodies_in (take some.count log)) offset some.holds bad)
-            | inr has ↦ absurd (no_bad_event admin (take some.count log) file offset (beginning_kept admin log some.count kept) some.holds has)
-          ]
+      own_is_not_refused admin log least file (fault.BadRecord offset) kept some has =
+          absurd (no_bad_event admin (take some.count log) file offset (beginning_kept admin log some.count kept) some.holds has)
       own_is_not_refused admin log least file fault.DiskFault kept some is = inl refl
       own_is_not_refused admin log least file fault.NoMemory kept some is = inr refl

@@ -2,7 +2,8 @@
 use Rattle.std.proofs.Common.{◌≡◌, ◌⊎◌, inl, inr, ℕ, ◌<◌, List, [], ◌∷◌, ◌++◌, length, refl, ap, subst, arith}
 use Rattle.record_file.specs.Records.{head_of, Holds, IsBadAt}
 use Rattle.record_file.specs.Reading.{IsRefused, IsBadRecord}
-use Rattle.record_file.specs.Opening.{bodies_of, AreRecordsOf}
+use Rattle.std.specs.Prelude.{Err}
+use Rattle.record_file.specs.Opening.{bodies_of, AreRecordsOf, ChecksHead}
 use Rattle.record_file.specs.declared.stored_record.StoredRecord.{StoredRecord}
 use Rattle.record_file.specs.declared.open_fault.OpenFault.{OpenFault}
 use Rattle.record_file.specs.declared.open_fault.OpenFault.TheVariants.{NotARecordFile, NameDiffers, BadRecord, DiskFault, NoMemory}
@@ -40,3 +41,11 @@ refused_there magic name old new NameDiffers same begun never = absurd never
 refused_there magic name old new (BadRecord offset) same begun bad = bad_there (head_of magic name) old new same begun offset bad
 refused_there magic name old new DiskFault same begun done = tt
 refused_there magic name old new NoMemory same begun done = tt
+
+-- a file that is refused by its head
+pub head_refused : (magic name file : List ℕ) (fault : OpenFault) → ChecksHead magic name file (Err fault) → IsRefused magic name file fault
+head_refused magic name file NotARecordFile is = is
+head_refused magic name file NameDiffers is = is
+head_refused magic name file (BadRecord offset) never = absurd never
+head_refused magic name file DiskFault done = tt
+head_refused magic name file NoMemory done = tt

@@ -1,12 +1,12 @@
 mod CallLemmas
-mod CrashLemmas
-mod FoundLemmas
+pub mod CrashLemmas
+pub mod FoundLemmas
 mod GroupLemmas
 mod ImageLemmas
 mod MemoryLemmas
 mod OffsetLemmas
-mod OneReading
-mod OpenLemmas
-mod ReadLemmas
+pub mod OneReading
+pub mod OpenLemmas
+pub mod ReadLemmas
 mod RecordLemmas
 mod StoreLemmas

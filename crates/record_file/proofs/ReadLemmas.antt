@@ -1,14 +1,15 @@
 -- Reading a head and the records behind it.
 use Rattle.std.proofs.Common.{◌≡◌, ◌≢◌, ◌⊎◌, inl, inr, ℕ, zero, suc, ◌+◌, ◌-◌, ◌≤◌, ◌<◌, ◌^◌, min, Bool, true, false, not, List, [], ◌∷◌, ◌++◌, length, get_or, take, drop, refl, sym, ◌∙◌, ap, subst, arith, length-append, length-drop, append_assoc, take-append-drop, Fits, w8}
-use Rattle.std.proofs.lemmas.List.{length-take-le, take-take, take_at, drop-drop, drop_more, get_or-take, get_or-drop, get_or_at}
+use Rattle.std.proofs.lemmas.List.{length-take-le, take-take, take_at, drop-drop, drop_more, take_all, get_or-take, get_or-drop, get_or_at}
 use Rattle.std.proofs.lemmas.Nat.{be_bytes_8, from_be_bytes-to_be_bytes_8}
 use Rattle.std.specs.Int.{w64, to_be_bytes, from_be_bytes}
-use Rattle.std.specs.Prelude.{nat_eq, Err}
+use Rattle.std.specs.Prelude.{nat_eq, Result, Ok, Err, Option, Some, None}
 use Rattle.std.specs.Cmp.Lexicographic.{pointwise, bytes_decides}
 use Rattle.record_file.specs.Crashes.{FileState}
 use Rattle.record_file.specs.Records.{head_of, framed, record_size, Begins, IsFramed, IsNoRecordFile, HasAnotherName, IsBadAt}
-use Rattle.record_file.specs.Reading.{ReaderState, IsAtGate, ReadsHead, ReadsNext, IsBadRecord, IsReadTo, IsClosedAt, IsRecordAt, IsBadGate}
+use Rattle.record_file.specs.Reading.{ReaderState, IsAtGate, ReadsHead, ReadsNext, IsBadRecord, IsReadTo, IsClosedAt, IsRecordAt, IsBadGate, IsFrontAt, ReadsFront, IsBehind, Moves, MovesBehind}
 use Rattle.record_file.specs.Opening.{ChecksHead}
+use Rattle.record_file.specs.declared.stored_record.StoredRecord.{StoredRecord}
 use Rattle.record_file.specs.declared.open_fault.OpenFault.{OpenFault}
 use Rattle.record_file.specs.declared.open_fault.OpenFault.TheVariants.{NotARecordFile, NameDiffers, BadRecord, DiskFault, NoMemory}
 use Rattle.record_file.specs.Gates.{IsOpenGate, IsNoGate}
@@ -115,15 +116,46 @@ record_at file body offset size lt g long is =
       within = omega (arith, g.long, length-drop offset file, long);
     }
 
-pub record_read : (a b : FileState) (bytes body : List ℕ) (inside reader : ReaderState) (size disk_size : ℕ) → b ≡ a → inside ≡ reader → length a.content ≡ disk_size → IsAtGate reader disk_size → IsOpenGate (drop inside.offset a.content) size
-    → length bytes ≡ size → bytes ≡ take size (drop (inside.offset + 9) b.content) → body ≡ bytes → IsRecordAt a.content reader.offset body (inside.offset + (9 + size))
-record_read a b bytes body inside reader size disk_size same view told at gate long is from =
+front_read_at : (file front : List ℕ) (offset size count most : ℕ) → offset < length file → IsOpenGate (drop offset file) size → count ≡ min size most → front ≡ take count (drop (offset + 9) file) → IsFrontAt most file offset front (offset + (9 + size))
+front_read_at file front offset size count most lt g few is =
+    let body : List ℕ = take size (drop (offset + 9) file) in
+    let long : length body ≡ size = length-take-le size (drop (offset + 9) file) (omega (arith, g.long, length-drop offset file, length-drop (offset + 9) file)) in
+    let next : offset + record_size body ≡ offset + (9 + size) = omega (arith, long) in
+    record {
+      body = body;
+      there = subst (λ (n : ℕ). IsRecordAt file offset body n) next (record_at file body offset size lt g long refl);
+      front_is = is ∙ elim (either_le size most) [
+        | inl small ↦ ap (λ (n : ℕ). take n (drop (offset + 9) file)) (let all : count ≡ size = omega (arith, few, small) in all) ∙ sym (take_all most body (omega (arith, long, small)))
+        | inr large ↦ ap (λ (n : ℕ). take n (drop (offset + 9) file)) (let all : count ≡ most = omega (arith, few, large) in all) ∙ sym (take-take most size (drop (offset + 9) file) large)
+      ];
+    }
+
+pub front_read : (a b : FileState) (bytes front : List ℕ) (inside reader : ReaderState) (size count most disk_size : ℕ) → b ≡ a → inside ≡ reader → length a.content ≡ disk_size → IsAtGate reader disk_size → IsOpenGate (drop inside.offset a.content) size
+    → count ≡ min size most → bytes ≡ take count (drop (inside.offset + 9) b.content) → front ≡ bytes → IsFrontAt most a.content reader.offset front (inside.offset + (9 + size))
+front_read a b bytes front inside reader size count most disk_size same view told at gate few is from =
     let offset : inside.offset ≡ reader.offset = ap (λ (r : ReaderState). r.offset) view in
-    let body_long : length body ≡ size = ap length from ∙ long in
-    let here : IsRecordAt a.content inside.offset body (inside.offset + record_size body) =
-    record_at a.content body inside.offset size (omega (arith, offset, told, at.within)) gate body_long (from ∙ is ∙ ap (λ (f : FileState). take size (drop (inside.offset + 9) f.content)) same) in
-    let next : inside.offset + record_size body ≡ inside.offset + (9 + size) = omega (arith, body_long) in
-    subst (λ (n : ℕ). IsRecordAt a.content n body (inside.offset + (9 + size))) offset (subst (λ (n : ℕ). IsRecordAt a.content inside.offset body n) next here)
+    subst (λ (n : ℕ). IsFrontAt most a.content n front (inside.offset + (9 + size))) offset
+    (front_read_at a.content front inside.offset size count most (omega (arith, offset, told, at.within)) gate few (from ∙ is ∙ ap (λ (f : FileState). take count (drop (inside.offset + 9) f.content)) same))
+
+-- of a whole body all is its front
+whole_front : (file : List ℕ) (offset next : ℕ) (front : List ℕ) → IsFrontAt (2 ^ 64 - 1) file offset front next → IsRecordAt file offset front next
+whole_front file offset next front f =
+    subst (λ (l : List ℕ). IsRecordAt file offset l next) (sym (f.front_is ∙ take_all (2 ^ 64 - 1) f.body (omega (arith, f.there.fits)))) f.there
+
+pub reads_whole : (file : List ℕ) (offset next : ℕ) (result : Result (Option StoredRecord) OpenFault) → ReadsFront (2 ^ 64 - 1) file offset next result → ReadsNext file offset next result
+reads_whole file offset next (Ok (Some r)) is = whole_front file offset next r.body is
+reads_whole file offset next (Ok None) is = is
+reads_whole file offset next (Err fault) is = is
+
+behind_whole : (front : List ℕ) (old new : ReaderState) → IsBehind (2 ^ 64 - 1) front old new → new ≡ record old { offset = old.offset + record_size front }
+behind_whole front old new is =
+    let same : old.offset + (9 + is.size) ≡ old.offset + record_size front = omega (arith, is.long, is.fits) in
+    is.place ∙ ap (λ (n : ℕ). record old { offset = n }) same
+
+pub moves_whole : (result : Result (Option StoredRecord) OpenFault) (old new : ReaderState) → MovesBehind (2 ^ 64 - 1) result old new → Moves result old new
+moves_whole (Ok (Some r)) old new is = (is.0, behind_whole r.body old new is.1)
+moves_whole (Ok None) old new is = is
+moves_whole (Err fault) old new is = is
 
 -- one record more is read
 pub reads_more : (head : List ℕ) (bodies : List (List ℕ)) (file body : List ℕ) (offset next : ℕ) → IsReadTo head bodies file offset → IsRecordAt file offset body next → IsReadTo head (bodies ++ body ∷ []) file next

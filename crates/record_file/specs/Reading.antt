@@ -1,5 +1,5 @@
 -- What reading a file of records answers.
-use Rattle.std.specs.Prelude.{◌≡◌, ◌≢◌, ⊤, ℕ, ◌+◌, ◌<◌, ◌^◌, List, ◌∷◌, ◌++◌, length, drop, slice_index, Result, Ok, Err, Option, Some, None}
+use Rattle.std.specs.Prelude.{◌≡◌, ◌≢◌, ◌⊎◌, ⊤, ℕ, ◌+◌, ◌<◌, ◌^◌, List, ◌∷◌, ◌++◌, length, take, drop, min, slice_index, Result, Ok, Err, Option, Some, None}
 use Rattle.std.specs.Borrow.{Bor}
 use Rattle.record_file.specs.Records.{head_of, framed, record_size, Begins, IsFramed, IsNoRecordFile, HasAnotherName, IsBadAt}
 use Rattle.record_file.specs.declared.open_fault.OpenFault.{OpenFault}
@@ -73,3 +73,35 @@ ReadsNext file offset next (Err fault) = ⊥
 abbrev pub Moves : Result (Option StoredRecord) OpenFault → ReaderState → ReaderState → Type 0
 Moves (Ok (Some r)) old new = (r.offset ≡ old.offset) × (new ≡ record old { offset = old.offset + record_size r.body })
 Moves answer old new = new ≡ old
+
+-- No whole record is at this offset: its gate is zero, or isn't and nothing whole follows.
+abbrev pub HasNoRecord : List ℕ → ℕ → Type 0
+HasNoRecord file offset = IsClosedAt file offset ⊎ IsBadGate file offset
+
+-- A whole record is at this offset, and these are the first bytes of its body, at most so many.
+pub record IsFrontAt (most : ℕ) (file : List ℕ) (offset : ℕ) (front : List ℕ) (next : ℕ) : Type 0 where
+  pub body : List ℕ
+  pub there : IsRecordAt file offset body next
+  pub front_is : front ≡ take most body
+
+-- what the answer with the front of the next record says of the file
+abbrev pub ReadsFront : ℕ → List ℕ → ℕ → ℕ → Result (Option StoredRecord) OpenFault → Type 0
+ReadsFront most file offset next (Ok (Some r)) = IsFrontAt most file offset r.body next
+ReadsFront most file offset next answer = ReadsNext file offset next answer
+
+-- The reader is behind a record whose body begins with this front, at most so many bytes of it.
+pub record IsBehind (most : ℕ) (front : List ℕ) (old new : ReaderState) : Type 0 where
+  pub size : ℕ
+  pub fits : size < 2 ^ 64
+  pub long : length front ≡ min size most
+  pub place : new ≡ record old { offset = old.offset + (9 + size) }
+
+-- where the reader is then: behind a record of which the front was read, else where it was
+abbrev pub MovesBehind : ℕ → Result (Option StoredRecord) OpenFault → ReaderState → ReaderState → Type 0
+MovesBehind most (Ok (Some r)) old new = (r.offset ≡ old.offset) × IsBehind most r.body old new
+MovesBehind most answer old new = Moves answer old new
+
+-- The first of these bodies are those, and this one follows.
+pub record GoesOnWith (all some : List (List ℕ)) (body : List ℕ) : Type 0 where
+  pub more : List (List ℕ)
+  pub all_is : all ≡ some ++ body ∷ more

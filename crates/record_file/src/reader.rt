@@ -3,7 +3,7 @@ ghost use Rattle.std.specs.Prelude.{◌≡◌, ◌+◌, ◌-◌, ◌++◌, ◌�
 ghost use Rattle.record_file.specs.Crashes.{Leaves, LeavesOnly, settled};
 ghost use Rattle.record_file.specs.Disks.{Counts};
 ghost use Rattle.record_file.specs.Records.{head_of, Holds, HoldsAllOrNone};
-ghost use Rattle.record_file.specs.Reading.{IsRefused, IsReadTo, IsClosedAt, IsAtGate, ReadsNext, Moves};
+ghost use Rattle.record_file.specs.Reading.{IsRefused, IsReadTo, IsClosedAt, IsAtGate, ReadsFront, ReadsNext, Moves, MovesBehind};
 ghost use Rattle.record_file.specs.Opening.{ReportsFaults, ChecksHead, IsStarted, IsTooShort};
 ghost use Rattle.record_file.specs.Files.{IsDurable};
 ghost use Rattle.record_file.specs.Gates.{IsGateOf, IsWithin};
@@ -15,8 +15,8 @@ use std::alloc::Global;
 use std::marker::Model;
 
 /// Reads a file that a crash may have left, record after record. The disk is passed to each call, and its file stays as
-/// it is until `finish`.
-#[derive(Drop)]
+/// it is until `finish`. A copy reads the same file again.
+#[derive(Clone, Copy)]
 pub struct RecordReader {
     offset: u64,
     size: u64,
@@ -28,6 +28,8 @@ impl Model for RecordReader {
     ghost Value = { ReaderState };
 
     ghost view = { λ r. record { offset = r.offset; size = r.size } };
+
+    ghost inverse = { λ r. record { offset = r.offset; size = r.size } };
 }
 
 impl RecordReader {
@@ -46,7 +48,7 @@ impl RecordReader {
         ensures started { OnOk result (IsTrue D.is_modeled → IsStarted (head_of magic.now name.now) (D.state disk.new).file) }
         ensures same { OnOk result (IsTrue D.is_modeled → 0 < length (D.state disk.old).file.content → (D.state disk.new).file.content ≡ (D.state disk.old).file.content) }
         ensures begun { OnOk result (IsTrue D.is_modeled → length (D.state disk.old).file.content ≡ 0 → (D.state disk.new).file.content ≡ head_of magic.now name.now ++ 0 ∷ []) }
-        ensures refused { IfErr result (λ fault. IsTrue D.is_modeled → IsRefused magic.now name.now (D.state disk.old).file.content fault) }
+        ensures refused { IfErr result (λ fault. IsTrue D.is_modeled → ChecksHead magic.now name.now (D.state disk.old).file.content (Err fault)) }
         ensures any_moment { IsTrue D.is_modeled → (bodies : List (List ℕ))
             → Leaves (Holds (head_of magic.now name.now) bodies) (D.state disk.old).file.pending
             → LeavesOnly (Holds (head_of magic.now name.now) bodies) (D.state disk.old).file (D.state disk.new).file }
@@ -77,17 +79,36 @@ impl RecordReader {
         ensures moves { Moves result self.old self.new }
         ensures reads { IsTrue D.is_modeled → ReadsNext (D.state disk.old).file.content self.old.offset self.new.offset result }
     {
+        self.next_front(alloc, disk, usize::MAX)
+    }
+
+    /// The front of the next record, at most so many bytes of its body, or `None` at the zero gate. The reader is
+    /// behind the whole record then, of which no more was read.
+    pub fn next_front<D: Disk>(
+        &mut self,
+        alloc: Global,
+        disk: &mut D,
+        most: usize,
+    ) -> Result<Option<StoredRecord>, OpenFault>
+        requires { IsAtGate self.old (D.state disk.old).size }
+        ensures faults { ReportsFaults result (D.state disk.old) (D.state disk.new) }
+        ensures at_gate { IsAtGate self.new (D.state disk.new).size }
+        ensures file { IsTrue D.is_modeled → (D.state disk.new).file ≡ (D.state disk.old).file }
+        ensures moves { MovesBehind most result self.old self.new }
+        ensures reads { IsTrue D.is_modeled → ReadsFront most (D.state disk.old).file.content self.old.offset self.new.offset result }
+    {
         match read_gate(disk, self.offset, self.size)? {
             Gate::Closed => Ok(None),
             Gate::Bad => Err(OpenFault::BadRecord(self.offset)),
             Gate::Record(size) => {
-                let body = match read_bytes(alloc, disk, self.offset + 9, size as usize) {
-                    Ok(body) => body,
+                let count = (size as usize).min(most);
+                let front = match read_bytes(alloc, disk, self.offset + 9, count) {
+                    Ok(front) => front,
                     Err(fault) => return Err(fault),
                 };
                 let record = StoredRecord {
                     offset: self.offset,
-                    body: Text::from(body),
+                    body: Text::from(front),
                 };
                 self.offset += 9 + size;
                 Ok(Some(record))
@@ -178,7 +199,7 @@ fn start_synced<D: Disk>(
     ensures started { OnOk result (IsTrue D.is_modeled → (D.state disk.old).file.pending ≡ settled (D.state disk.old).file.content → IsStarted (head_of magic.now name.now) (D.state disk.new).file) }
     ensures same { IsTrue D.is_modeled → 0 < length (D.state disk.old).file.content → (D.state disk.new).file ≡ (D.state disk.old).file }
     ensures begun { OnOk result (IsTrue D.is_modeled → length (D.state disk.old).file.content ≡ 0 → (D.state disk.new).file.content ≡ head_of magic.now name.now ++ 0 ∷ []) }
-    ensures refused { IfErr result (λ fault. IsTrue D.is_modeled → IsRefused magic.now name.now (D.state disk.old).file.content fault) }
+    ensures refused { IfErr result (λ fault. IsTrue D.is_modeled → ChecksHead magic.now name.now (D.state disk.old).file.content (Err fault)) }
     ensures any_moment_short { IsTrue D.is_modeled → (D.state disk.old).file.pending ≡ settled (D.state disk.old).file.content
         → IsTooShort (head_of magic.now name.now) (D.state disk.old).file.content
         → LeavesOnly (IsTooShort (head_of magic.now name.now)) (D.state disk.old).file (D.state disk.new).file }
@@ -261,7 +282,7 @@ fn begin<D: Disk>(alloc: Global, disk: &mut D, magic: &[u8], name: &[u8]) -> Res
     ensures offset { IfOk result (λ offset. offset ≡ length (head_of magic.now name.now)) }
     ensures started { OnOk result (IsTrue D.is_modeled → IsStarted (head_of magic.now name.now) (D.state disk.new).file) }
     ensures begun { OnOk result (IsTrue D.is_modeled → (D.state disk.new).file.content ≡ head_of magic.now name.now ++ 0 ∷ []) }
-    ensures refused { IfErr result (λ fault. IsTrue D.is_modeled → IsRefused magic.now name.now (D.state disk.old).file.content fault) }
+    ensures refused { IfErr result (λ fault. IsTrue D.is_modeled → ChecksHead magic.now name.now (D.state disk.old).file.content (Err fault)) }
     ensures any_moment_short { IsTrue D.is_modeled → (D.state disk.old).file.pending ≡ settled (D.state disk.old).file.content
         → LeavesOnly (IsTooShort (head_of magic.now name.now)) (D.state disk.old).file (D.state disk.new).file }
 {

@@ -144,22 +144,22 @@ fn all_events_are_stored(rt: HostRuntime) {
     assert!(rt; outcome.stored == 4 && outcome.logged == 4 && outcome.found == 4);
 }
 
-// The call that fails, how many events are answered, and how many are found. Opening makes five calls, and each event
+// The call that fails, how many events are answered, and how many are found. Opening makes six calls, and each event
 // four.
 #[test]
 fn a_call_fails(rt: HostRuntime) {
     let alloc = rt.alloc();
     for (number, answered, logged, found) in [
-        (5, 0, 1, 0),
         (6, 0, 1, 0),
         (7, 0, 1, 0),
-        (8, 0, 1, 1),
-        (9, 1, 2, 1),
-        (12, 1, 2, 2),
-        (13, 2, 3, 2),
-        (16, 2, 3, 3),
-        (17, 3, 4, 3),
-        (20, 3, 4, 4),
+        (8, 0, 1, 0),
+        (9, 0, 1, 1),
+        (10, 1, 2, 1),
+        (13, 1, 2, 2),
+        (14, 2, 3, 2),
+        (17, 2, 3, 3),
+        (18, 3, 4, 3),
+        (21, 3, 4, 4),
     ] {
         let failing = vec![in alloc; number].expect(&rt, "memory for a number");
         let outcome = run_calls(&rt, alloc, failing);

@@ -1,4 +1,4 @@
-use Rattle.record_file.proofs.OneReading.{one_reading, not_both, too_short}
+use Rattle.record_file.proofs.OneReading.{goes_on, one_reading, not_both, too_short}
 use Rattle.record_file.proofs.laws.hold_laws.Goals as goal
 
 pub returns-clause-one_reading : goal.returns-clause-one_reading
@@ -9,3 +9,6 @@ returns-clause-not_bad c head file bodies offset h bad = not_both head bodies fi
 
 pub returns-clause-torn_start : goal.returns-clause-torn_start
 returns-clause-torn_start c head file bodies le h = too_short head bodies file le h
+
+pub returns-clause-goes_on : goal.returns-clause-goes_on
+returns-clause-goes_on c head file all some end offset next body whole none part at = goes_on head file all some end offset next body whole none part at

@@ -1,10 +1,8 @@
-use Rattle.record_file.proofs.ReadLemmas.{record_read}
+use Rattle.record_file.proofs.ReadLemmas.{moves_whole, reads_whole}
 use Rattle.record_file.proofs.reader.RecordReader.next_record.Goals as goal
 
-pub returns-in-Err-clause-reads : goal.returns-in-Err-clause-reads
-returns-in-Err-clause-reads g c t = c.in-Err.ensures.only (g.D.Disk.state c.args.disk.now).file.content c.args.self.now.offset c.args.self.now.offset
+pub returns-clause-moves : goal.returns-clause-moves
+returns-clause-moves g c = moves_whole c.next_front.result c.args.self.now c.next_front.new.self c.next_front.ensures.moves
 
-pub returns-in-Ok-clause-reads : goal.returns-in-Ok-clause-reads
-returns-in-Ok-clause-reads g c t =
-    let gate = rw c.in-Record.is at (c.in_ok-read_gate.ensures.gate t) in
-    record_read _ _ c.in-Ok.body.items c.from.result _ c.args.self.now _ _ (c.in_ok-read_gate.ensures.file t) c.self.view_is (g.met.D.Disk.size_told c.args.disk.now t) c.requires gate c.in-Ok.ensures.long (c.in-Ok.ensures.bytes t) c.from.ensures
+pub returns-clause-reads : goal.returns-clause-reads
+returns-clause-reads g c t = reads_whole (g.D.Disk.state c.args.disk.now).file.content c.args.self.now.offset c.next_front.new.self.offset c.next_front.result (c.next_front.ensures.reads t)

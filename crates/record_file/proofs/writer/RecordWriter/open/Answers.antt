@@ -5,7 +5,7 @@ use Rattle.record_file.specs.Reading.{IsReadTo, IsClosedAt}
 use Rattle.record_file.specs.Opening.{bodies_of}
 use Rattle.record_file.specs.Files.{WriterState, IsDurable}
 use Rattle.record_file.proofs.OpenLemmas.{ends_at, opens, opens_group, read_from}
-use Rattle.record_file.proofs.FoundLemmas.{found_there, refused_there}
+use Rattle.record_file.proofs.FoundLemmas.{found_there, head_refused, refused_there}
 use Rattle.record_file.proofs.writer.RecordWriter.open.Goals as goal
 
 pub returns-in-Err-read_all-clause-refused : goal.returns-in-Err-read_all-clause-refused
@@ -91,3 +91,6 @@ returns-in-Err-read_all-clause-any_moment g c t bodies leaves =
 pub returns-in-Err-read_all-clause-any_moment_group : goal.returns-in-Err-read_all-clause-any_moment_group
 returns-in-Err-read_all-clause-any_moment_group g c t bodies more leaves =
     subst (λ (f : FileState). LeavesOnly (HoldsAllOrNone (head_of c.args.magic.now c.args.name.now) bodies more) (g.D.Disk.state c.args.disk.now).file f) (sym (c.read_all.ensures.file t)) (c.start.ensures.any_moment_group t bodies more leaves)
+
+pub returns-in-Err-clause-refused : goal.returns-in-Err-clause-refused
+returns-in-Err-clause-refused g c t = head_refused c.args.magic.now c.args.name.now (g.D.Disk.state c.args.disk.now).file.content c.in-Err.fault (c.in-Err.ensures.refused t)
