@@ -83,25 +83,41 @@ class Questions:
                         yield place, user, ref, change
 
 
-def answers(conf, asked, program):
+def answers(conf, asked, program, server):
     """The answers by their keys, and the numbers of the idle rules: those that cover an asked repository and decide no question."""
-    return one_file(conf, asked, program) if len(conf.files) == 1 and has_report(program) else several_files(conf, asked)
+    if len(conf.files) == 1 and has_command([program], "access"):
+        return one_file(conf, asked, program)
+    if has_command([server, "--help"], "report"):
+        return all_files(conf, asked, server)
+    return by_rules(conf, asked)
 
 
-def has_report(program):
-    """Whether the program has the command `access`: its usage line names it."""
+def has_command(words, command):
+    """Whether what a program prints of itself names a command."""
     try:
-        return " access" in subprocess.run([program], stdin=subprocess.DEVNULL, stdout=subprocess.PIPE, text=True).stdout
+        return " %s" % command in subprocess.run(words, stdin=subprocess.DEVNULL, stdout=subprocess.PIPE, text=True).stdout
     except OSError:
         return False
 
 
+def frame(word, data):
+    return b"%s %d\n%s\n" % (word, len(data), data)
+
+
 def one_file(conf, asked, program):
-    frames = b"".join(b"%s %d\n%s\n" % (word, len(data), data) for word, data in ((b"ask", asked.text().encode()), (b"conf", conf.files[MAIN])))
-    ran = subprocess.run([program, "access"], input=frames, stdout=subprocess.PIPE)
+    return by_report(conf, asked, [program, "access"], frame(b"conf", conf.files[MAIN]))
+
+
+def all_files(conf, asked, server):
+    files = (frame(b"file", b"first %s\n%s" % (name.encode(), data)) for name, data in conf.files.items())
+    return by_report(conf, asked, [server, "report"], b"".join(files))
+
+
+def by_report(conf, asked, words, frames):
+    ran = subprocess.run(words, input=frame(b"ask", asked.text().encode()) + frames, stdout=subprocess.PIPE)
     lines = ran.stdout.decode(errors="replace").splitlines()
     if ran.returncode:
-        raise Refused("%s: %s" % (conf.name, " ".join(lines) or "%s ended with %d" % (program, ran.returncode)))
+        raise Refused("%s: %s" % (conf.name, " ".join(lines) or "%s ended with %d" % (words[0], ran.returncode)))
     found = {}
     for key, line in zip(asked.keys(), lines):
         words = line.split(" ")
@@ -110,7 +126,7 @@ def one_file(conf, asked, program):
     return found, lines[-1].split()[1:]
 
 
-def several_files(conf, asked):
+def by_rules(conf, asked):
     """The same by `access_rows`, which reads all files: the letter of each change first, and then each verdict. Rules of patterns aren't called idle, since
     it doesn't say which of them cover a repository."""
     found, covering = {}, set()

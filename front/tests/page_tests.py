@@ -4,7 +4,7 @@ import os
 import shutil
 import subprocess
 
-from cerolimau.access_questions import Conf, Questions, has_report, one_file, several_files
+from cerolimau.access_questions import Conf, Questions, all_files, by_rules, has_command, one_file
 
 from .world import CONF, FRONT, Skip, expect, run, write_files
 
@@ -61,20 +61,29 @@ class Browser:
 def programs(here):
     if not ACCESS_ROWS.exists():
         raise Skip("no access_rows")
-    return ["--program", here.program, "--rules", str(ACCESS_ROWS)]
+    return ["--program", here.program, "--server", here.host, "--rules", str(ACCESS_ROWS)]
 
 
-def answers_by_both_programs(here):
-    """A conf of one file has the same answers by the report and by the rules; one of several files is asked too, and one with a fault is refused."""
+def plain(conf, idle):
+    """Those of rules that aren't of a pattern."""
+    return [number for number in idle if conf.rules[int(number) - 1].repository in (*conf.repositories, "@all")]
+
+
+def answers_by_all_programs(here):
+    """A conf has the same answers by both reports and by the rules, of one file and of several; and one with a fault is refused."""
     programs(here)
-    if not has_report(here.program):
-        raise Skip("the program has no command access")
+    if not has_command([here.program], "access") or not has_command([here.host, "--help"], "report"):
+        raise Skip("the programs have no command access, or none report")
     conf = Conf("one", {"gitolite.conf": CONF.encode()}, str(ACCESS_ROWS))
     asked = Questions.read(ASK)
     found, idle = one_file(conf, asked, here.program)
-    plain = [number for number in idle if conf.rules[int(number) - 1].repository in (*conf.repositories, "@all")]
-    assert (found, plain) == several_files(conf, asked)
+    assert (found, idle) == all_files(conf, asked, here.host)
+    assert (found, plain(conf, idle)) == by_rules(conf, asked)
     assert found[0, "cal", "refs/heads/personal/ann/x", "create"].word == "denied" and found[1, "cal", "write", ""].word == "allowed"
+    conf = Conf("two", {"gitolite.conf": CONF.encode() + b'subconf "sub/web.conf"\n', "sub/web.conf": b"repo web\n RW = ann\n"}, str(ACCESS_ROWS))
+    asked = Questions.read(ASK + "repo web\n")
+    found, idle = all_files(conf, asked, here.host)
+    assert (found, plain(conf, idle)) == by_rules(conf, asked) and found[3, "ann", "write", ""].word == "allowed"
     where = here.folder()
     write_files(where, {"conf/gitolite.conf": "repo gitolite-admin\n RW+ = admin\nsubconf \"web.conf\"\n", "conf/web.conf": "repo web\n RW = ann\nrepo other\n R = ann\n"})
     said = run([str(FRONT / "access-page"), *programs(here), str(where)])
@@ -124,4 +133,4 @@ def what_a_conf_changes(here):
     expect(said, "<td>site</td><td>cal</td><td>create refs/heads/personal/ann/x</td>", "<td>narrow</td><td>ann</td><td>write</td>")
 
 
-TESTS = answers_by_both_programs, page_in_a_browser, what_a_conf_changes
+TESTS = answers_by_all_programs, page_in_a_browser, what_a_conf_changes

@@ -6,7 +6,7 @@ import subprocess
 from cerolimau.packets import packet
 
 SCRIPT = "script", "--admin", "admin"
-USAGE = b"usage: gitolite_shell script --admin NAME | serve --admin NAME --workers K --sessions N | check | load N START | keep --admin NAME\n"
+USAGE = b"usage: gitolite_shell script --admin NAME | serve --admin NAME --workers K --sessions N | check | load N START | keep --admin NAME | access\n"
 EMPTY = b"session 0\n\n"
 SERVED = b"session 1 truncated 0\n\n"
 
@@ -67,6 +67,52 @@ def confs(here):
     ends(here, ("check",), 0, lines + b"ok 4095 rules, 0 repositories\n", patterns)
 
 
+def frame(word, body):
+    return b"%s %d\n%s\n" % (word, len(body), body)
+
+
+def reports(here):
+    """Who may do what, by the shipped conf and without one of its lines; and inputs that are bad, at each place where one may be."""
+    with open("crates/gitolite_shell/data/gitolite.conf", "rb") as conf:
+        lines = conf.read().splitlines(keepends=True)
+    asked, first = frame(b"ask", b"repo site\nuser cal\nref refs/heads/personal/ann/x\n"), frame(b"conf", b"".join(lines))
+    told = b"any read R allowed by 9", b"any write W allowed by 9", *(b"refs/heads/personal/ann/x %s denied by 14" % it for it in (b"create W", b"forward W", b"rewind +", b"delete +"))
+    ends(here, ("access",), 0, b"".join(b"site cal %s\n" % it for it in told) + b"idle 2 3 8 17 18\n", asked + first)
+    changed = b"".join(b"site cal refs/heads/personal/ann/x %s was W denied by 14 now W allowed by 15\n" % it for it in (b"create", b"forward"))
+    ends(here, ("access",), 0, changed + b"changed 2 of 6\n", asked + first + frame(b"conf", b"".join(lines[:10] + lines[11:])))
+    ends(here, ("access",), 10, b"bad question at line 1\n", frame(b"ask", b"user a!\n") + first)
+    setup = b"repo gitolite-admin\n    RW+     =   admin\n\nrepo testing\n    RW+     =   @all\n"
+    ends(here, ("access",), 0, b"idle\n", frame(b"ask", b"") + frame(b"conf", setup))
+    many = frame(b"ask", b"".join(b"user u%d\n" % number for number in range(1_001)))
+    ends(here, ("access",), 10, b"too many questions\n", many + first)
+    ends(here, ("access",), 6, b"gitolite.conf line 1: rule before repo\n", asked + frame(b"conf", b"R = a\n") + frame(b"conf", b"x\n"))
+    ends(here, ("access",), 6, b"gitolite.conf line 1: not a statement\n", asked + first + frame(b"conf", b"x\n"))
+    bad = (b"", 0), (b"ask 5\nabc", 0), (b"conf 0\n\n", 0), (asked, len(asked)), (asked + asked, len(asked)), (asked + first + b"x", len(asked + first))
+    for given, offset in *bad, (asked + first + asked, len(asked + first)), (asked + first + first + b"x", len(asked + first + first)):
+        ends(here, ("access",), 7, b"bad script at %d\n" % offset, given)
+    ends(here, ("access", "a"), 1, USAGE)
+
+
+def reports_of_files(here):
+    """The same over confs of several files, in any order; and inputs that are bad there."""
+    asked = frame(b"ask", b"repo web\nuser cal\n")
+    main, teams = frame(b"file", b"first gitolite.conf\ninclude \"teams.conf\"\n"), frame(b"file", b"first teams.conf\nrepo web\n    RW  =   cal\n")
+    told = b"web cal any read R allowed by 1\nweb cal any write W allowed by 1\nidle\n"
+    changed = b"web cal any write was W allowed by 1 now W fallthru\nchanged 1 of 2\n"
+    second = frame(b"file", b"second gitolite.conf\nrepo web\n    R = cal\n")
+    bad = (b"", 0), (main, 0), (asked + main + b"x", len(asked + main)), (asked + main + frame(b"file", b"third x\n"), len(asked + main))
+    rows = (
+        (0, told, asked + main + teams), (0, told, asked + teams + main), (0, changed, asked + main + teams + second),
+        (6, b"gitolite.conf line 1: no file teams.conf\n", asked + main), (6, b"gitolite.conf line 0: no file gitolite.conf\n", asked),
+        (6, b"gitolite.conf line 0: no file gitolite.conf\n", asked + main + teams + frame(b"file", b"second x.conf\n")),
+        (10, b"bad question at line 1\n", frame(b"ask", b"user a!\n") + main), (7, b"bad script at %d\n" % len(asked + main), asked + main + frame(b"file", b"first x")),
+        *((7, b"bad script at %d\n" % offset, given) for given, offset in bad),
+    )
+    for status, text, given in rows:
+        ended = subprocess.run([here.host, "report"], input=given, stdout=subprocess.PIPE)
+        assert (ended.returncode, ended.stdout) == (status, text), (ended, given)
+
+
 def installations(here):
     """Generated installations, one of them twice, whose lines were reckoned apart from the program."""
     for number, start, line in (3, 2, "done 2, denied 2, refused 0, refs 2"), (1, 1, "done 1, denied 1, refused 0, refs 1"), (300, 7, "done 42, denied 259, refused 0, refs 41"), (300, 7, "done 42, denied 259, refused 0, refs 41"), (5000, 1, "done 694, denied 4307, refused 0, refs 665"):
@@ -78,6 +124,7 @@ def failing_input(here):
     room = os.open(here.room, os.O_RDONLY)
     ends(here, SCRIPT, 2, stdin=room)
     ends(here, ("check",), 2, stdin=room)
+    ends(here, ("access",), 2, stdin=room)
     os.close(room)
     ends(here, SCRIPT, 2, stdin=None, preexec_fn=lambda: os.close(0))
 
@@ -85,7 +132,7 @@ def failing_input(here):
 def failing_output(here):
     """A full device, an output that is closed, and one that nobody reads any more."""
     with open("/dev/full", "wb") as full:
-        for given, text in (SCRIPT, EMPTY), (SCRIPT, b"x"), (("check",), b"repo a\n"), (("load", "1", "1"), b""), ((), b""):
+        for given, text in (SCRIPT, EMPTY), (SCRIPT, b"x"), (("check",), b"repo a\n"), (("access",), b""), (("load", "1", "1"), b""), ((), b""):
             ends(here, given, 3, given=text, stdout=full)
     ends(here, SCRIPT, 3, given=EMPTY, stdout=None, preexec_fn=lambda: os.close(1))
     reader, writer = os.pipe()
@@ -111,4 +158,4 @@ def address_in_use(here):
     ends(here, ("serve", "--admin", "admin", "--workers", "1", "--sessions", "1"), 5, b"served 0 sessions, 0 events\n")
 
 
-TESTS = words, scripts, confs, installations, failing_input, failing_output, too_little_memory, no_room_by_a_claim, address_in_use
+TESTS = words, scripts, confs, reports, reports_of_files, installations, failing_input, failing_output, too_little_memory, no_room_by_a_claim, address_in_use

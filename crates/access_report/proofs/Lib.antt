@@ -1,6 +1,6 @@
 pub mod WritingLemmas
 mod AnswerLemmas
-mod DueLemmas
+pub mod DueLemmas
 mod MarkLemmas
 mod PlaceLemmas
 mod ReadingLemmas

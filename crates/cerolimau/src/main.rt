@@ -1,13 +1,16 @@
-//! The server: `host_main` of `host_program` over the words, the listener and the journal's file that the system gives.
+//! The server: `host_main` of `host_program` over the words, the listener and the journal's file that the
+//! system gives; and reports of who may do what: `run_report` of `report_input` over the streams.
 #![tactic(auto)]
 
 use clap::Error;
-use edge_links::{FileDisk, StdSink};
-use host_program::{host_main, read_words};
+use edge_links::{FileDisk, StdSink, StdSource};
+use host_program::{ProgramWords, host_main, read_words};
+use report_input::run_report;
 use shell_program::{Status, posts_at, words_given};
 use std::alloc::Global;
 use std::env;
-use std::io::ErrorKind;
+use std::fs::{File, Files};
+use std::io::{BufReader, ErrorKind};
 use std::net::{Ipv4Addr, SocketAddr, SocketAddrV4, TcpListener};
 use std::process::ExitCode;
 
@@ -27,15 +30,42 @@ fn end_by_words<R: Print + Eprint>(rt: &R, error: &Error) -> ExitCode {
     ExitCode::SUCCESS
 }
 
-/// Ends with the status of `host_main`; with 5 where the port can't be bound, with 8 where the journal's file can't be
-/// opened, with 2 where the words aren't taken, and out of memory where the words or the posts find none.
+// The journal's file. Where it can't be opened it says why.
+fn open_disk<R: Files<File = File> + Eprint>(rt: &R, path: &str) -> Option<FileDisk> {
+    match FileDisk::open(rt, path) {
+        Ok(disk) => Some(disk),
+        Err(error) if error.kind() == ErrorKind::WouldBlock => {
+            let _said = eprintln!(rt; "cerolimau: {path}: another program has it open");
+            None
+        }
+        Err(error) => {
+            let _said = eprintln!(rt; "cerolimau: {path}: {error}");
+            None
+        }
+    }
+}
+
+// Prints who may do what. Ends with the status of `run_report`.
+fn report(rt: &HostRuntime, alloc: Global) -> ExitCode {
+    let Ok(reader) = BufReader::new(alloc, rt.stdin()) else {
+        return status(Status::NoMemory);
+    };
+    let mut input = StdSource::new(reader);
+    let mut output = StdSink::new(rt.stdout());
+    ExitCode::from(run_report(alloc, &mut input, &mut output).number())
+}
+
+/// Prints a report where the words ask for it. Else it ends with the status of `host_main`; with 5 where the
+/// port can't be bound, with 8 where the journal's file can't be opened, with 2 where the words aren't taken,
+/// and out of memory where the words or the posts find none.
 fn main(rt: HostRuntime) -> ExitCode {
     let alloc: Global = rt.alloc();
     let Ok(given) = words_given(alloc, env::args(&rt)) else {
         return status(Status::NoMemory);
     };
     let words = match read_words(alloc, given.as_slice()) {
-        Ok(words) => words,
+        Ok(ProgramWords::Host(words)) => words,
+        Ok(ProgramWords::Report) => return report(&rt, alloc),
         Err(error) => return end_by_words(&rt, &error),
     };
     let address = SocketAddr::V4(SocketAddrV4::new(Ipv4Addr::LOCALHOST, words.port));
@@ -46,16 +76,8 @@ fn main(rt: HostRuntime) -> ExitCode {
             return status(Status::DoorFault);
         }
     };
-    let disk = match FileDisk::open(&rt, words.journal.as_str()) {
-        Ok(disk) => disk,
-        Err(error) if error.kind() == ErrorKind::WouldBlock => {
-            let _said = eprintln!(rt; "cerolimau: {}: another program has it open", words.journal);
-            return status(Status::DiskFault);
-        }
-        Err(error) => {
-            let _said = eprintln!(rt; "cerolimau: {}: {error}", words.journal);
-            return status(Status::DiskFault);
-        }
+    let Some(disk) = open_disk(&rt, words.journal.as_str()) else {
+        return status(Status::DiskFault);
     };
     let Ok(mut posts) = posts_at(alloc, words.workers, Some(&listener)) else {
         return status(Status::NoMemory);

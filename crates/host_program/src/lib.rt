@@ -12,7 +12,7 @@ mod words;
 
 pub use base_types::NoMemory;
 pub use host::{HostEnded, host_main};
-pub use words::{HostWords, MAX_WORKERS, read_words};
+pub use words::{HostWords, MAX_WORKERS, ProgramWords, read_words};
 
 #[cfg(test)]
 mod tests;

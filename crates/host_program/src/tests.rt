@@ -152,7 +152,7 @@ fn a_refused_file(rt: HostRuntime) {
     assert!(rt; output.written() == b"not a journal\n".as_slice());
 }
 
-// The words of a call, its name first, and what they come to: workers, port, sessions.
+// The words of a call, its name first, and what they come to: workers, port, sessions; of `report` three zeros.
 fn words(rt: &impl Abort, alloc: Global, words: &[&str]) -> Option<(usize, u16, u64)> {
     let mut given = Vec::new(alloc);
     for word in words {
@@ -160,7 +160,8 @@ fn words(rt: &impl Abort, alloc: Global, words: &[&str]) -> Option<(usize, u16, 
         given.push(word).expect(rt, "memory for words");
     }
     match read_words(alloc, given.as_slice()) {
-        Ok(words) => Some((words.workers, words.port, words.sessions)),
+        Ok(ProgramWords::Host(words)) => Some((words.workers, words.port, words.sessions)),
+        Ok(ProgramWords::Report) => Some((0, 0, 0)),
         Err(_) => None,
     }
 }
@@ -184,4 +185,6 @@ fn words_of_host(rt: HostRuntime) {
     assert!(rt; words(&rt, alloc, &all) == Some((2, 80, 7)));
     assert!(rt; words(&rt, alloc, &["cerolimau", "host"]) == None);
     assert!(rt; words(&rt, alloc, &["cerolimau", "--help"]) == None);
+    assert!(rt; words(&rt, alloc, &["cerolimau", "report"]) == Some((0, 0, 0)));
+    assert!(rt; words(&rt, alloc, &["cerolimau", "report", "a"]) == None);
 }

@@ -1,5 +1,6 @@
 // The words by which the program is called.
 ghost use Rattle.std.specs.Prelude.{◌≤◌, IfOk};
+ghost use Rattle.host_program.specs.Words.{AreWithinLimits, IsWithinLimits};
 
 use base_types::NoMemory;
 use clap::error::ErrorKind;
@@ -23,6 +24,15 @@ pub struct HostWords {
     pub journal: String,
     /// How many sessions each worker serves.
     pub sessions: u64,
+}
+
+/// What the program is asked for.
+#[derive(Drop)]
+pub enum ProgramWords {
+    /// Repositories are served.
+    Host(HostWords),
+    /// Questions over confs are read, and who may do what is printed.
+    Report,
 }
 
 fn admin_arg<'a>(alloc: Global) -> Arg<'a> {
@@ -78,6 +88,12 @@ fn host_command<'a>(alloc: Global) -> Result<Command<'a>, AllocError> {
     host.arg(sessions_arg(alloc))
 }
 
+fn report_command<'a>(alloc: Global) -> Command<'a> {
+    Command::new(alloc, "report").about(
+        "Reads questions and the files of one conf, or of two, and prints who may do what",
+    )
+}
+
 fn program_command<'a>(alloc: Global) -> Result<Command<'a>, AllocError> {
     let program = Command::new(alloc, "cerolimau")
         .version("0.1.0")
@@ -85,7 +101,8 @@ fn program_command<'a>(alloc: Global) -> Result<Command<'a>, AllocError> {
         .subcommand_required(true)
         .arg_required_else_help(true);
     let host = host_command(alloc)?;
-    program.subcommand(host)
+    let program = program.subcommand(host)?;
+    program.subcommand(report_command(alloc))
 }
 
 // The number of workers in the words.
@@ -122,8 +139,7 @@ fn refusal(alloc: Global, message: &str) -> Error {
 }
 
 fn words_of(alloc: Global, given: &ArgMatches<'_>) -> Result<HostWords, Error>
-    ensures workers { IfOk result (λ words. (1 ≤ words.workers) × (words.workers ≤ 1000)) }
-    ensures sessions { IfOk result (λ words. words.sessions ≤ 1000000000000000) }
+    ensures { IfOk result IsWithinLimits }
 {
     let (Some(admin), Some(journal)) = (given.get_str("admin"), given.get_str("journal")) else {
         return Err(refusal(alloc, "--admin and --journal want a value"));
@@ -149,14 +165,19 @@ fn words_of(alloc: Global, given: &ArgMatches<'_>) -> Result<HostWords, Error>
 
 /// Reads the words by which the program is called, its name the first of them. The error has the text for the user, and
 /// the status: also where the words ask for help or the version.
-pub fn read_words(alloc: Global, words: &[String]) -> Result<HostWords, Error>
-    ensures workers { IfOk result (λ words. (1 ≤ words.workers) × (words.workers ≤ 1000)) }
-    ensures sessions { IfOk result (λ words. words.sessions ≤ 1000000000000000) }
+pub fn read_words(alloc: Global, words: &[String]) -> Result<ProgramWords, Error>
+    ensures { IfOk result AreWithinLimits }
 {
     let command = program_command(alloc)?;
     let matches = command.try_get_matches_from(words)?;
-    match matches.subcommand_matches("host") {
-        Some(given) => words_of(alloc, given),
-        None => Err(refusal(alloc, "'host' is missing")),
+    if let Some(given) = matches.subcommand_matches("host") {
+        return match words_of(alloc, given) {
+            Ok(words) => Ok(ProgramWords::Host(words)),
+            Err(error) => Err(error),
+        };
+    }
+    match matches.subcommand_matches("report") {
+        Some(_) => Ok(ProgramWords::Report),
+        None => Err(refusal(alloc, "'host' or 'report' is missing")),
     }
 }

@@ -20,7 +20,7 @@ fn source_of(
 
 // Whether the next frame has this body, and takes so many bytes.
 fn next_is(alloc: Global, source: &mut MemoryLink, body: &[u8], taken: u64) -> bool {
-    match read_frame(alloc, source) {
+    match read_frame(alloc, b"session ", source) {
         Ok(Some(frame)) => frame.body.as_slice() == body && frame.taken == taken,
         _ => false,
     }
@@ -35,21 +35,21 @@ fn a_frame_is_read_up_to_its_last_line_feed(rt: HostRuntime) -> Result<(), Fail>
         assert!(rt; next_is(alloc, &mut source, b"hello, world", 24));
         assert_eq!(rt; source.left(), b"session 0\n\n".as_slice());
         assert!(rt; next_is(alloc, &mut source, b"", 11));
-        assert!(rt; matches!(read_frame(alloc, &mut source), Ok(None)));
+        assert!(rt; matches!(read_frame(alloc, b"session ", &mut source), Ok(None)));
     }
     Ok(())
 }
 
 // Whether the next frame is answered by this fault.
 fn stops(alloc: Global, source: &mut MemoryLink, fault: FrameFault) -> bool {
-    match read_frame(alloc, source) {
+    match read_frame(alloc, b"session ", source) {
         Ok(_) => false,
         Err(found) => found == fault,
     }
 }
 
 // Inputs that begin with no frame, and how many of their bytes are left behind the answer.
-const BAD: [(&[u8], usize); 14] = [
+const BAD: [(&[u8], usize); 15] = [
     (b"session 5\nabc", 0),
     (b"session 5\nabcde", 0),
     (b"session 5\nabcdefg", 1),
@@ -59,6 +59,7 @@ const BAD: [(&[u8], usize); 14] = [
     (b"session 300000001\n", 0),
     (b"session 4294967301\nabcde\n", 7),
     (b"Session 5\nabcde\n", 6),
+    (b"conf 5\nabcde\n", 6),
     (b"session 5", 0),
     (b"session", 0),
     (b"\nx", 1),

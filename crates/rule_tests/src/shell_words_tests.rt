@@ -4,7 +4,7 @@ use std::alloc::Global;
 use std::str;
 use std::test::Fail;
 
-const ROWS: [(&str, &str); 47] = [
+const ROWS: [(&str, &str); 49] = [
     ("script --admin ann", "script ann"),
     ("script --admin=ann", "script ann"),
     ("script --admin=a-._@+9", "script a-._@+9"),
@@ -55,6 +55,8 @@ const ROWS: [(&str, &str); 47] = [
     ("serve --admin ann --workers 1 --workers 1", "usage"),
     ("serve --admin ann --workers --sessions 1", "usage"),
     ("check check", "usage"),
+    ("access", "access"),
+    ("access ann", "usage"),
     ("load 0 0", "usage"),
     ("load 5001 0", "usage"),
     ("load 1 4294967296", "usage"),
@@ -85,6 +87,7 @@ fn shown(alloc: Global, read: Result<Asked, WordsFault>) -> Result<String, Fail>
             )?
         }
         Ok(Asked::Check) => format!(in alloc; "check")?,
+        Ok(Asked::Access) => format!(in alloc; "access")?,
         Ok(Asked::Load { count, start }) => format!(in alloc; "load {count} {start}")?,
         Err(WordsFault::Usage) => format!(in alloc; "usage")?,
         Err(WordsFault::NoMemory) => format!(in alloc; "no memory")?,

@@ -2,8 +2,8 @@
 ghost use Rattle.std.specs.Prelude.{◌≡◌, decimal, IfOk, IfErr, IfSome, IfNone, Some};
 ghost use Rattle.pktline_core.specs.Links.{IsLater};
 ghost use Rattle.script_frames.specs.Faults.{fault_text};
-ghost use Rattle.script_frames.specs.Frames.{OneScript};
-ghost use Rattle.script_frames.specs.ReadingFrames.{HasNoSize, IsNoNumber, IsSizeIn, StopsAtByte, StopsInBody, StopsInFrame, StopsInLine, TakesBody, TakesByte, TakesFrame, TakesLine, TellsRead};
+ghost use Rattle.script_frames.specs.Frames.{IsWord, OneScript};
+ghost use Rattle.script_frames.specs.ReadingFrames.{HasNoSize, IsNoNumber, IsSizeIn, StopsAtByte, StopsInBody, StopsInFrame, StopsInLine, TakesBody, TakesByte, TakesEnd, TakesFrame, TakesLine, TellsRead};
 
 use arrayvec::ArrayVec;
 use itoa::Buffer;
@@ -59,7 +59,7 @@ pub struct Frame {
 // How many bytes the body of a frame has at most.
 const LARGEST_BODY: u32 = 300_000_000;
 
-// How many bytes the first line of a frame has at most: `session ` and nine digits.
+// How many bytes the first line of a frame has at most: a word of seven bytes, a space and nine digits.
 const LONGEST_LINE: usize = 17;
 
 // Room for a body is made for so many bytes more than have come.
@@ -122,11 +122,12 @@ fn number_in(digits: &[u8]) -> Option<u32>
 }
 
 // How many bytes the body has that this first line announces.
-fn size_in(line: &[u8]) -> Option<u32>
-    ensures some { IfSome result (IsSizeIn line.now) }
-    ensures none { IfNone result (HasNoSize line.now) }
+fn size_in(word: &[u8], line: &[u8]) -> Option<u32>
+    requires { IsWord word.now }
+    ensures some { IfSome result (IsSizeIn word.now line.now) }
+    ensures none { IfNone result (HasNoSize word.now line.now) }
 {
-    let Some(digits) = line.strip_prefix(b"session ") else {
+    let Some(digits) = line.strip_prefix(word) else {
         return None;
     };
     let Some(size) = number_in(digits) else {
@@ -159,19 +160,24 @@ fn read_body<S: Source>(alloc: Global, source: &mut S, size: usize) -> Result<Ve
     Ok(body)
 }
 
-/// The frame that stands at the front of the source, or `None` at the end of the input. No byte behind the frame's last
+/// The frame of a word, which has its space, that stands at the front of the source, or `None` at the end of the input. No byte behind the frame's last
 /// line feed is taken, and the memory that is taken grows with the bytes that come.
-pub fn read_frame<S: Source>(alloc: Global, source: &mut S) -> Result<Option<Frame>, FrameFault>
-    ensures some { IfOk result (λ found. IfSome found (λ frame. TakesFrame (S.state source.old) (S.state source.new) frame.taken frame.body.items)) }
+pub fn read_frame<S: Source>(
+    alloc: Global,
+    word: &[u8],
+    source: &mut S,
+) -> Result<Option<Frame>, FrameFault>
+    requires { IsWord word.now }
+    ensures some { IfOk result (λ found. IfSome found (λ frame. TakesFrame word.now (S.state source.old) (S.state source.new) frame.taken frame.body.items)) }
     ensures none { IfOk result (λ found. IfNone found (TakesLine (S.state source.old) (S.state source.new) None)) }
-    ensures err { IfErr result (StopsInFrame (S.state source.old) (S.state source.new)) }
+    ensures err { IfErr result (StopsInFrame word.now (S.state source.old) (S.state source.new)) }
     ensures tells { TellsRead (S.state source.old) (S.state source.new) result }
     ensures later { IsLater (S.state source.old) (S.state source.new) }
 {
     let Some(line) = read_line(source)? else {
         return Ok(None);
     };
-    let Some(size) = size_in(line.as_slice()) else {
+    let Some(size) = size_in(word, line.as_slice()) else {
         return Err(FrameFault::Bad);
     };
     let body = read_body(alloc, source, size as usize)?;
@@ -183,6 +189,16 @@ pub fn read_frame<S: Source>(alloc: Global, source: &mut S) -> Result<Option<Fra
         Some(_) => Err(FrameFault::Bad),
         None => Err(FrameFault::Bad),
     }
+}
+
+/// Whether a source is at its end. Where it isn't, one byte is taken.
+pub fn read_end<S: Source>(source: &mut S) -> Result<bool, FrameFault>
+    ensures ok { IfOk result (TakesEnd (S.state source.old) (S.state source.new)) }
+    ensures err { IfErr result (StopsAtByte (S.state source.old) (S.state source.new)) }
+    ensures tells { TellsRead (S.state source.old) (S.state source.new) result }
+    ensures later { IsLater (S.state source.old) (S.state source.new) }
+{
+    Ok(take_byte(source)?.is_none())
 }
 
 /// An input is a script in one way; a call does nothing.

@@ -1,7 +1,7 @@
 //! The frames of a script: how one is spelled, and how the next is read from a source.
 //!
-//! A script is a list of frames, one behind the other. A frame is the line `session N`, a body of N bytes, and a line
-//! feed.
+//! A frame is a line with its word and a number, as `session N`, a body of N bytes, and a line feed. A script is a list of frames of one word, one behind
+//! the other.
 //!
 //! - `frames`: the next frame of a source, or why there is none; and that an input is a script in one way.
 //!
@@ -10,4 +10,4 @@
 
 mod frames;
 
-pub use frames::{Frame, FrameFault, read_frame, scripts_differ};
+pub use frames::{Frame, FrameFault, read_end, read_frame, scripts_differ};

@@ -27,7 +27,7 @@ use Rattle.shell_program.specs.Status.{status_number, status_of}
 use Rattle.shell_program.specs.declared.script.ScriptFault.{ScriptFault}
 use Rattle.shell_program.specs.declared.script.ScriptFault.TheVariants as fault
 use Rattle.shell_program.specs.declared.status.Status.{Status}
-use Rattle.shell_program.specs.declared.status.Status.TheVariants.{Done, Usage, InputFault, OutputFault, NoMemory, DoorFault, ConfRefused, BadScript, DiskFault, BadJournal}
+use Rattle.shell_program.specs.declared.status.Status.TheVariants.{Done, Usage, InputFault, OutputFault, NoMemory, DoorFault, ConfRefused, BadScript, DiskFault, BadJournal, BadQuestion}
 
 -- I. A file that is refused
 
@@ -190,6 +190,7 @@ module _ (admin : Name) (disk : DiskRun) (source source' sink sink' : LinkState)
   refused_file line ConfRefused tells writes = absurd tells
   refused_file line BadScript tells writes = absurd tells
   refused_file line DiskFault tells writes = absurd tells
+  refused_file line BadQuestion tells writes = absurd tells
 
   unopened_due : (f : OpenFault) (status : Status) → EndsUnopened f sink sink' status → ReportsFaults {T = Unit {0}} (Err f) disk.old disk.new → (HasRisen sink.write_faults sink'.write_faults → ⊥)
       → (HasRisen disk.old.disk_faults disk.new.disk_faults → ⊥) → IsDue (Some (Keep admin)) (status_number status)
@@ -211,6 +212,7 @@ module _ (admin : Name) (disk : DiskRun) (source source' sink sink' : LinkState)
   open_due before opened DoorFault same runs reads writes disks = absurd runs.ends
   open_due before opened ConfRefused same runs reads writes disks = absurd runs.ends
   open_due before opened BadJournal same runs reads writes disks = absurd runs.ends
+  open_due before opened BadQuestion same runs reads writes disks = absurd runs.ends
 
   -- where no fault is counted
   pub keep_due : (status : Status) → EndsKeep admin disk source source' sink sink' log status

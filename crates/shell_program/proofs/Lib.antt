@@ -3,6 +3,7 @@ mod KeepLemmas
 mod LoneLemmas
 mod ScriptRows
 mod CheckLemmas
+mod AccessLemmas
 mod ServeLemmas
 mod ShellLemmas
 mod LoadLemmas

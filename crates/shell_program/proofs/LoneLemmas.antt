@@ -11,7 +11,7 @@ use Rattle.ref_store.specs.Refs.{Name}
 use Rattle.conf_lex.specs.Names.{is_user_name}
 use Rattle.session_core.specs.Recorded.{IsRecorded, LegalLogsAreRecorded, Recorded}
 use Rattle.shell_words.specs.declared.commands.Asked.{Asked}
-use Rattle.shell_words.specs.declared.commands.Asked.TheVariants.{Script, Serve, Check, Load, Keep}
+use Rattle.shell_words.specs.declared.commands.Asked.TheVariants.{Script, Serve, Check, Load, Keep, Access}
 use Rattle.shell_words.specs.Commands.{Reads, asked}
 use Rattle.shell_words.specs.declared.commands.WordsFault.{WordsFault}
 use Rattle.shell_words.specs.declared.commands.WordsFault.TheVariants as words
@@ -20,6 +20,7 @@ use Rattle.shell_program.specs.Command.{admin_of, built, command, served_at, usa
 use Rattle.shell_program.specs.Script.{sessions}
 use Rattle.shell_program.specs.Load.{EndsLoad, log_behind}
 use Rattle.shell_program.specs.RunningScripts.{EndsScript, RunsScript, StopsScript, TellsBroken}
+use Rattle.shell_program.specs.Access.{EndsAccess}
 use Rattle.shell_program.specs.Check.{EndsCheck}
 use Rattle.shell_program.specs.Keep.{DiskRun, EndsKeep}
 use Rattle.record_file.specs.Disks.{DiskState}
@@ -29,8 +30,10 @@ use Rattle.shell_program.specs.Status.{status_number, status_of}
 use Rattle.shell_program.specs.declared.script.ScriptFault.{ScriptFault}
 use Rattle.shell_program.specs.declared.script.ScriptFault.TheVariants as fault
 use Rattle.shell_program.specs.declared.status.Status.{Status}
-use Rattle.shell_program.specs.declared.status.Status.TheVariants.{Done, Usage, InputFault, OutputFault, NoMemory, DoorFault, ConfRefused, BadScript, DiskFault, BadJournal}
+use Rattle.shell_program.specs.declared.status.Status.TheVariants.{Done, Usage, InputFault, OutputFault, NoMemory, DoorFault, ConfRefused, BadScript, DiskFault, BadJournal, BadQuestion}
 use Rattle.script_frames.proofs.FrameLemmas.{begins_none}
+use Rattle.shell_program.specs.SessionFrames.{session_word}
+use Rattle.shell_program.proofs.ScriptLemmas.{session_is_word}
 
 module _ (source source' sink sink' : LinkState) (admin : Name) (log : List Entry) where
   -- at a desk that can't break
@@ -60,7 +63,7 @@ undone source sink admin = record {
   more = [];
   written = λ recorded of. Appends-nil sink.written;
   may_lack = inl refl;
-  stops = inl (record { part = []; small = tt; none = begins_none; inside = inl refl; takes = record { consumed = Consumes-nil source.left; counted = omega arith }; nothing = refl; log_is = λ recorded of. refl });
+  stops = inl (record { part = []; small = tt; none = begins_none session_word session_is_word; inside = inl refl; takes = record { consumed = Consumes-nil source.left; counted = omega arith }; nothing = refl; log_is = λ recorded of. refl });
 }
 
 module _ (disk : DiskRun) (source source' sink sink' : LinkState) (log : List Entry) where
@@ -77,6 +80,7 @@ module _ (disk : DiskRun) (source source' sink sink' : LinkState) (log : List En
   due_by (Some Check) DoorFault ends reads writes disks = absurd ends.0
   due_by (Some Check) DiskFault ends reads writes disks = absurd ends.0
   due_by (Some Check) BadJournal ends reads writes disks = absurd ends.0
+  due_by (Some Check) BadQuestion ends reads writes disks = absurd ends.0
   due_by (Some (Script admin)) Done ends reads writes disks = inl refl
   due_by (Some (Script admin)) BadScript ends reads writes disks = inr (inl refl)
   due_by (Some (Script admin)) NoMemory ends reads writes disks = inr (inr refl)
@@ -87,6 +91,7 @@ module _ (disk : DiskRun) (source source' sink sink' : LinkState) (log : List En
   due_by (Some (Script admin)) DoorFault ends reads writes disks = absurd ends.0
   due_by (Some (Script admin)) DiskFault ends reads writes disks = absurd ends.0
   due_by (Some (Script admin)) BadJournal ends reads writes disks = absurd ends.0
+  due_by (Some (Script admin)) BadQuestion ends reads writes disks = absurd ends.0
   due_by (Some (Serve admin workers sessions)) status ends reads writes disks = absurd ends
   due_by (Some (Load count start)) Done ends reads writes disks = inl refl
   due_by (Some (Load count start)) NoMemory ends reads writes disks = inr refl
@@ -98,7 +103,19 @@ module _ (disk : DiskRun) (source source' sink sink' : LinkState) (log : List En
   due_by (Some (Load count start)) DoorFault ends reads writes disks = absurd ends.0
   due_by (Some (Load count start)) DiskFault ends reads writes disks = absurd ends.0
   due_by (Some (Load count start)) BadJournal ends reads writes disks = absurd ends.0
+  due_by (Some (Load count start)) BadQuestion ends reads writes disks = absurd ends.0
   due_by (Some (Keep admin)) status ends reads writes disks = keep_due admin disk source source' sink sink' log status ends reads writes disks
+  due_by (Some Access) Done ends reads writes disks = inl refl
+  due_by (Some Access) ConfRefused ends reads writes disks = inr (inl refl)
+  due_by (Some Access) BadScript ends reads writes disks = inr (inr (inl refl))
+  due_by (Some Access) BadQuestion ends reads writes disks = inr (inr (inr (inl refl)))
+  due_by (Some Access) NoMemory ends reads writes disks = inr (inr (inr (inr refl)))
+  due_by (Some Access) InputFault ends reads writes disks = absurd (reads ends.0.0.fails.risen)
+  due_by (Some Access) OutputFault ends reads writes disks = absurd (writes ends.0.1)
+  due_by (Some Access) Usage ends reads writes disks = absurd ends.0
+  due_by (Some Access) DoorFault ends reads writes disks = absurd ends.0
+  due_by (Some Access) DiskFault ends reads writes disks = absurd ends.0
+  due_by (Some Access) BadJournal ends reads writes disks = absurd ends.0
   due_by None Usage ends reads writes disks = inl refl
   due_by None NoMemory ends reads writes disks = inr refl
   due_by None OutputFault ends reads writes disks = absurd (writes ends.0.1)
@@ -109,6 +126,7 @@ module _ (disk : DiskRun) (source source' sink sink' : LinkState) (log : List En
   due_by None DoorFault ends reads writes disks = absurd ends.0
   due_by None DiskFault ends reads writes disks = absurd ends.0
   due_by None BadJournal ends reads writes disks = absurd ends.0
+  due_by None BadQuestion ends reads writes disks = absurd ends.0
 
   pub surely : (found : Option Asked) (number : ℕ) → EndsRun found disk source source' sink sink' number log → EndsSurely found disk source source' sink sink' number
   surely found number run = λ reads writes disks. subst (λ (n : ℕ). IsDue found n) (sym run.number_is) (due_by found run.status run.ends reads writes disks)
@@ -120,6 +138,10 @@ module _ (disk : DiskRun) (source source' sink sink' : LinkState) (log : List En
   -- a conf
   pub checked_run : (number : ℕ) → ((status : Status) × (number ≡ status_number status) × EndsCheck source source' sink sink' status) → log ≡ [] → disk.new ≡ disk.old → EndsRun (Some Check) disk source source' sink sink' number log
   checked_run number ends none same = record { status = ends.0; number_is = ends.1; ends = (ends.2, none, same) }
+
+  -- questions
+  pub asked_run : (number : ℕ) → ((status : Status) × (number ≡ status_number status) × EndsAccess source source' sink sink' status) → log ≡ [] → disk.new ≡ disk.old → EndsRun (Some Access) disk source source' sink sink' number log
+  asked_run number ends none same = record { status = ends.0; number_is = ends.1; ends = (ends.2, none, same) }
 
   -- a script at a new hub
   pub script_run : (number : ℕ) (admin : Name) → ((status : Status) × (number ≡ status_number status) × EndsScript admin [] source source' sink sink' log status) → disk.new ≡ disk.old → EndsRun (Some (Script admin)) disk source source' sink sink' number log
@@ -149,6 +171,7 @@ nothing_done modeled disk source sink (Some (Serve admin workers sessions)) = no
 nothing_done modeled disk source sink (Some Check) = (inl (record { part = []; takes = record { consumed = Consumes-nil source.left; counted = omega arith } }, refl), refl, refl)
 nothing_done modeled disk source sink (Some (Load count start)) = (inl (λ recorded of. (log_behind recorded count start count, refl), refl), refl, refl)
 nothing_done modeled disk source sink (Some (Keep admin)) = unkept modeled disk source sink admin
+nothing_done modeled disk source sink (Some Access) = (inl (record { part = []; takes = record { consumed = Consumes-nil source.left; counted = omega arith } }, refl), refl, refl)
 
 -- the words weren't read as a command
 pub unread_run : (modeled : Bool) (disk : DiskState) (source sink sink' : LinkState) (number : ℕ) (log : List Entry) (asked : Option Asked) (why : WordsFault) → Reads asked (Err why) → EndsUnread why sink sink' number → log ≡ []
@@ -189,6 +212,7 @@ admin_named read posts words = go (asked words) refl where
   go (Some Check) is = tt
   go (Some (Load count start)) is = refl
   go (Some (Keep admin)) is = (read (Keep admin) words is).0
+  go (Some Access) is = tt
 
 -- what is recorded by a legal log
 pub recorded_script : LegalLogsAreRecorded → (found : Option Name) → IfSome found (λ a. is_user_name a ≡ true) → (log : List Entry) → IfSome found (λ a. IsLegal a log) → IfSome found (λ a. (recorded : Recorded) × IsRecorded a log recorded)

@@ -28,8 +28,10 @@ use Rattle.session_core.specs.Recorded.{IsRecorded, Recorded}
 use Rattle.session_core.specs.Rulebook.{ByRulebook}
 use Rattle.session_core.proofs.RulebookLemmas.{recorded_before}
 use Rattle.git_session.specs.Session.{session}
-use Rattle.script_frames.specs.Frames.{head_text, frame_text, AreBodies, BeginsNoFrame}
-use Rattle.script_frames.specs.ReadingFrames.{Takes, IsRest, TakesFrame, TakesNoFrame, GoesNoFurther}
+use Rattle.script_frames.specs.Frames.{head_text, AreBodies, IsWord}
+use Rattle.script_frames.specs.ReadingFrames.{Takes, IsRest}
+use Rattle.script_frames.specs.Frames as frames
+use Rattle.shell_program.specs.SessionFrames.{session_word, frame_text, BeginsNoFrame, TakesFrame, TakesNoFrame, GoesNoFurther}
 use Rattle.shell_program.specs.Script.{end_word, stop_word, reply_text, fault_text, served_alone, Printed, sessions, bad_offset, last_line, script}
 use Rattle.shell_program.specs.RunningScripts.{Serves, Advances, AdvancesOne, FindsEnd, FindsBad, MayLackAfter, FailsAtRead, LacksAtRead, LacksSession, LacksServing, ServesPart, ServesUnkept, TellsPart, StopsAdvancing, RunsScript, StopsAtRead, StopsServing, StopsTelling, StopsAtDisk, StopsAtWrite, StopsForMemory, StopsScript}
 use Rattle.shell_program.specs.declared.script.ScriptFault.{ScriptFault}
@@ -198,10 +200,17 @@ advances_more s s' s'' k k' k'' d d' d'' number next bodies more is p q =
       alone = q.alone;
     }
 
+-- the word of a script's frames is one
+pub session_is_word : IsWord session_word
+session_is_word = record {
+  no_feed = ((λ e. omega (arith, e)), ((λ e. omega (arith, e)), ((λ e. omega (arith, e)), ((λ e. omega (arith, e)), ((λ e. omega (arith, e)), ((λ e. omega (arith, e)), ((λ e. omega (arith, e)), ((λ e. omega (arith, e)), tt))))))));
+  short = omega arith;
+}
+
 -- a frame takes a byte at least
 pub some_frame : (body : List ℕ) → 0 < length (frame_text body)
-unfolding frame_text
-some_frame body = omega (arith, length-append (head_text (length body)) (10 ∷ (body ++ 10 ∷ [])))
+unfolding frames.frame_text
+some_frame body = omega (arith, length-append (head_text session_word (length body)) (10 ∷ (body ++ 10 ∷ [])))
 
 pub count_frames : (bodies : List (List ℕ)) → length bodies ≤ length (flat_map frame_text bodies)
 count_frames [] = omega arith
@@ -209,7 +218,7 @@ count_frames (body ∷ bodies) = omega (arith, count_frames bodies, some_frame b
 
 -- III. The end of a script
 
-some_fault : (offset : ℕ) → 0 < length (fault_text offset)
+pub some_fault : (offset : ℕ) → 0 < length (fault_text offset)
 unfolding fault_text
 some_fault offset = omega (arith, length-append (codes "bad script at ") (decimal offset ++ 10 ∷ []))
 
@@ -246,7 +255,7 @@ runs_to s s' s'' k k' k'' d d' d'' bodies part at advances last follows some wro
 pub runs_end : (s s' s'' k k' k'' : LinkState) (d d' d'' : DeskView) (bodies : List (List ℕ)) → Advances s s' k k' d d' 1 bodies → FindsEnd s' s'' k' k'' d' d'' → RunsScript s s'' k k'' d.admin d.seen d''.seen false
 runs_end s s' s'' k k' k'' d d' d'' bodies advances end =
     runs_to s s' s'' k k' k'' d d' d'' bodies [] None advances end.takes
-    (λ more is. let none : more ≡ [] = no_rest s''.left more end.ended is in rw none (begins_none, refl))
+    (λ more is. let none : more ≡ [] = no_rest s''.left more end.ended is in rw none (begins_none session_word session_is_word, refl))
     (λ bad. absurd (let none : false ≡ true = bad in cc)) (rw end.sink_is (Appends-nil k'.written)) end.desk_is
 
 bad_some : (bodies : List (List ℕ)) (part more : List ℕ) (offset : ℕ) → 0 < length part → offset ≡ length (flat_map frame_text bodies) → bad_offset bodies (part ++ more) ≡ Some offset

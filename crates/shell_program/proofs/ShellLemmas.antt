@@ -12,7 +12,7 @@ use Rattle.shell_words.specs.declared.commands.WordsFault.{WordsFault}
 use Rattle.shell_words.specs.declared.commands.WordsFault.TheVariants as words
 use Rattle.shell_words.specs.Commands.{Reads}
 use Rattle.shell_words.specs.declared.commands.Asked.{Asked}
-use Rattle.shell_words.specs.declared.commands.Asked.TheVariants.{Script, Serve, Check, Load, Keep}
+use Rattle.shell_words.specs.declared.commands.Asked.TheVariants.{Script, Serve, Check, Load, Keep, Access}
 use Rattle.hub.specs.Hub.{HubView}
 use Rattle.session_workers.specs.declared.post.Post.{Post}
 use Rattle.shell_program.specs.Command.{built, served_at}
@@ -23,7 +23,7 @@ use Rattle.shell_program.specs.Serve.{ADoorFailed, EndsServe, ServesNone}
 use Rattle.shell_program.specs.Shell.{EndsShell, EndsShellBy, EndsShellSurely}
 use Rattle.shell_program.specs.Status.{status_number}
 use Rattle.shell_program.specs.declared.status.Status.{Status}
-use Rattle.shell_program.specs.declared.status.Status.TheVariants.{Done, Usage, InputFault, OutputFault, NoMemory, DoorFault, ConfRefused, BadScript, DiskFault, BadJournal}
+use Rattle.shell_program.specs.declared.status.Status.TheVariants.{Done, Usage, InputFault, OutputFault, NoMemory, DoorFault, ConfRefused, BadScript, DiskFault, BadJournal, BadQuestion}
 use Rattle.shell_program.proofs.LoneLemmas.{nothing_done, refused_run, surely, unused}
 
 -- `serve` where there are posts enough, and where there are not
@@ -54,6 +54,9 @@ module _ {L D G : Type 0} (state : L → LinkState) (door : D → DoorState L) (
 
   pub shell_keeps : (posts : List (Post D G HubView)) (admin : Name) → EndsRun (Some (Keep admin)) disk source source' sink sink' number log → EndsShell state door posts posts (Some (Keep admin)) disk source source' sink sink' number log
   shell_keeps posts admin run = record { status = run.status; number_is = run.number_is; ends = (run.ends, refl) }
+
+  pub shell_asks : (posts : List (Post D G HubView)) → EndsRun (Some Access) disk source source' sink sink' number log → EndsShell state door posts posts (Some Access) disk source source' sink sink' number log
+  shell_asks posts run = record { status = run.status; number_is = run.number_is; ends = (run.ends, refl) }
 
   pub shell_refuses : (posts : List (Post D G HubView)) → EndsRun None disk source source' sink sink' number log → EndsShell state door posts posts None disk source source' sink sink' number log
   shell_refuses posts run = record { status = run.status; number_is = run.number_is; ends = (run.ends, refl) }
@@ -95,6 +98,7 @@ shell_does_nothing {L} {D} {G} state door posts modeled disk source sink (Some (
 shell_does_nothing {L} {D} {G} state door posts modeled disk source sink (Some Check) = (nothing_done modeled disk source sink (Some Check), refl)
 shell_does_nothing {L} {D} {G} state door posts modeled disk source sink (Some (Load count start)) = (nothing_done modeled disk source sink (Some (Load count start)), refl)
 shell_does_nothing {L} {D} {G} state door posts modeled disk source sink (Some (Keep admin)) = (nothing_done modeled disk source sink (Some (Keep admin)), refl)
+shell_does_nothing {L} {D} {G} state door posts modeled disk source sink (Some Access) = (nothing_done modeled disk source sink (Some Access), refl)
 shell_does_nothing {L} {D} {G} state door posts modeled disk source sink (Some (Serve admin workers each)) = go (length posts) where
   none : (xs : List (Post D G HubView)) → ServesNone state door admin each xs xs sink sink []
   none xs = record { unasked = λ k d. refl; unprinted = refl; no_log = refl }
@@ -125,6 +129,7 @@ four posts (Some (Script admin)) number is = inr (inr is)
 four posts (Some Check) number is = inr (inr is)
 four posts (Some (Load count start)) number is = inr is
 four posts (Some (Keep admin)) number is = inr (inr (inr is))
+four posts (Some Access) number is = inr (inr (inr (inr is)))
 four zero (Some (Serve admin workers each)) number is = inr is
 four (suc posts) (Some (Serve admin workers each)) number is = by (nat_le workers (suc posts)) where
   by : (b : Bool) → IsDue (if b then Some (Serve admin workers each) else None) number
@@ -142,6 +147,7 @@ refused_due sink sink' number ConfRefused is ends writes = absurd ends
 refused_due sink sink' number BadScript is ends writes = absurd ends
 refused_due sink sink' number DiskFault is ends writes = absurd ends
 refused_due sink sink' number BadJournal is ends writes = absurd ends
+refused_due sink sink' number BadQuestion is ends writes = absurd ends
 
 pub shell_unread_surely : {L D G : Type 0} (state : L → LinkState) (door : D → DoorState L) (posts : List (Post D G HubView)) (modeled : Bool) (disk : DiskState) (source sink sink' : LinkState) (number : ℕ) (asked : Option Asked) (why : WordsFault) → Reads asked (Err why) → EndsUnread why sink sink' number
     → EndsShellSurely state door posts posts (option_and_then (built (length posts)) asked) (unused modeled disk) source source sink sink' number

@@ -9,7 +9,7 @@ use Rattle.shell_program.specs.RunningScripts.{WritesPart}
 use Rattle.shell_program.specs.declared.check.ReadAllFault.{ReadAllFault}
 use Rattle.shell_program.specs.declared.check.ReadAllFault.TheVariants as fault
 use Rattle.shell_program.specs.declared.status.Status.{Status}
-use Rattle.shell_program.specs.declared.status.Status.TheVariants.{Done, Usage, InputFault, OutputFault, NoMemory, DoorFault, ConfRefused, BadScript, DiskFault, BadJournal}
+use Rattle.shell_program.specs.declared.status.Status.TheVariants.{Done, Usage, InputFault, OutputFault, NoMemory, DoorFault, ConfRefused, BadScript, DiskFault, BadJournal, BadQuestion}
 
 -- the input was read to its end
 pub record ReadsAll (source source' : LinkState) (input : List ℕ) : Type 0 where
@@ -55,6 +55,7 @@ EndsCheck source source' sink sink' DoorFault = ⊥
 EndsCheck source source' sink sink' BadScript = ⊥
 EndsCheck source source' sink sink' DiskFault = ⊥
 EndsCheck source source' sink sink' BadJournal = ⊥
+EndsCheck source source' sink sink' BadQuestion = ⊥
 
 -- why the input was not read to its end
 abbrev pub StopsReading : LinkState → LinkState → ReadAllFault → Type 0

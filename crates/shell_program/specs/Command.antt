@@ -2,7 +2,7 @@
 use Rattle.std.specs.Prelude.{ℕ, zero, suc, List, Option, Some, None, codes, nat_le, if◌then◌else◌, option_and_then}
 use Rattle.ref_store.specs.Refs.{Name}
 use Rattle.shell_words.specs.declared.commands.Asked.{Asked}
-use Rattle.shell_words.specs.declared.commands.Asked.TheVariants.{Script, Serve, Check, Load, Keep}
+use Rattle.shell_words.specs.declared.commands.Asked.TheVariants.{Script, Serve, Check, Load, Keep, Access}
 use Rattle.shell_words.specs.Commands.{asked}
 use Rattle.shell_program.specs.Load.{loader}
 
@@ -18,6 +18,7 @@ built posts (Serve admin workers sessions) = served_at posts admin workers sessi
 built posts Check = Some Check
 built posts (Load count start) = Some (Load count start)
 built posts (Keep admin) = Some (Keep admin)
+built posts Access = Some Access
 
 -- the command that these words are, where it is done; other words are refused
 abbrev pub command : ℕ → List (List ℕ) → Option Asked
@@ -31,7 +32,8 @@ admin_of (Some (Serve admin workers sessions)) = Some admin
 admin_of (Some Check) = None
 admin_of (Some (Load count start)) = Some loader
 admin_of (Some (Keep admin)) = Some admin
+admin_of (Some Access) = None
 
 -- what is printed where the words are refused
 abbrev pub usage_line : List ℕ
-usage_line = codes "usage: gitolite_shell script --admin NAME | serve --admin NAME --workers K --sessions N | check | load N START | keep --admin NAME\n"
+usage_line = codes "usage: gitolite_shell script --admin NAME | serve --admin NAME --workers K --sessions N | check | load N START | keep --admin NAME | access\n"

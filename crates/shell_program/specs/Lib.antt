@@ -1,9 +1,11 @@
+pub mod SessionFrames
 pub mod Script
 pub mod Load
 pub mod RunningLoads
 pub mod RunningScripts
 pub mod Status
 pub mod Check
+pub mod Access
 pub mod Serve
 pub mod Command
 pub mod Keep

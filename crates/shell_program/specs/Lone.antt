@@ -11,9 +11,10 @@ use Rattle.session_core.specs.Recorded.{IsRecorded, Recorded}
 use Rattle.shell_words.specs.declared.commands.WordsFault.{WordsFault}
 use Rattle.shell_words.specs.declared.commands.WordsFault.TheVariants as words
 use Rattle.shell_words.specs.declared.commands.Asked.{Asked}
-use Rattle.shell_words.specs.declared.commands.Asked.TheVariants.{Script, Serve, Check, Load, Keep}
+use Rattle.shell_words.specs.declared.commands.Asked.TheVariants.{Script, Serve, Check, Load, Keep, Access}
 use Rattle.shell_program.specs.Command.{admin_of, usage_line}
 use Rattle.shell_program.specs.RunningScripts.{EndsScript, MayLackAfter, WritesPart}
+use Rattle.shell_program.specs.Access.{EndsAccess}
 use Rattle.shell_program.specs.Check.{EndsCheck}
 use Rattle.shell_program.specs.Load.{EndsLoad}
 use Rattle.shell_program.specs.Keep.{DiskRun, EndsKeep}
@@ -44,13 +45,15 @@ RefusesSurely None sink number = number ≡ 4 → IsTrue sink.may_lack
 RefusesSurely (Some command) sink number = ⊤
 
 -- The command decides: a check, which logs nothing; a script at a new hub; the sessions of a generated installation, which reads nothing; a script at the hub of
--- a journal; or none, and then the words are refused, and nothing is read or logged. One caller alone does no other. Only the last of them uses the disk.
+-- a journal, the only command that uses the disk; questions, which log nothing; or none, and then the words are refused, and nothing is read or logged. One caller
+-- alone does no other.
 abbrev pub EndsBy : Option Asked → DiskRun → LinkState → LinkState → LinkState → LinkState → List Entry → Status → Type 0
 EndsBy (Some Check) disk source source' sink sink' log status = EndsCheck source source' sink sink' status × (log ≡ []) × (disk.new ≡ disk.old)
 EndsBy (Some (Script admin)) disk source source' sink sink' log status = EndsScript admin [] source source' sink sink' log status × (disk.new ≡ disk.old)
 EndsBy (Some (Serve admin workers sessions)) disk source source' sink sink' log status = ⊥
 EndsBy (Some (Load count start)) disk source source' sink sink' log status = EndsLoad count start sink sink' log status × (source' ≡ source) × (disk.new ≡ disk.old)
 EndsBy (Some (Keep admin)) disk source source' sink sink' log status = EndsKeep admin disk source source' sink sink' log status
+EndsBy (Some Access) disk source source' sink sink' log status = EndsAccess source source' sink sink' status × (log ≡ []) × (disk.new ≡ disk.old)
 EndsBy None disk source source' sink sink' log status = EndsUsage sink sink' status × (source' ≡ source) × (log ≡ []) × (disk.new ≡ disk.old)
 
 -- A run of this command ended with this number and this log.
@@ -59,13 +62,14 @@ pub record EndsRun (found : Option Asked) (disk : DiskRun) (source source' sink 
   pub number_is : number ≡ status_number status
   pub ends : EndsBy found disk source source' sink sink' log status
 
--- unless memory runs out, a check ends with 0 or 6, a script with 0 or 7, `keep` with 0, 7 or 9, `serve` and `load` with 0, and refused words with 1
+-- unless memory runs out, a check ends with 0 or 6, a script with 0 or 7, `keep` with 0, 7 or 9, `access` with 0, 6, 7 or 10, `serve` and `load` with 0, and refused words with 1
 abbrev pub IsDue : Option Asked → ℕ → Type 0
 IsDue (Some Check) number = (number ≡ 0) ⊎ (number ≡ 6) ⊎ (number ≡ 4)
 IsDue (Some (Script admin)) number = (number ≡ 0) ⊎ (number ≡ 7) ⊎ (number ≡ 4)
 IsDue (Some (Serve admin workers sessions)) number = (number ≡ 0) ⊎ (number ≡ 4)
 IsDue (Some (Load count start)) number = (number ≡ 0) ⊎ (number ≡ 4)
 IsDue (Some (Keep admin)) number = (number ≡ 0) ⊎ (number ≡ 7) ⊎ (number ≡ 9) ⊎ (number ≡ 4)
+IsDue (Some Access) number = (number ≡ 0) ⊎ (number ≡ 6) ⊎ (number ≡ 7) ⊎ (number ≡ 10) ⊎ (number ≡ 4)
 IsDue None number = (number ≡ 1) ⊎ (number ≡ 4)
 
 -- a call of the disk failed, of a command that uses it

@@ -10,8 +10,9 @@ use Rattle.hub.specs.Desk.{DeskView}
 use Rattle.interaction_tree.specs.Traces.{Begins, FallsShort}
 use Rattle.interaction_tree.specs.Endings.{IsInput}
 use Rattle.session_core.specs.Recorded.{AsRecorded}
-use Rattle.script_frames.specs.Frames.{frame_text, AreBodies, BeginsNoFrame, IsScript}
-use Rattle.script_frames.specs.ReadingFrames.{Takes, IsRest, TakesFrame, TakesNoFrame, IsInBody, GoesNoFurther, WantsMore, FailsInFrame, LacksInFrame}
+use Rattle.script_frames.specs.Frames.{AreBodies}
+use Rattle.script_frames.specs.ReadingFrames.{Takes, IsRest}
+use Rattle.shell_program.specs.SessionFrames.{frame_text, BeginsNoFrame, IsScript, TakesFrame, TakesNoFrame, IsInBody, GoesNoFurther, WantsMore, FailsInFrame, LacksInFrame}
 use Rattle.shell_program.specs.Script.{stop_word, reply_text, fault_text, served_alone, sessions, bad_offset, script}
 use Rattle.shell_program.specs.declared.script.ScriptFault.{ScriptFault}
 use Rattle.shell_program.specs.declared.script.ScriptFault.TheVariants.{BadScript, InputFault, OutputFault, DiskFault, NoMemory}

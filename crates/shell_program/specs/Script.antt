@@ -9,7 +9,7 @@ use Rattle.session_core.specs.declared.end.SessionEnd.{SessionEnd}
 use Rattle.session_core.specs.declared.end.SessionEnd.TheVariants as end
 use Rattle.session_core.specs.Recorded.{Recorded}
 use Rattle.git_session.specs.Session.{session}
-use Rattle.script_frames.specs.Frames.{frame_text}
+use Rattle.shell_program.specs.SessionFrames.{frame_text}
 
 -- I. What is printed
 

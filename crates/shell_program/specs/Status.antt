@@ -3,7 +3,7 @@ use Rattle.std.specs.Prelude.{ℕ, Bool, true, false, Result, Ok, Err}
 use Rattle.shell_program.specs.declared.script.ScriptFault.{ScriptFault}
 use Rattle.shell_program.specs.declared.script.ScriptFault.TheVariants as fault
 use Rattle.shell_program.specs.declared.status.Status.{Status}
-use Rattle.shell_program.specs.declared.status.Status.TheVariants.{Done, Usage, InputFault, OutputFault, NoMemory, DoorFault, ConfRefused, BadScript, DiskFault, BadJournal}
+use Rattle.shell_program.specs.declared.status.Status.TheVariants.{Done, Usage, InputFault, OutputFault, NoMemory, DoorFault, ConfRefused, BadScript, DiskFault, BadJournal, BadQuestion}
 
 -- the number with which the program ends
 abbrev pub status_number : Status → ℕ
@@ -17,6 +17,7 @@ status_number ConfRefused = 6
 status_number BadScript = 7
 status_number DiskFault = 8
 status_number BadJournal = 9
+status_number BadQuestion = 10
 
 -- how a script's end is told
 abbrev pub status_of : Result (Unit {0}) ScriptFault → Status

@@ -1,9 +1,11 @@
-//! What the program does: sessions from a script, from connections or generated, and confs that are checked.
+//! What the program does: sessions from a script, from connections or generated, confs that are checked, and who may do
+//! what by them.
 //!
 //! - `script`: sessions one after the other, and what is printed of them;
 //! - `keep`: a script at the hub of a journal on a disk;
 //! - `serve`: workers at their posts, and what is printed behind them;
 //! - `check`: a conf, and what is printed of it;
+//! - `access`: questions over one conf or two, and what is printed of them;
 //! - `load`, `tally`: the sessions of a generated installation, and what they came to in numbers;
 //! - `status`: how a run of the program ends;
 //! - `words`, `posts`: the words by which it was called, and posts at a TCP listener;
@@ -13,6 +15,7 @@
 //! words of a command of `shell_words`, a journal of `hub_journal`, a generated installation of `installation`, and the edges of `edge_links`.
 #![tactic(auto)]
 
+mod access;
 mod check;
 mod keep;
 mod load;

@@ -4,6 +4,7 @@ ghost use Rattle.hub.specs.LoneDesk.{desk_of};
 ghost use Rattle.shell_words.specs.Commands.{IsWithinLimits};
 ghost use Rattle.shell_words.specs.Commands.{asked};
 ghost use Rattle.shell_program.specs.Command.{built, command};
+ghost use Rattle.shell_program.specs.Access.{EndsAccess};
 ghost use Rattle.shell_program.specs.Check.{EndsCheck};
 ghost use Rattle.shell_program.specs.RunningScripts.{EndsScript};
 ghost use Rattle.shell_program.specs.Lone.{RefusesSurely, EndsRun, EndsSurely, EndsUnread, EndsUsage, IsLegalRun, IsRecordedRun, TellsStatus, new_desk};
@@ -11,6 +12,7 @@ ghost use Rattle.shell_program.specs.Status.{status_number};
 ghost use Rattle.shell_program.specs.declared.status.Status.{Status};
 ghost use Rattle.hub_history.specs.History.{IsLegal};
 
+use crate::access::run_access;
 use crate::check::run_check;
 use crate::keep::run_keep;
 use crate::load::run_load;
@@ -97,6 +99,16 @@ pub fn check_alone<I: Source, O: Sink>(alloc: Global, input: &mut I, output: &mu
     Ended::without_log(alloc, status)
 }
 
+/// Asks who may do what.
+pub fn ask_alone<I: Source, O: Sink>(alloc: Global, input: &mut I, output: &mut O) -> Ended
+    ensures ends { (status : Status) × (result.status ≡ status_number status) × EndsAccess (I.state input.old) (I.state input.new) (O.state output.old) (O.state output.new) status }
+    ensures tells { TellsStatus (I.state input.old) (I.state input.new) (O.state output.old) (O.state output.new) result.status }
+    ensures log { result.log ≡ [] }
+{
+    let status = run_access(alloc, input, output);
+    Ended::without_log(alloc, status)
+}
+
 /// Runs a script at a new hub of this admin.
 pub fn run_alone<I: Source, O: Sink>(
     alloc: Global,
@@ -140,12 +152,13 @@ fn run_asked<I: Source, O: Sink, Y: Disk>(
         Asked::Serve { .. } => refuse(alloc, output),
         Asked::Load { count, start } => run_load(alloc, count, start, output),
         Asked::Keep { admin } => run_keep(alloc, &admin, input, output, disk),
+        Asked::Access => ask_alone(alloc, input, output),
     }
 }
 
-/// Runs the program as the words ask, with one caller: prints the usage, checks a conf, or runs at a new hub a script or
-/// the sessions of a generated installation, or a script at the hub of a journal on the disk. No other command uses the
-/// disk. `serve` is refused, since it wants posts.
+/// Runs the program as the words ask, with one caller: prints the usage, checks a conf, asks who may do what, or runs at
+/// a new hub a script or the sessions of a generated installation, or a script at the hub of a journal on the disk. No
+/// other command uses the disk. `serve` is refused, since it wants posts.
 pub fn lone_main<I: Source, O: Sink, Y: Disk>(
     alloc: Global,
     words: &[String],

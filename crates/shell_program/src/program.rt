@@ -7,7 +7,7 @@ ghost use Rattle.shell_program.specs.Shell.{EndsShell, EndsShellSurely};
 
 use crate::keep::run_keep;
 use crate::load::run_load;
-use crate::lone::{Ended, check_alone, refuse, run_alone, unread};
+use crate::lone::{Ended, ask_alone, check_alone, refuse, run_alone, unread};
 use crate::serve::run_serve;
 use edge_links::Door;
 use hub::Hub;
@@ -61,6 +61,7 @@ fn run_asked<
         }
         Asked::Load { count, start } => run_load(alloc, count, start, output),
         Asked::Keep { admin } => run_keep(alloc, &admin, input, output, disk),
+        Asked::Access => ask_alone(alloc, input, output),
     }
 }
 

@@ -60,6 +60,9 @@ impl From<NoMemory> for ScriptFault {
 // What is printed of a session has room for so many bytes beside its reply: the words and numbers before it, and the line feed behind it.
 const ROOM_BESIDE: usize = 64;
 
+// The word of a script's frames, and its space.
+const SESSION: &[u8] = b"session ";
+
 // How many bytes a call on a session's link moves at most.
 pub(crate) const MOST_MOVED: usize = 65_536;
 
@@ -104,7 +107,7 @@ fn reply_text(alloc: Global, number: u64, word: &str, reply: &[u8]) -> Result<Ve
 }
 
 #[tactic(auto, unfolding(crate::specs::Script::fault_text))]
-fn fault_text(alloc: Global, offset: u64) -> Result<Vec<u8>, NoMemory>
+pub(crate) fn fault_text(alloc: Global, offset: u64) -> Result<Vec<u8>, NoMemory>
     ensures { IfOk result (λ text. text.items ≡ fault_text offset) }
 {
     let mut text = Vec::new(alloc);
@@ -181,7 +184,7 @@ fn advance<I: Source, O: Sink, K: ScriptDesk>(
     ensures admin { (K.view desk.new).admin ≡ (K.view desk.old).admin }
     ensures goes { K.goes_on desk.old desk.new }
 {
-    match read_frame(alloc, input) {
+    match read_frame(alloc, SESSION, input) {
         Ok(Some(frame)) => {
             let text = serve(alloc, number, frame.body, desk, buffer)?;
             write_text(output, &text)?;

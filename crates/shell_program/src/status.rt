@@ -25,6 +25,8 @@ pub enum Status {
     DiskFault = 8,
     /// The file is no journal, or that of another admin, or has a bad record.
     BadJournal = 9,
+    /// A question is bad, or there are too many.
+    BadQuestion = 10,
 }
 
 impl Status {

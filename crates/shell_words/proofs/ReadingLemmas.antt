@@ -11,12 +11,12 @@ use Rattle.std.proofs.lemmas.Option.{option_and_then_some}
 use Rattle.conf_lex.specs.Names.{is_user_name}
 use Rattle.shell_words.specs.Numbers.{number_in}
 use Rattle.shell_words.specs.Options.{Given, after_prefix, first_option, flag_text, given_after, option_at}
-use Rattle.shell_words.specs.Commands.{admin_of, admin_with, asked, check_of, keep_of, load_of, load_with, script_of, serve_by, serve_of, serve_of_three, serve_with}
+use Rattle.shell_words.specs.Commands.{access_of, admin_of, admin_with, asked, check_of, keep_of, load_of, load_with, script_of, serve_by, serve_of, serve_of_three, serve_with}
 use Rattle.shell_words.specs.Spelling.{IsInSomeOrder, ReadIsSpelled, Spells, SpellsOption}
 use Rattle.shell_words.specs.declared.options.Flag.{Flag}
 use Rattle.shell_words.specs.declared.options.Flag.TheVariants.{Admin, Workers, Sessions}
 use Rattle.shell_words.specs.declared.commands.Asked.{Asked}
-use Rattle.shell_words.specs.declared.commands.Asked.TheVariants.{Script, Serve, Check, Load, Keep}
+use Rattle.shell_words.specs.declared.commands.Asked.TheVariants.{Script, Serve, Check, Load, Keep, Access}
 
 -- which arm a choice took
 if-case : {X P : Type 0} (b : Bool) (x y r : X) → (if b then x else y) ≡ r → (b ≡ true → x ≡ r → P) → (b ≡ false → y ≡ r → P) → P
@@ -164,6 +164,13 @@ check-spelled [] command e =
     subst (λ c. Spells c (codes "check" ∷ [])) command-is (tt, refl)
 check-spelled (word ∷ rest) command e = absurd (cc)
 
+-- `access` is read from its spelling alone
+access-spelled : (words : List (List ℕ)) (command : Asked) → access_of words ≡ Some command → Spells command (codes "access" ∷ words)
+access-spelled [] command e =
+    let command-is : Access ≡ command = cc in
+    subst (λ c. Spells c (codes "access" ∷ [])) command-is (tt, refl)
+access-spelled (word ∷ rest) command e = absurd (cc)
+
 -- the values of `serve`
 record HasServeValues (admin workers sessions : List ℕ) (command : Asked) : Type 0 where
   k : ℕ
@@ -270,7 +277,8 @@ read-spelled command (verb ∷ rest) e =
     if-case (bytes_eq verb (codes "serve")) (serve_of rest) _ (Some command) e2 (λ same is. behind (codes "serve") same (serve-spelled rest command is)) (λ other2 e3.
     if-case (bytes_eq verb (codes "check")) (check_of rest) _ (Some command) e3 (λ same is. behind (codes "check") same (check-spelled rest command is)) (λ other3 e4.
     if-case (bytes_eq verb (codes "load")) (load_of rest) _ (Some command) e4 (λ same is. behind (codes "load") same (load-spelled rest command is)) (λ other4 e5.
-    if-case (bytes_eq verb (codes "keep")) (keep_of rest) None (Some command) e5 (λ same is. behind (codes "keep") same (keep-spelled rest command is)) (λ other5 none. absurd (cc))))))
+    if-case (bytes_eq verb (codes "keep")) (keep_of rest) _ (Some command) e5 (λ same is. behind (codes "keep") same (keep-spelled rest command is)) (λ other5 e6.
+    if-case (bytes_eq verb (codes "access")) (access_of rest) None (Some command) e6 (λ same is. behind (codes "access") same (access-spelled rest command is)) (λ other6 none. absurd (cc)))))))
   where
     behind : (text : List ℕ) → bytes_eq verb text ≡ true → Spells command (text ∷ rest) → Spells command (verb ∷ rest)
     behind text same spelled = subst (λ t. Spells command (t ∷ rest)) (sym (same-word verb text same)) spelled

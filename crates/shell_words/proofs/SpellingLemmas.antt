@@ -9,7 +9,7 @@ use Rattle.shell_words.specs.Commands.{admin_of, asked, serve_by, serve_of, serv
 use Rattle.shell_words.specs.Spelling.{IsInSomeOrder, SpellsOption, SpellsServe, SpelledIsRead}
 use Rattle.shell_words.specs.declared.options.Flag.{Flag}
 use Rattle.shell_words.specs.declared.options.Flag.TheVariants.{Admin, Workers, Sessions}
-use Rattle.shell_words.specs.declared.commands.Asked.TheVariants.{Script, Serve, Check, Load, Keep}
+use Rattle.shell_words.specs.declared.commands.Asked.TheVariants.{Script, Serve, Check, Load, Keep, Access}
 
 abbrev pub given : Flag → List ℕ → List (List ℕ) → Given
 given flag value rest = record { flag = flag; value = value; rest = rest }
@@ -65,3 +65,4 @@ spelled-read (Load count start) words ((c1, c2, s2), e) =
     let n = number_in-decimal 0 4294967295 start (decimal start) (omega (arith, s2)) refl (omega arith) s2 in
     rw (e, k, n) refl
 spelled-read (Keep admin) words (name, (rest, e, spelled)) = rw (e, admin-read admin rest name spelled) refl
+spelled-read Access words (limits, e) = rw e refl

@@ -8,7 +8,7 @@ use Rattle.shell_words.specs.Options.{Given, first_option}
 use Rattle.shell_words.specs.declared.options.Flag.{Flag}
 use Rattle.shell_words.specs.declared.options.Flag.TheVariants.{Admin, Workers, Sessions}
 use Rattle.shell_words.specs.declared.commands.Asked.{Asked}
-use Rattle.shell_words.specs.declared.commands.Asked.TheVariants.{Script, Serve, Check, Load, Keep}
+use Rattle.shell_words.specs.declared.commands.Asked.TheVariants.{Script, Serve, Check, Load, Keep, Access}
 use Rattle.shell_words.specs.declared.commands.WordsFault.{WordsFault}
 use Rattle.shell_words.specs.declared.commands.WordsFault.TheVariants.{Usage, NoMemory}
 
@@ -16,6 +16,11 @@ use Rattle.shell_words.specs.declared.commands.WordsFault.TheVariants.{Usage, No
 abbrev pub check_of : List (List ℕ) → Option Asked
 check_of [] = Some Check
 check_of (word ∷ rest) = None
+
+-- `access` has no further word
+abbrev pub access_of : List (List ℕ) → Option Asked
+access_of [] = Some Access
+access_of (word ∷ rest) = None
 
 -- `load` by its two numbers
 abbrev pub load_with : Option ℕ → Option ℕ → Option Asked
@@ -95,6 +100,7 @@ asked (verb ∷ rest) =
     else if bytes_eq verb (codes "check") then check_of rest
     else if bytes_eq verb (codes "load") then load_of rest
     else if bytes_eq verb (codes "keep") then keep_of rest
+    else if bytes_eq verb (codes "access") then access_of rest
     else None
 
 -- the values of a command are within their limits
@@ -104,6 +110,7 @@ IsWithinLimits (Serve admin workers sessions) = (is_user_name admin ≡ true) ×
 IsWithinLimits Check = ⊤
 IsWithinLimits (Load count start) = (1 ≤ count) × (count ≤ 5000) × (start ≤ 4294967295)
 IsWithinLimits (Keep admin) = is_user_name admin ≡ true
+IsWithinLimits Access = ⊤
 
 -- What the answer of a reading says: what was found; that nothing was; or that something was, and that memory ran out.
 abbrev pub Reads : {X : Type 0} → Option X → Result X WordsFault → Type 0

@@ -2,7 +2,7 @@
 use Rattle.std.specs.Prelude.{◌≡◌, ◌⊎◌, ℕ, List, [], ◌∷◌, ◌++◌, codes, decimal, Some}
 use Rattle.shell_words.specs.Commands.{IsWithinLimits, asked}
 use Rattle.shell_words.specs.declared.commands.Asked.{Asked}
-use Rattle.shell_words.specs.declared.commands.Asked.TheVariants.{Script, Serve, Check, Load, Keep}
+use Rattle.shell_words.specs.declared.commands.Asked.TheVariants.{Script, Serve, Check, Load, Keep, Access}
 
 -- an option is spelled by two words or by one: `FLAG VALUE` or `FLAG=VALUE`
 abbrev pub SpellsOption : List ℕ → List ℕ → List (List ℕ) → Type 0
@@ -34,6 +34,7 @@ IsSpelledBy (Serve admin workers sessions) words = Follow (codes "serve") words 
 IsSpelledBy Check words = words ≡ codes "check" ∷ []
 IsSpelledBy (Load count start) words = words ≡ codes "load" ∷ decimal count ∷ decimal start ∷ []
 IsSpelledBy (Keep admin) words = Follow (codes "keep") words (SpellsOption (codes "--admin") admin)
+IsSpelledBy Access words = words ≡ codes "access" ∷ []
 
 -- these words spell the command, whose values are within their limits
 abbrev pub Spells : Asked → List (List ℕ) → Type 0

@@ -3,7 +3,7 @@ ghost use Rattle.std.specs.Prelude.{◌≡◌, IfOk, Some, map, string_bytes, tr
 ghost use Rattle.conf_lex.specs.Names.{is_user_name};
 ghost use Rattle.std.specs.Option.{option_copied};
 ghost use Rattle.shell_words.specs.Given.{given_of};
-ghost use Rattle.shell_words.specs.Commands.{IsWithinLimits, Reads, admin_of, asked, check_of, fault_text, keep_of, load_of, script_of, serve_by, serve_of, value_of};
+ghost use Rattle.shell_words.specs.Commands.{IsWithinLimits, Reads, access_of, admin_of, asked, check_of, fault_text, keep_of, load_of, script_of, serve_by, serve_of, value_of};
 
 use crate::numbers::number_in;
 use crate::options::{Flag, Given, first_option};
@@ -24,7 +24,7 @@ const LAST_START: u64 = 4_294_967_295;
 
 /// What is printed where the words are no command.
 pub const USAGE: &str =
-    "usage: gitolite_shell script --admin NAME | serve --admin NAME --workers K --sessions N | check | load N START | keep --admin NAME\n";
+    "usage: gitolite_shell script --admin NAME | serve --admin NAME --workers K --sessions N | check | load N START | keep --admin NAME | access\n";
 
 /// A command, with its values.
 #[derive(Drop)]
@@ -50,6 +50,8 @@ pub enum Asked {
     Keep {
         admin: UserName,
     },
+    /// `access`.
+    Access,
 }
 
 /// Why words are not read as a command.
@@ -100,6 +102,9 @@ pub fn read_words(alloc: Global, words: &[String]) -> Result<Asked, WordsFault>
     if verb.as_str() == "keep" {
         return read_keep(alloc, rest);
     }
+    if verb.as_str() == "access" {
+        return read_access(rest);
+    }
     Err(WordsFault::Usage)
 }
 
@@ -112,6 +117,17 @@ fn read_check(words: &[String]) -> Result<Asked, WordsFault>
         return Ok(Asked::Check);
     }
     Err(WordsFault::Usage)
+}
+
+// What is behind `access`.
+fn read_access(words: &[String]) -> Result<Asked, WordsFault>
+    ensures reads { Reads (access_of (map string_bytes words.now)) result }
+    ensures limits { IfOk result IsWithinLimits }
+{
+    if let [_, ..] = words {
+        return Err(WordsFault::Usage);
+    }
+    Ok(Asked::Access)
 }
 
 // What is behind `load`.

@@ -1,6 +1,7 @@
 use Rattle.std.proofs.Common.{◌≡◌, ◌≤◌, ◌-◌, length}
 use Rattle.pktline_core.specs.Links.{IsLater}
-use Rattle.script_frames.specs.ReadingFrames.{HasNoFeed, Takes}
+use Rattle.script_frames.specs.Frames.{HasNoFeed}
+use Rattle.script_frames.specs.ReadingFrames.{Takes}
 use Rattle.script_frames.proofs.frames.read_line.Given as goal
 
 abbrev pub invariant-loop-byte : goal.invariant-loop-byte

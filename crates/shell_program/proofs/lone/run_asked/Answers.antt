@@ -2,7 +2,7 @@ use Rattle.std.proofs.Common.{refl, inr, subst, sym}
 use Rattle.shell_words.specs.declared.commands.Asked.{Asked}
 use Rattle.shell_program.specs.Command.{built}
 use Rattle.shell_program.specs.Lone.{EndsRun, IsLegalRun}
-use Rattle.shell_program.proofs.LoneLemmas.{checked_run, kept_run, loaded_run, refused_run, script_run, surely}
+use Rattle.shell_program.proofs.LoneLemmas.{asked_run, checked_run, kept_run, loaded_run, refused_run, script_run, surely}
 use Rattle.shell_program.proofs.lone.run_asked.Goals as goal
 
 pub returns-in-Check-clause-ends : goal.returns-in-Check-clause-ends
@@ -55,13 +55,24 @@ returns-in-Load-clause-sure g c = surely _ _ _ _ _ _ _ _ (returns-in-Load-clause
 pub returns-in-Load-clause-legal : goal.returns-in-Load-clause-legal
 returns-in-Load-clause-legal g c = subst (λ (a : Asked). IsLegalRun (built 0 a) c.run_load.result.log) (sym c.in-Load.is) c.run_load.ensures.legal
 
-pub returns-clause-ends : goal.returns-clause-ends
-returns-clause-ends g c =
+pub returns-in-Keep-clause-ends : goal.returns-in-Keep-clause-ends
+returns-in-Keep-clause-ends g c =
     subst (λ (a : Asked). EndsRun (built 0 a) (record { modeled = g.Y.Disk.is_modeled; old = g.Y.Disk.state c.args.disk.now; new = g.Y.Disk.state c.run_keep.new.disk }) (g.I.Endpoint.state c.args.input.now) (g.I.Endpoint.state c.run_keep.new.input) (g.O.Endpoint.state c.args.output.now) (g.O.Endpoint.state c.run_keep.new.output) c.run_keep.result.status c.run_keep.result.log)
     (sym c.in-Keep.is) (kept_run _ _ _ _ _ _ _ c.in-Keep.admin c.run_keep.ensures.ends)
+
+pub returns-in-Keep-clause-sure : goal.returns-in-Keep-clause-sure
+returns-in-Keep-clause-sure g c = surely _ _ _ _ _ _ _ _ (returns-in-Keep-clause-ends g c)
+
+pub returns-in-Keep-clause-legal : goal.returns-in-Keep-clause-legal
+returns-in-Keep-clause-legal g c = subst (λ (a : Asked). IsLegalRun (built 0 a) c.run_keep.result.log) (sym c.in-Keep.is) c.run_keep.ensures.legal
+
+pub returns-clause-ends : goal.returns-clause-ends
+returns-clause-ends g c =
+    subst (λ (a : Asked). EndsRun (built 0 a) (record { modeled = g.Y.Disk.is_modeled; old = g.Y.Disk.state c.args.disk.now; new = g.Y.Disk.state c.args.disk.now }) (g.I.Endpoint.state c.args.input.now) (g.I.Endpoint.state c.ask_alone.new.input) (g.O.Endpoint.state c.args.output.now) (g.O.Endpoint.state c.ask_alone.new.output) c.ask_alone.result.status c.ask_alone.result.log)
+    (sym c.in-Access.is) (asked_run _ _ _ _ _ _ _ c.ask_alone.ensures.ends c.ask_alone.ensures.log refl)
 
 pub returns-clause-sure : goal.returns-clause-sure
 returns-clause-sure g c = surely _ _ _ _ _ _ _ _ (returns-clause-ends g c)
 
 pub returns-clause-legal : goal.returns-clause-legal
-returns-clause-legal g c = subst (λ (a : Asked). IsLegalRun (built 0 a) c.run_keep.result.log) (sym c.in-Keep.is) c.run_keep.ensures.legal
+returns-clause-legal g c = subst (λ (a : Asked). IsLegalRun (built 0 a) c.ask_alone.result.log) (sym c.in-Access.is) tt

@@ -1,6 +1,6 @@
 use Rattle.std.proofs.Common.{◌≡◌, ◌⊎◌, Option, List, ◌++◌, inr, refl, subst, sym, length, take, drop, arith, ◌∙◌, ap}
 use Rattle.shell_words.specs.declared.commands.Asked.{Asked}
-use Rattle.shell_words.specs.declared.commands.Asked.TheVariants.{Script, Serve, Check, Load, Keep}
+use Rattle.shell_words.specs.declared.commands.Asked.TheVariants.{Script, Serve, Check, Load, Keep, Access}
 use Rattle.shell_words.specs.Commands.{IsWithinLimits}
 use Rattle.std.specs.Prelude.{Some, None}
 use Rattle.base_types.specs.Counts.{HasRisen}
@@ -12,8 +12,8 @@ use Rattle.shell_program.specs.declared.status.Status.{Status}
 use Rattle.shell_program.specs.Keep.{DiskRun}
 use Rattle.shell_program.specs.Lone.{IsLegalRun}
 use Rattle.shell_program.specs.Shell.{EndsShell, EndsShellSurely}
-use Rattle.shell_program.proofs.LoneLemmas.{checked_run, kept_run, loaded_run, refused_run, script_run, unused}
-use Rattle.shell_program.proofs.ShellLemmas.{refused_there, served_there, shell_checks, shell_keeps, shell_loads, shell_refuses, shell_runs, shell_serves, shell_serves_surely, shell_surely}
+use Rattle.shell_program.proofs.LoneLemmas.{asked_run, checked_run, kept_run, loaded_run, refused_run, script_run, unused}
+use Rattle.shell_program.proofs.ShellLemmas.{refused_there, served_there, shell_asks, shell_checks, shell_keeps, shell_loads, shell_refuses, shell_runs, shell_serves, shell_serves_surely, shell_surely}
 use Rattle.shell_program.proofs.program.run_asked.Goals as goal
 
 pub returns-in-Check-clause-ends : goal.returns-in-Check-clause-ends
@@ -194,3 +194,26 @@ returns-in-Keep-clause-sure g c =
 
 pub returns-in-Keep-clause-legal : goal.returns-in-Keep-clause-legal
 returns-in-Keep-clause-legal g c = subst (λ (a : Asked). IsLegalRun (built (length c.args.posts.now) a) c.run_keep.result.log) (sym c.in-Keep.is) c.run_keep.ensures.legal
+
+pub returns-in-Access-clause-ends : goal.returns-in-Access-clause-ends
+returns-in-Access-clause-ends g c =
+    let source = g.I.Endpoint.state c.args.input.now in
+    let source' = g.I.Endpoint.state c.ask_alone.new.input in
+    let sink = g.O.Endpoint.state c.args.output.now in
+    let sink' = g.O.Endpoint.state c.ask_alone.new.output in
+    let posts = c.args.posts.now in
+    subst (λ (a : Asked). EndsShell g.L.Endpoint.state g.D.Door.state posts posts (built (length posts) a) (unused g.Y.Disk.is_modeled (g.Y.Disk.state c.args.disk.now)) source source' sink sink' c.ask_alone.result.status c.ask_alone.result.log) (sym c.in-Access.is)
+    (shell_asks g.L.Endpoint.state g.D.Door.state (unused g.Y.Disk.is_modeled (g.Y.Disk.state c.args.disk.now)) source source' sink sink' c.ask_alone.result.log c.ask_alone.result.status posts (asked_run (unused g.Y.Disk.is_modeled (g.Y.Disk.state c.args.disk.now)) source source' sink sink' c.ask_alone.result.log c.ask_alone.result.status c.ask_alone.ensures.ends c.ask_alone.ensures.log refl))
+
+pub returns-in-Access-clause-sure : goal.returns-in-Access-clause-sure
+returns-in-Access-clause-sure g c =
+    let source = g.I.Endpoint.state c.args.input.now in
+    let source' = g.I.Endpoint.state c.ask_alone.new.input in
+    let sink = g.O.Endpoint.state c.args.output.now in
+    let sink' = g.O.Endpoint.state c.ask_alone.new.output in
+    let posts = c.args.posts.now in
+    subst (λ (a : Asked). EndsShellSurely g.L.Endpoint.state g.D.Door.state posts posts (built (length posts) a) (unused g.Y.Disk.is_modeled (g.Y.Disk.state c.args.disk.now)) source source' sink sink' c.ask_alone.result.status) (sym c.in-Access.is)
+    (shell_surely g.L.Endpoint.state g.D.Door.state (unused g.Y.Disk.is_modeled (g.Y.Disk.state c.args.disk.now)) source source' sink sink' c.ask_alone.result.log c.ask_alone.result.status posts (Some Access) (asked_run (unused g.Y.Disk.is_modeled (g.Y.Disk.state c.args.disk.now)) source source' sink sink' c.ask_alone.result.log c.ask_alone.result.status c.ask_alone.ensures.ends c.ask_alone.ensures.log refl))
+
+pub returns-in-Access-clause-legal : goal.returns-in-Access-clause-legal
+returns-in-Access-clause-legal g c = subst (λ (a : Asked). IsLegalRun (built (length c.args.posts.now) a) c.ask_alone.result.log) (sym c.in-Access.is) tt

@@ -1,7 +1,7 @@
 use Rattle.std.proofs.Common.{◌≡◌, ℕ, ◌+◌, ◌-◌, ◌^◌, List, length, false}
 use Rattle.std.specs.List.{flat_map}
 use Rattle.pktline_core.specs.Links.{IsLater}
-use Rattle.script_frames.specs.Frames.{frame_text}
+use Rattle.shell_program.specs.SessionFrames.{frame_text}
 use Rattle.shell_program.specs.RunningScripts.{Advances}
 use Rattle.shell_program.proofs.script.run_script.Given as goal
 

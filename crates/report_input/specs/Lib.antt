@@ -1,0 +1,3 @@
+pub mod Confs
+pub mod Input
+pub mod Ends
