@@ -16,6 +16,7 @@ from .streams import Refused, limit_waiting, reader
 
 SERVICES = FETCH, PUSH
 QUESTION = "info/refs"
+PUSHED = "application/x-git-receive-pack-result"
 MORE_WORDS = b"multi_ack_detailed",  # by which a client without a dialogue learns what is common
 DUMB = "this server speaks Git's smart protocol alone: use git 1.6.6 or later"
 REASONS = {
@@ -55,6 +56,8 @@ class WebClient(Client):
         fields = ["Status: %d %s" % (status, REASONS[status]), "Content-Type: " + media, "Cache-Control: no-cache"]
         if status == 401:
             fields.append('WWW-Authenticate: Basic realm="Git"')
+        if media == PUSHED:
+            fields.append("X-Accel-Buffering: no")  # so that nginx hands on at once how far a push is
         self._is_begun = True
         self._sink.write("".join(field + "\r\n" for field in [*fields, ""]).encode())
 

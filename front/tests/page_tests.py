@@ -69,6 +69,28 @@ def plain(conf, idle):
     return [number for number in idle if conf.rules[int(number) - 1].repository in (*conf.repositories, "@all")]
 
 
+def what_a_subconf_may_not_set(here):
+    """Lines of a subconf that set nothing are told by check-conf before a push, and by the server behind it, as is a conf without the admin's rule."""
+    programs(here)
+    main = "repo gitolite-admin\n    RW+ = admin%s\nrepo testing\n    RW+ = @all\nsubconf web.conf\n"
+    files = {"conf/web.conf": "repo web\n    RW = ann\nrepo other\n    R = ann\n"}
+    said = "web.conf line 3: subconf web may not set access for other"
+    where = here.folder()
+    write_files(where, {"conf/gitolite.conf": main % "", **files})
+    words = [str(FRONT / "check-conf"), "--rules", str(ACCESS_ROWS), str(where), "--admin"]
+    expect(run([*words, "admin"]), said)
+    expect(run([*words, "ann"]), "ann")
+    options = "--rules", str(ACCESS_ROWS)
+    clone = here.room / "gitolite-admin"
+    was = (clone / "conf/gitolite.conf").read_text()
+    try:
+        expect(here.put_conf(main % "", files=files, options=options), said)
+        expect(here.put_conf(main % " ann\n    - = admin", files=files, options=options), said)
+    finally:
+        here.git("admin", "rm", "-q", "conf/web.conf", cwd=clone)
+        here.put_conf(was)
+
+
 def answers_by_all_programs(here):
     """A conf has the same answers by both reports and by the rules, of one file and of several; and one with a fault is refused."""
     programs(here)
@@ -133,4 +155,4 @@ def what_a_conf_changes(here):
     expect(said, "<td>site</td><td>cal</td><td>create refs/heads/personal/ann/x</td>", "<td>narrow</td><td>ann</td><td>write</td>")
 
 
-TESTS = answers_by_all_programs, page_in_a_browser, what_a_conf_changes
+TESTS = what_a_subconf_may_not_set, answers_by_all_programs, page_in_a_browser, what_a_conf_changes

@@ -31,9 +31,14 @@ def fake_server(reply):
                     link.recv(1 << 16)
                     link.sendall(reply)
 
-    threading.Thread(target=serve, daemon=True).start()
-    yield "--server", "127.0.0.1:%d" % door.getsockname()[1]
-    door.close()
+    serving = threading.Thread(target=serve, daemon=True)
+    serving.start()
+    try:
+        yield "--server", "127.0.0.1:%d" % door.getsockname()[1]
+    finally:
+        door.shutdown(socket.SHUT_RDWR)  # else the thread would go on at the next socket with this number
+        serving.join()
+        door.close()
 
 
 def no_server(here):

@@ -3,6 +3,8 @@ import base64
 import contextlib
 import gzip
 import os
+import pathlib
+import random
 import shutil
 import signal
 import socket
@@ -14,13 +16,14 @@ import urllib.request
 
 from cerolimau.packets import FLUSH, packet
 
+from . import git_tests, shallow_tests
 from .limit_tests import import_blobs
 from .ssh_tests import can_connect, wait_for
 from .world import CONF, FRONT, Skip, at_once, expect, run, start_server
 
 NGINX, FCGIWRAP, APACHE = "/usr/sbin/nginx", "/usr/sbin/fcgiwrap", "/usr/sbin/apache2"
 MODULES = "/usr/lib/apache2/modules"
-USERS = "admin", "ann", "bob", "cal", "a b"
+USERS = "admin", "alice", "ann", "bob", "cal", "dave", "a b"
 NGINX_CONF = """\
 user {account};
 daemon off;
@@ -66,6 +69,19 @@ LoadModule setenvif_module {modules}/mod_setenvif.so
 """
 
 
+# The tests of git whose sessions are git's own, each behind one of the two; the others ask for a session by hand, or for options of the ssh front end.
+CASES = {
+    "nginx": (
+        git_tests.empty_repository, git_tests.incremental_fetch, git_tests.tags_follow, git_tests.deletes, git_tests.atomic, git_tests.many_refs,
+        git_tests.eight_at_once, shallow_tests.fetch_in_a_shallow_clone, shallow_tests.push_from_a_shallow_clone,
+    ),
+    "apache": (
+        git_tests.everything_there_and_back, git_tests.forced_and_with_lease, git_tests.notes, git_tests.nothing_new, git_tests.denials,
+        shallow_tests.like_git, shallow_tests.fetch_by_id,
+    ),
+}
+
+
 class Web:
     """A web server in front of the CGI program, and who comes by it."""
 
@@ -77,10 +93,18 @@ class Web:
         return "http://%s127.0.0.1:%d/git/%s" % ("%s:%s-word@" % (user, user) if user else "", self.port, repository)
 
     def git(self, user, *words, cwd=None, status=0, **environment):
-        """Git with the name and password of a user, who doesn't go by ssh."""
+        """Git with the name and password of a user, who doesn't go by ssh. What is `here:` for ssh is behind this web server, where repositories
+        that a user may make have names of their own."""
         helper = "!f() { echo username=%s; echo password=%s-word; }; f" % (user, user)
-        config = {"GIT_CONFIG_COUNT": "1", "GIT_CONFIG_KEY_0": "credential.helper", "GIT_CONFIG_VALUE_0": helper if user else ""}
-        return self.here.git("nobody", *words, cwd=cwd, status=status, GIT_SSH_COMMAND="false", **config, **environment)
+        config = (
+            ("credential.helper", helper if user else ""),
+            ("url.%s.insteadOf" % self.url(""), "here:"),
+            ("url.%st/port-%d-.insteadOf" % (self.url(""), self.port), "here:t/"),
+        )
+        settings = {"GIT_CONFIG_COUNT": str(len(config))}
+        for number, (key, value) in enumerate(config):
+            settings.update({"GIT_CONFIG_KEY_%d" % number: key, "GIT_CONFIG_VALUE_%d" % number: value})
+        return self.here.git("nobody", *words, cwd=cwd, status=status, GIT_SSH_COMMAND="false", **settings, **environment)
 
     def ask(self, target, data=None, user="ann", password="", **fields):
         """One request. Returns its status, its type of content and its body."""
@@ -95,6 +119,19 @@ class Web:
                 return answer.status, answer.headers["Content-Type"], answer.read()
         except urllib.error.HTTPError as fault:
             return fault.code, fault.headers["Content-Type"], fault.read()
+
+
+class WebWorld:
+    """What a test has, where its users' git goes by a web server."""
+
+    def __init__(self, web):
+        self.web = web
+
+    def __getattr__(self, name):
+        return getattr(self.web.here, name)
+
+    def git(self, *words, **how):
+        return self.web.git(*words, **how)
 
 
 @contextlib.contextmanager
@@ -162,11 +199,21 @@ def by(kind):
         with running_web(here, kind) as web:
             refused_requests(web)
 
+    def cases(here):
+        with running_web(here, kind) as web:
+            for case in CASES[kind]:
+                try:
+                    case(WebWorld(web))
+                except Exception as fault:
+                    raise AssertionError("%s, %s" % (case.__name__, kind)) from fault
+
     day.__name__, bodies.__name__, requests.__name__ = "day_over_" + kind, "bodies_over_" + kind, "requests_over_" + kind
+    cases.__name__ = "cases_over_" + kind
+    cases.__doc__ = "Behind %s: what the tests of git do over ssh." % kind
     day.__doc__ = "Over HTTP behind %s: clone, push, fetch, shallow, denied, a wrong password." % kind
     bodies.__doc__ = "Behind %s: a body in chunks, a compressed one, many commits that the server doesn't know." % kind
     requests.__doc__ = "Behind %s: requests that aren't git's." % kind
-    return day, bodies, requests
+    return day, bodies, requests, cases
 
 
 def clone_push_deny(web):
@@ -247,6 +294,66 @@ def refused_requests(web):
         assert found[0] == status and text in found[2], (target, how, found)
 
 
+def large_push_over_nginx(here):
+    """A push of 300 MB, more than one push of the server may have, and a clone of it."""
+    with running_web(here, "nginx") as web:
+        made = here.folder()
+        here.git("ann", "init", cwd=made)
+        noise = random.Random(300)
+        import_blobs(here, made, (noise.randbytes(1 << 20) for _ in range(300)))
+        expect(web.git("ann", "push", web.url("t/large"), "master", cwd=made), "cerolimau: slice 2 of ", "[new branch]      master -> master")
+        there = here.folder()
+        web.git("bob", "clone", "--bare", web.url("t/large"), ".", cwd=there)
+        here.git("bob", "fsck", "--strict", cwd=there)
+        for ask in ["rev-parse", "master"], ["cat-file", "--batch-all-objects", "--batch-check"]:
+            assert here.git("ann", *ask, cwd=made) == here.git("bob", *ask, cwd=there), ask
+
+
+def slow_clients_over_nginx(here):
+    """Twenty clients that read nothing of a clone, and twenty that send a byte of a push, keep nobody from cloning, and hold less than a GB."""
+    with running_web(here, "nginx") as web:
+        made = here.folder()
+        here.git("ann", "init", cwd=made)
+        noise = random.Random(40)
+        import_blobs(here, made, (noise.randbytes(1 << 20) for _ in range(12)))
+        web.git("ann", "push", web.url("t/slow"), "master", cwd=made)
+        want = packet(b"want %s\n" % here.head(made, "master").encode()) + FLUSH + packet(b"done\n")
+        fetch, push = (("git-%s-pack" % word, "application/x-git-%s-pack-request" % word) for word in ("upload", "receive"))
+        clients = [slow_client(web, *fetch, want, len(want)) for _ in range(20)] + [slow_client(web, *push, b"0", 1000) for _ in range(20)]
+        try:
+            for client in clients[:20]:
+                assert client.recv(12).startswith(b"HTTP/1.1 200")
+            held = resident("cerolimau-cgi")
+            begun = time.monotonic()
+            there = here.folder()
+            web.git("bob", "clone", web.url("t/slow"), ".", cwd=there)
+            assert here.head(there) == here.head(made, "master")
+            print("forty slow clients: %d MB in the processes of the front end, a clone beside them %.1f s" % (held >> 20, time.monotonic() - begun))
+            assert held < 1 << 30
+        finally:
+            for client in clients:
+                client.close()
+
+
+def slow_client(web, command, kind, sent, length):
+    """A request of which so much is sent, and whose answer isn't read."""
+    client = socket.create_connection(("127.0.0.1", web.port), 120)
+    head = "POST /git/t/slow/%s HTTP/1.1\r\nHost: here\r\nAuthorization: Basic %s\r\nContent-Type: %s\r\nContent-Length: %d\r\n\r\n" % (
+        command, base64.b64encode(b"cal:cal-word").decode(), kind, length)
+    client.sendall(head.encode() + sent)
+    return client
+
+
+def resident(program):
+    """The bytes that all processes with this word in their command line have in memory."""
+    total = 0
+    for folder in pathlib.Path("/proc").glob("[0-9]*"):
+        with contextlib.suppress(OSError):
+            if program.encode() in (folder / "cmdline").read_bytes():
+                total += int((folder / "statm").read_text().split()[1]) * os.sysconf("SC_PAGE_SIZE")
+    return total
+
+
 def anonymous_readers(here):
     """Where the setup says so, whoever has no name is a user of its choice, and is asked for a name where that one is refused."""
     clone = here.room / "gitolite-admin"
@@ -292,4 +399,4 @@ def restart_over_nginx(here):
     here.server = start_server(here.host, here.room)
 
 
-TESTS = *by("nginx"), *by("apache"), anonymous_readers, restart_over_nginx
+TESTS = *by("nginx"), *by("apache"), large_push_over_nginx, slow_clients_over_nginx, anonymous_readers, restart_over_nginx
