@@ -21,12 +21,12 @@ def draws(start):
         yield x
 
 
-def installation(repositories):
+def installation(repositories, users=10):
     """A repository has three rules: two of users that are drawn, one of everybody."""
     source = draws(2)
     lines = ["repo gitolite-admin", "    RW+ = admin"]
     for number in range(repositories):
-        owner, writer = next(source) % 10, next(source) % 10
+        owner, writer = next(source) % users, next(source) % users
         lines += ["repo r%d" % number, "    RW+ = u%d" % owner, "    RW master$ = u%d" % writer, "    R = @all"]
     return lines
 

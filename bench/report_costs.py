@@ -12,24 +12,9 @@ import sys
 import tempfile
 import time
 
+from check_costs import draws, installation
+
 RUNS = 5
-
-
-def draws(start):
-    x = start % 65537
-    while True:
-        x = (75 * x + 74) % 65537
-        yield x
-
-
-def installation(repositories):
-    """A repository has three rules: two of users that are drawn, one of everybody."""
-    source = draws(2)
-    lines = ["repo gitolite-admin", "    RW+ = admin"]
-    for number in range(repositories):
-        owner, writer = next(source) % 100, next(source) % 100
-        lines += ["repo r%d" % number, "    RW+ = u%d" % owner, "    RW master$ = u%d" % writer, "    R = @all"]
-    return lines
 
 
 def fifty(repositories):
@@ -73,13 +58,13 @@ def made(count):
 
 
 CASES = {
-    "installation": ("300 repositories of three rules each", questions(plain(300), 98, 8), [installation(300)]),
-    "large": ("300 of 5,000 repositories of three rules each", questions(plain(300), 98, 8), [installation(5000)]),
+    "installation": ("300 repositories of three rules each", questions(plain(300), 98, 8), [installation(300, 100)]),
+    "large": ("300 of 5,000 repositories of three rules each", questions(plain(300), 98, 8), [installation(5000, 100)]),
     "fifty": ("300 repositories of fifty rules each", questions(plain(300), 98, 8), [fifty(300)]),
     "groups": ("300 repositories in groups, and groups of users", questions(plain(300), 98, 8), [groups(300)]),
     "patterns": ("300 repositories that users made by twenty patterns", questions(made(300), 98, 8), [patterns(300)]),
     "change": ("two confs, the second without its last 300 lines", questions(plain(300), 98, 8), [groups(300), groups(300)[:-300]]),
-    "users": ("1,000 users, each asked of two refs in 100 repositories", questions(plain(100), 1000, 2), [installation(100)]),
+    "users": ("1,000 users, each asked of two refs in 100 repositories", questions(plain(100), 1000, 2), [installation(100, 100)]),
     "refs": ("20 repositories, 12 users and 1,000 refs", questions(plain(20), 12, 1000), [groups(20)]),
 }
 

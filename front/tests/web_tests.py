@@ -72,7 +72,7 @@ LoadModule setenvif_module {modules}/mod_setenvif.so
 # The tests of git whose sessions are git's own, each behind one of the two; the others ask for a session by hand, or for options of the ssh front end.
 CASES = {
     "nginx": (
-        git_tests.empty_repository, git_tests.incremental_fetch, git_tests.tags_follow, git_tests.deletes, git_tests.atomic, git_tests.many_refs,
+        git_tests.empty_repository, git_tests.incremental_fetch, git_tests.tags_follow, git_tests.deletes, git_tests.many_refs,
         git_tests.eight_at_once, shallow_tests.fetch_in_a_shallow_clone, shallow_tests.push_from_a_shallow_clone,
     ),
     "apache": (
@@ -238,6 +238,9 @@ def clone_push_deny(web):
     web.git("ann", "push", web.url(name), "master:a", "master:b", "--atomic", cwd=made)
     web.git("ann", "push", web.url(name), ":a", cwd=made)
     assert "refs/heads/a" not in web.git("ann", "ls-remote", web.url(name))
+    both = "master:atomic-%d" % web.port, "master:personal/ann/x"
+    expect(web.git("bob", "push", "--atomic", web.url("site"), *both, cwd=made, status=1), "atomic push refused with refs/heads/personal/ann/x")
+    assert "atomic-%d" % web.port not in web.git("bob", "ls-remote", web.url("site"))
     expect(web.git("cal", "push", web.url("site"), "master:refs/heads/personal/ann/x", cwd=made, status=1),
            "(W refs/heads/personal/ann/x site cal DENIED by refs/heads/personal/ (gitolite.conf line 18))")
     expect(web.git("bob", "clone", web.url("secrets"), cwd=here.folder(), status=128), "R any secrets bob DENIED by refs/.* (gitolite.conf line 22)")
@@ -294,16 +297,22 @@ def refused_requests(web):
         assert found[0] == status and text in found[2], (target, how, found)
 
 
+def noise_of(here, size):
+    """A new repository with a commit of so many files of 1 MiB that don't compress."""
+    made = here.folder()
+    here.git("ann", "init", cwd=made)
+    noise = random.Random(size)
+    import_blobs(here, made, (noise.randbytes(1 << 20) for _ in range(size)))
+    return made
+
+
 def large_push_over_nginx(here):
     """A push of 300 MB, more than one push of the server may have, and a clone of it."""
     with running_web(here, "nginx") as web:
-        made = here.folder()
-        here.git("ann", "init", cwd=made)
-        noise = random.Random(300)
-        import_blobs(here, made, (noise.randbytes(1 << 20) for _ in range(300)))
-        expect(web.git("ann", "push", web.url("t/large"), "master", cwd=made), "cerolimau: slice 2 of ", "[new branch]      master -> master")
+        made = noise_of(here, 300)
+        expect(web.git("ann", "push", web.url("t/web-large"), "master", cwd=made), "cerolimau: slice 2 of ", "[new branch]      master -> master")
         there = here.folder()
-        web.git("bob", "clone", "--bare", web.url("t/large"), ".", cwd=there)
+        web.git("bob", "clone", "--bare", web.url("t/web-large"), ".", cwd=there)
         here.git("bob", "fsck", "--strict", cwd=there)
         for ask in ["rev-parse", "master"], ["cat-file", "--batch-all-objects", "--batch-check"]:
             assert here.git("ann", *ask, cwd=made) == here.git("bob", *ask, cwd=there), ask
@@ -312,11 +321,8 @@ def large_push_over_nginx(here):
 def slow_clients_over_nginx(here):
     """Twenty clients that read nothing of a clone, and twenty that send a byte of a push, keep nobody from cloning, and hold less than a GB."""
     with running_web(here, "nginx") as web:
-        made = here.folder()
-        here.git("ann", "init", cwd=made)
-        noise = random.Random(40)
-        import_blobs(here, made, (noise.randbytes(1 << 20) for _ in range(12)))
-        web.git("ann", "push", web.url("t/slow"), "master", cwd=made)
+        made = noise_of(here, 12)
+        web.git("ann", "push", web.url("t/web-slow"), "master", cwd=made)
         want = packet(b"want %s\n" % here.head(made, "master").encode()) + FLUSH + packet(b"done\n")
         fetch, push = (("git-%s-pack" % word, "application/x-git-%s-pack-request" % word) for word in ("upload", "receive"))
         clients = [slow_client(web, *fetch, want, len(want)) for _ in range(20)] + [slow_client(web, *push, b"0", 1000) for _ in range(20)]
@@ -326,7 +332,7 @@ def slow_clients_over_nginx(here):
             held = resident("cerolimau-cgi")
             begun = time.monotonic()
             there = here.folder()
-            web.git("bob", "clone", web.url("t/slow"), ".", cwd=there)
+            web.git("bob", "clone", web.url("t/web-slow"), ".", cwd=there)
             assert here.head(there) == here.head(made, "master")
             print("forty slow clients: %d MB in the processes of the front end, a clone beside them %.1f s" % (held >> 20, time.monotonic() - begun))
             assert held < 1 << 30
@@ -338,7 +344,7 @@ def slow_clients_over_nginx(here):
 def slow_client(web, command, kind, sent, length):
     """A request of which so much is sent, and whose answer isn't read."""
     client = socket.create_connection(("127.0.0.1", web.port), 120)
-    head = "POST /git/t/slow/%s HTTP/1.1\r\nHost: here\r\nAuthorization: Basic %s\r\nContent-Type: %s\r\nContent-Length: %d\r\n\r\n" % (
+    head = "POST /git/t/web-slow/%s HTTP/1.1\r\nHost: here\r\nAuthorization: Basic %s\r\nContent-Type: %s\r\nContent-Length: %d\r\n\r\n" % (
         command, base64.b64encode(b"cal:cal-word").decode(), kind, length)
     client.sendall(head.encode() + sent)
     return client
