@@ -63,11 +63,13 @@ def fastest(call):
 
 
 def measure(here, web, made):
-    """For each way in: a small push, a whole clone, one of depth 1."""
+    """For each way in: the first push of all of it, as a migration makes it, a small push, a whole clone, one of depth 1."""
     plain = "http://127.0.0.1:%d/plain/bench" % web.port
     ways = {"cerolimau over HTTP": (web.git, web.url("t/bench")), "git http-backend": (web.git, plain), "cerolimau without a web server": (here.git, "here:t/bench2")}
     for name, (git, url) in ways.items():
+        begun = time.monotonic()
         git("ann", "push", "-q", url, "master", cwd=made)
+        whole = time.monotonic() - begun
         clone = here.folder()
         git("ann", "clone", "-q", "--depth", "1", url, ".", cwd=clone)
 
@@ -77,7 +79,7 @@ def measure(here, web, made):
 
         rows = fastest(push), fastest(lambda: git("ann", "clone", "-q", "--bare", url, here.folder() / "bare")), fastest(
             lambda: git("ann", "clone", "-q", "--depth", "1", url, here.folder() / "shallow"))
-        print("%s: a small push %.3f s; a clone %.2f s; of depth 1 %.2f s" % (name, *rows), flush=True)
+        print("%s: all pushed %.2f s; a small push %.3f s; a clone %.2f s; of depth 1 %.2f s" % (name, whole, *rows), flush=True)
 
 
 def main():

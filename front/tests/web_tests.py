@@ -19,7 +19,7 @@ from cerolimau.packets import FLUSH, packet
 from . import git_tests, shallow_tests
 from .limit_tests import import_blobs
 from .ssh_tests import can_connect, wait_for
-from .world import CONF, FRONT, Skip, at_once, expect, run, start_server
+from .world import CONF, FRONT, Skip, World, at_once, expect, run, start_server
 
 NGINX, FCGIWRAP, APACHE = "/usr/sbin/nginx", "/usr/sbin/fcgiwrap", "/usr/sbin/apache2"
 MODULES = "/usr/lib/apache2/modules"
@@ -73,7 +73,7 @@ LoadModule setenvif_module {modules}/mod_setenvif.so
 CASES = {
     "nginx": (
         git_tests.empty_repository, git_tests.incremental_fetch, git_tests.tags_follow, git_tests.deletes, git_tests.many_refs,
-        git_tests.eight_at_once, shallow_tests.fetch_in_a_shallow_clone, shallow_tests.push_from_a_shallow_clone,
+        git_tests.eight_at_once, git_tests.conf_refused, shallow_tests.fetch_in_a_shallow_clone, shallow_tests.push_from_a_shallow_clone,
     ),
     "apache": (
         git_tests.everything_there_and_back, git_tests.forced_and_with_lease, git_tests.notes, git_tests.nothing_new, git_tests.denials,
@@ -130,8 +130,11 @@ class WebWorld:
     def __getattr__(self, name):
         return getattr(self.web.here, name)
 
-    def git(self, *words, **how):
+    def git(self, *words, options=(), **how):
+        assert not options
         return self.web.git(*words, **how)
+
+    put_conf = World.put_conf
 
 
 @contextlib.contextmanager
@@ -200,6 +203,7 @@ def by(kind):
             refused_requests(web)
 
     def cases(here):
+        begin_at_the_conf(here)
         with running_web(here, kind) as web:
             for case in CASES[kind]:
                 try:
@@ -360,11 +364,16 @@ def resident(program):
     return total
 
 
+def begin_at_the_conf(here):
+    """The admin's clone has what is there: other tests may have pushed keys."""
+    clone = here.room / "gitolite-admin"
+    here.git("admin", "fetch", "origin", cwd=clone)
+    here.git("admin", "reset", "--hard", "origin/master", cwd=clone)
+
+
 def anonymous_readers(here):
     """Where the setup says so, whoever has no name is a user of its choice, and is asked for a name where that one is refused."""
-    clone = here.room / "gitolite-admin"
-    here.git("admin", "fetch", "origin", cwd=clone)  # others may have pushed keys
-    here.git("admin", "reset", "--hard", "origin/master", cwd=clone)
+    begin_at_the_conf(here)
     here.put_conf(CONF + "repo open\n    RW+ = ann\n    R = anonymous\n")
     with running_web(here, "nginx", "anonymous") as web:
         made = here.repository()
