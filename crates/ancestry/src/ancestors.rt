@@ -62,6 +62,32 @@ pub struct Advance {
 // further down by twice as many as those before.
 const FIRST_STEP: u64 = 16;
 
+/// Whether the new commit's first few first parents come to one that is known to be of about the old one's generation. Then
+/// `advance_between` walks along a few commits, unless they have many parents. Only costs rest on it, and it costs a few look-ups.
+pub fn is_near(lens: &Lens, known: &Known, old: ObjectId, new: ObjectId) -> bool {
+    let Some(generation) = known.generation(old) else {
+        return false;
+    };
+    let mut at = new;
+    for _ in 0..FIRST_STEP {
+        if let Some(other) = known.generation(at) {
+            return other.abs_diff(generation) <= FIRST_STEP;
+        }
+        let Some(parent) = first_parent(lens, at) else {
+            return false;
+        };
+        at = parent;
+    }
+    false
+}
+
+fn first_parent(lens: &Lens, id: ObjectId) -> Option<ObjectId> {
+    match lens.get(id) {
+        Some(object) => object.parents().next(),
+        None => None,
+    }
+}
+
 /// How the new commit follows the old one.
 ///
 /// Where the generation of the old commit is known, a change that is forward costs what it adds: a walk goes back from the new commit, but not on from the old

@@ -12,6 +12,7 @@ ghost use Rattle.ancestry.specs.Sent.{linked_at};
 use crate::closures::Closures;
 use crate::front::Front;
 use crate::id_set::IdSet;
+use crate::known::Known;
 use crate::reached::{Steps, reached};
 use crate::run_sets::{runs_of, union};
 use crate::runs::Runs;
@@ -20,8 +21,43 @@ use git_object::{Kind, Object, ObjectId};
 use ref_store::{Repo, Salt};
 use std::alloc::Global;
 
-// However old the next closures are that are kept, a closure is made where so many commits lie between.
-const FEW: usize = 65_536;
+// The least generation of commits whose closures are kept: from a commit below it none of them is reached. Only
+// costs rest on it.
+#[derive(Drop)]
+struct Floor<'a> {
+    known: Option<&'a Known>,
+    least: u64,
+}
+
+impl<'a> Floor<'a> {
+    fn none() -> Floor<'a> {
+        Floor {
+            known: None,
+            least: 0,
+        }
+    }
+
+    fn of(kept: &Closures, known: &'a Known) -> Floor<'a> {
+        Floor {
+            known: Some(known),
+            least: kept.least_generation(known),
+        }
+    }
+
+    // Whether this is a commit from which no closure is reached: it is below the floor, or not known to be whole.
+    fn hides(&self, id: ObjectId, kind: Kind) -> bool {
+        let Some(known) = self.known else {
+            return false;
+        };
+        if kind != Kind::Commit {
+            return false;
+        }
+        match known.generation(id) {
+            Some(generation) => generation < self.least,
+            None => true,
+        }
+    }
+}
 
 // From an object to those that it links to and that the runs don't hold.
 #[derive(Drop)]
@@ -65,6 +101,7 @@ pub fn closed(
     salt: Salt,
     front: &Front<'_>,
     kept: &Closures,
+    known: &Known,
     before: &Runs,
     roots: &[ObjectId],
 ) -> Result<Runs, NoMemory>
@@ -72,7 +109,8 @@ pub fn closed(
     requires closed { AreClosed front.now before.now }
     ensures { IfOk result (Closes front.now roots.now before.now) }
 {
-    let (met, _) = with_kept(alloc, salt, front, kept, before, roots, usize::MAX)?;
+    let floor = Floor::of(kept, known);
+    let (met, _) = with_kept(alloc, salt, front, kept, &floor, before, roots, usize::MAX)?;
     let steps = ToUnheld {
         front: &*front,
         held: &met,
@@ -81,26 +119,24 @@ pub fn closed(
     with_walked(alloc, front, &met, &set)
 }
 
-/// The closure of an object; none where not all is there that it leads to, or where the next closures that
-/// are kept are far.
+/// The closure of an object; none where not all is there that it leads to, or where so many commits lie
+/// before the next closures that are kept.
 pub fn closure_of(
     alloc: Global,
     repo: &Repo,
     kept: &Closures,
     id: ObjectId,
+    limit: usize,
 ) -> Result<Option<Runs>, NoMemory>
     requires { AreClosures repo.now.objects kept.now }
     ensures { IfOk result (λ found. IfSome found (IsClosure repo.now.objects id)) }
 {
     let roots = [id];
-    let count = repo.count();
-    let limit = count
-        .saturating_sub(kept.end() as usize)
-        .saturating_add(FEW);
     let salt = repo.salt();
-    let front = Front::new(repo, count);
+    let front = Front::new(repo, repo.count());
     let none = Runs::none(alloc);
-    let (met, entered) = with_kept(alloc, salt, &front, kept, &none, &roots, limit)?;
+    let floor = Floor::none();
+    let (met, entered) = with_kept(alloc, salt, &front, kept, &floor, &none, &roots, limit)?;
     if entered >= limit {
         return Ok(None);
     }
@@ -117,13 +153,14 @@ pub fn closure_of(
 }
 
 // The runs, and with them closures that are kept of what is reached from the roots: those met on a walk along
-// parents and what tags name, which doesn't go on from what is met. It ends where it has entered more than so
-// many. And how many it entered.
+// parents and what tags name, which doesn't go on from what is met, nor below the floor. It ends where it has
+// entered more than so many. And how many it entered.
 fn with_kept(
     alloc: Global,
     salt: Salt,
     front: &Front<'_>,
     kept: &Closures,
+    floor: &Floor<'_>,
     before: &Runs,
     roots: &[ObjectId],
     limit: usize,
@@ -131,6 +168,9 @@ fn with_kept(
     ensures { IfOk result (λ met. Joins front.now kept.now roots.now before.now met.0) }
 {
     let mut met = before.copy()?;
+    if kept.is_empty() {
+        return Ok((met, 0));
+    }
     let mut set = IdSet::new(alloc, salt);
     set.insert_all(roots)?;
     let mut next = 0;
@@ -139,7 +179,7 @@ fn with_kept(
             return Ok((met, next));
         }
         next += 1;
-        enter(alloc, front, kept, id, &mut met, &mut set)?;
+        enter(alloc, front, kept, floor, id, &mut met, &mut set)?;
     }
     Ok((met, next))
 }
@@ -150,6 +190,7 @@ fn enter(
     alloc: Global,
     front: &Front<'_>,
     kept: &Closures,
+    floor: &Floor<'_>,
     id: ObjectId,
     met: &mut Runs,
     set: &mut IdSet,
@@ -160,7 +201,7 @@ fn enter(
     let Some(object) = front.object(id) else {
         return Ok(());
     };
-    if front.holds(met, id) {
+    if floor.hides(id, object.kind()) || front.holds(met, id) {
         return Ok(());
     }
     if let Some(runs) = kept.get(id) {

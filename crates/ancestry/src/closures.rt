@@ -7,6 +7,7 @@ ghost use Rattle.ancestry.specs.declared.runs.Run.{Run};
 ghost use Rattle.ancestry.specs.Closures.{AreClosures, Begins};
 
 use crate::closing::closure_of;
+use crate::known::Known;
 use crate::runs::Runs;
 use base_types::NoMemory;
 use git_object::ObjectId;
@@ -19,7 +20,7 @@ use std::sync::Arc;
 #[derive(Drop)]
 pub struct Closure {
     id: ObjectId,
-    // The how many-th it is of all that were kept, from 1.
+    // The try at which it was made, behind `NO_TRY`.
     number: u64,
     runs: Arc<Runs>,
 }
@@ -54,14 +55,14 @@ impl Closure {
         self.runs.len().saturating_add(LEAST_SIZE)
     }
 
-    // The same as the how many-th.
-    fn numbered(&self, number: u64) -> Result<Closure, NoMemory>
+    // The same, numbered behind so many.
+    fn numbered_behind(&self, number: u64) -> Result<Closure, NoMemory>
         ensures { IfOk result (λ same. same ≡ self.now) }
     {
         let runs = Arc::try_clone(&self.runs)?;
         Ok(Closure {
             id: self.id,
-            number,
+            number: number.saturating_add(tries_in(self.number)),
             runs,
         })
     }
@@ -73,14 +74,32 @@ const LEAST_SIZE: usize = 8;
 // Of how many objects a push makes closures at most.
 const MOST_MADE: usize = 4;
 
+// The number before the first try: so the first closure has a number that no later one's weight comes up to.
+const NO_TRY: u64 = u64::MAX / 2;
+
+// Of the last tries the closures of how many stay.
+const MOST_LAST: u64 = 16;
+
+// How often that can be halved.
+const HALVINGS: u64 = 5;
+
+// How many commits a try of weight 1 may walk along, beyond as many as objects came since the last closures.
+const FEW: usize = 64;
+
+// From this weight on a try may walk no further.
+const MOST_WEIGHT: u64 = 16_384;
+
 /// For some objects of a repository, the places of all that each leads to. Clones share them.
 ///
-/// The last few that came are there, and of older ones ever fewer: two for each power of two. Where they have
-/// more runs than half as many as the repository has objects, the oldest are left out.
+/// Tries to make one are numbered, and the weight of a try is the greatest power of two that divides its
+/// number. So many times as far may it walk, and for so many times as many tries what it made stays. So a
+/// long walk is rare and what it found stays long, the first closure stays, the last few are there, and of
+/// older ones ever fewer: eight for each power of two, and half, a quarter, an eighth or a sixteenth of them
+/// where those have more runs than half as many as the repository has objects.
 #[derive(Drop)]
 pub struct Closures {
     closures: Vec<Closure>,
-    // How many were kept in all.
+    // The number of the last try.
     number: u64,
 }
 
@@ -101,7 +120,7 @@ impl Closures {
     {
         Closures {
             closures: Vec::new(alloc),
-            number: 0,
+            number: NO_TRY,
         }
     }
 
@@ -109,12 +128,35 @@ impl Closures {
         self.closures.len()
     }
 
-    /// The end of the newest, and 0 where there is none.
-    pub(crate) fn end(&self) -> u32 {
-        match self.closures.last() {
-            Some(closure) => closure.runs.end(),
-            None => 0,
+    pub(crate) fn is_empty(&self) -> bool {
+        self.closures.is_empty()
+    }
+
+    // The end of all of them.
+    fn end(&self) -> u32 {
+        let mut end: u32 = 0;
+        for closure in &self.closures {
+            end = end.max(closure.runs.end());
         }
+        end
+    }
+
+    /// The least generation of what closures are kept of; 0 where one isn't known.
+    pub(crate) fn least_generation(&self, known: &Known) -> u64 {
+        let mut least = u64::MAX;
+        for closure in &self.closures {
+            least = least.min(known.generation(closure.id).unwrap_or(0));
+        }
+        least
+    }
+
+    // How many commits the next try may walk along behind so many others, where there are so many objects.
+    fn limit_behind(&self, tries: u64, count: usize) -> usize {
+        let number = self.number.saturating_add(tries).saturating_add(1);
+        let most = FEW * weight_of(number).min(MOST_WEIGHT) as usize;
+        count
+            .saturating_sub(self.end() as usize)
+            .saturating_add(most)
     }
 
     /// That of this object, where there is one.
@@ -127,6 +169,13 @@ impl Closures {
             }
         }
         None
+    }
+
+    // One try more, at which none was made.
+    fn skip(&mut self)
+        ensures { self.new ≡ self.old }
+    {
+        self.number = self.number.saturating_add(1);
     }
 
     // One more.
@@ -150,12 +199,9 @@ impl Closures {
         ensures of { IfOk result (λ both. (closure : ObjectId × List Run) → Contains both closure → Contains self.now closure ⊎ Contains made.now closure) }
         ensures right { (fewer among more : List Content) → Begins fewer more → Begins among more → AreClosures fewer self.now → AreClosures among made.now → IfOk result (AreClosures more) }
     {
-        let number = self.number.saturating_add(made.len() as u64);
-        let over = self
-            .size()
-            .saturating_add(made.size())
-            .saturating_sub(count / 2);
-        let mut closures = staying(alloc, &self.closures, number, over)?;
+        let number = self.number.saturating_add(tries_in(made.number));
+        let room = (count / 2).saturating_sub(made.size());
+        let mut closures = staying(alloc, &self.closures, number, room)?;
         add_numbered(&mut closures, &made.closures, self.number)?;
         Ok(Closures { closures, number })
     }
@@ -192,21 +238,19 @@ impl Clone for Closure {
     }
 }
 
-// Those that stay where there are so many in all: without the oldest, which are so much over the room that
-// there is.
+// Those that stay at a try, and have room.
 fn staying(
     alloc: Global,
     closures: &[Closure],
     number: u64,
-    over: usize,
+    room: usize,
 ) -> Result<Vec<Closure>, NoMemory>
     ensures { IfOk result (λ some. (closure : ObjectId × List Run) → Contains some.items closure → Contains closures.now closure) }
 {
-    let mut left = over;
+    let last = last_with_room(closures, number, room);
     let mut some = Vec::new(alloc);
     for closure in closures {
-        if left > 0 || !stays(closure.number, number) {
-            left = left.saturating_sub(closure.size());
+        if !stays(closure.number, number, last) {
             continue;
         }
         some.push(closure.clone()?)?;
@@ -214,28 +258,55 @@ fn staying(
     Ok(some)
 }
 
-// Whether one of this number stays where there are so many in all: of the odd ones the last two, of the even
-// ones that four doesn't divide the last two, and so on.
-fn stays(number: u64, last: u64) -> bool {
-    let step = number & number.wrapping_neg();
-    let age = last.saturating_sub(number);
-    age / 4 < step
+// Of how many of the last tries the closures can stay, so that all that stay have room; 0 where they never
+// have.
+fn last_with_room(closures: &[Closure], number: u64, room: usize) -> u64 {
+    for halvings in 0..HALVINGS {
+        let last = MOST_LAST >> halvings;
+        if size_of_staying(closures, number, last) <= room {
+            return last;
+        }
+    }
+    0
+}
+
+fn size_of_staying(closures: &[Closure], number: u64, last: u64) -> usize {
+    let mut size: usize = 0;
+    for closure in closures {
+        if stays(closure.number, number, last) {
+            size = size.saturating_add(closure.size());
+        }
+    }
+    size
+}
+
+// Whether what was made at one try stays at another, where that of so many of the last ones does.
+fn stays(made: u64, number: u64, last: u64) -> bool {
+    number.saturating_sub(made) < weight_of(made).saturating_mul(last)
+}
+
+// The greatest power of two that divides a number.
+fn weight_of(number: u64) -> u64 {
+    number & number.wrapping_neg()
+}
+
+// How many tries there were, by the number of the last one.
+fn tries_in(number: u64) -> u64 {
+    number.saturating_sub(NO_TRY)
 }
 
 // Adds those that were made, with numbers behind this one.
 fn add_numbered(closures: &mut Vec<Closure>, made: &[Closure], number: u64) -> Result<(), NoMemory>
     ensures { OnOk result ((closure : ObjectId × List Run) → Contains closures.new.items closure → Contains closures.old.items closure ⊎ Contains made.now closure) }
 {
-    let mut last = number;
     for closure in made {
-        last = last.saturating_add(1);
-        closures.push(closure.numbered(last)?)?;
+        closures.push(closure.numbered_behind(number)?)?;
     }
     Ok(())
 }
 
 /// The closures of those of these objects of which none is kept: of at most four, and only where all that an
-/// object leads to is there. It costs what came since the next ones that are kept.
+/// object leads to is there. It costs what came since the next ones that are kept, where those aren't far.
 pub fn closures_of(
     alloc: Global,
     repo: &Repo,
@@ -267,7 +338,9 @@ fn add_one(
     if made.len() >= MOST_MADE || kept.get(id).is_some() || made.get(id).is_some() {
         return Ok(());
     }
-    let Some(runs) = closure_of(alloc, repo, kept, id)? else {
+    let limit = kept.limit_behind(tries_in(made.number), repo.count());
+    let Some(runs) = closure_of(alloc, repo, kept, id, limit)? else {
+        made.skip();
         return Ok(());
     };
     made.push(alloc, id, runs)?;

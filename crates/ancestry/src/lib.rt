@@ -40,7 +40,7 @@ mod verdict;
 mod walks;
 mod wholeness;
 
-pub use ancestors::{Advance, advance_between, brings_merge, is_ancestor};
+pub use ancestors::{Advance, advance_between, brings_merge, is_ancestor, is_near};
 pub use base_types::NoMemory;
 pub use closures::{Closures, closures_of};
 pub use facts::{Change, Facts};

@@ -3,9 +3,9 @@ ghost use Rattle.std.specs.Prelude.{IfOk};
 ghost use Rattle.ancestry.specs.Closures.{AreClosures};
 
 use crate::ancestry_tests::{absent, put, put_commit, put_tag, put_tree, repo_of};
-use ancestry::{Closures, NoMemory, closures_of, reach};
+use ancestry::{Closures, Known, NoMemory, Walks, closures_of, reach};
 use git_object::{Kind, ObjectId, ObjectList};
-use ref_store::Repo;
+use ref_store::{Lens, Repo};
 use std::alloc::Global;
 use std::process::Abort;
 
@@ -165,11 +165,26 @@ fn kept_of(rt: &impl Abort, alloc: Global, repo: &Repo, ids: &[ObjectId]) -> Clo
     both_of(alloc, repo, &earlier, &later).expect(rt, "memory for closures")
 }
 
+// What a walker finds out of all that is stored.
+fn known_of(rt: &impl Abort, alloc: Global, repo: &Repo, ids: &[ObjectId]) -> Known {
+    let lens = Lens::new(alloc, repo, &ObjectList::new(alloc)).expect(rt, "memory for a lens");
+    let mut walks = Walks::new(alloc, &lens);
+    for id in ids {
+        let _told = walks.whole(*id, None);
+    }
+    let findings = walks.into_findings().expect(rt, "memory for findings");
+    let nothing = Known::nothing(alloc);
+    nothing
+        .with(alloc, &findings)
+        .expect(rt, "memory for what is known")
+}
+
 fn check_sent(
     rt: &impl Abort,
     alloc: Global,
     repo: &Repo,
     kept: &Closures,
+    known: &Known,
     ids: &[ObjectId],
     row: &SentRow,
 )
@@ -177,7 +192,7 @@ fn check_sent(
 {
     let wants = ids_at(rt, alloc, ids, row.0);
     let haves = ids_at(rt, alloc, ids, row.1);
-    let sent = reach(alloc, repo, repo.count(), kept, &wants, &haves);
+    let sent = reach(alloc, repo, repo.count(), kept, known, &wants, &haves);
     let sent = sent.expect(rt, "memory for what is sent");
     assert!(rt; sent.as_slice() == row.2, "{:?} for {:?}", row.0, row.1);
 }
@@ -188,11 +203,14 @@ fn kept_closures_change_nothing(rt: HostRuntime) {
     let mut stored = ObjectList::new(alloc);
     let ids = put_all(&rt, alloc, &mut stored);
     let repo = repo_of(&rt, alloc, &stored);
+    let nothing = Known::nothing(alloc);
+    let known = known_of(&rt, alloc, &repo, &ids);
     for places in &KEPT {
         let tips = ids_at(&rt, alloc, &ids, places);
         let kept = kept_of(&rt, alloc, &repo, &tips);
         for row in &SENT {
-            check_sent(&rt, alloc, &repo, &kept, &ids, row);
+            check_sent(&rt, alloc, &repo, &kept, &known, &ids, row);
+            check_sent(&rt, alloc, &repo, &kept, &nothing, &ids, row);
         }
     }
 }

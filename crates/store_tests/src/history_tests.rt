@@ -233,7 +233,8 @@ fn check_sent(rt: &impl Abort, alloc: Global, repo: &Repo, ids: &[ObjectId], row
     let wants = ids_at(rt, alloc, ids, row.1);
     let haves = ids_at(rt, alloc, ids, row.2);
     let none = Closures::none(alloc);
-    let sent = reach(alloc, repo, row.0, &none, &wants, &haves);
+    let nothing = Known::nothing(alloc);
+    let sent = reach(alloc, repo, row.0, &none, &nothing, &wants, &haves);
     let sent = sent.expect(rt, "memory for what is sent");
     assert!(rt; sent.as_slice() == row.3, "{:?} for {:?}", row.1, row.2);
 }

@@ -9,7 +9,7 @@ ghost use Rattle.raw_pack.specs.Writing.{objects_at};
 ghost use Rattle.session_core.specs.End.{TellsLink, outcome_of};
 ghost use Rattle.upload_pack.specs.Sending.{pack_bytes, sent};
 
-use ancestry::{Closures, reach};
+use ancestry::{Closures, Known, reach};
 use base_types::NoMemory;
 use git_object::ObjectId;
 use pktline_core::Link;
@@ -24,6 +24,7 @@ pub fn send_pack<L: Link>(
     link: &mut L,
     repo: &Repo,
     closures: &Closures,
+    known: &Known,
     wants: &[ObjectId],
     haves: &[ObjectId],
 ) -> Result<(), SessionEnd>
@@ -31,7 +32,7 @@ pub fn send_pack<L: Link>(
     ensures runs { (desk : DeskView) → Runs (L.state link.old) (L.state link.new) desk desk (write (pack_bytes repo.now.objects wants.now haves.now)) (outcome_of result) }
     ensures tells { TellsLink (L.state link.old) (L.state link.new) result }
 {
-    let places = places_sent(alloc, repo, closures, wants, haves)?;
+    let places = places_sent(alloc, repo, closures, known, wants, haves)?;
     write_pack(link, repo, &places)?;
     Ok(())
 }
@@ -41,6 +42,7 @@ fn places_sent(
     alloc: Global,
     repo: &Repo,
     closures: &Closures,
+    known: &Known,
     wants: &[ObjectId],
     haves: &[ObjectId],
 ) -> Result<Vec<u32>, NoMemory>
@@ -49,5 +51,5 @@ fn places_sent(
     ensures within { IfOk result (λ places. All (λ place. place < length repo.now.objects) places.items) }
     ensures few { IfOk result (λ places. length places.items < 4294967296) }
 {
-    reach(alloc, repo, repo.count(), closures, wants, haves)
+    reach(alloc, repo, repo.count(), closures, known, wants, haves)
 }

@@ -16,7 +16,7 @@ use crate::advertising::{advertise, not_ours};
 use crate::haves::take_haves;
 use crate::sending::send_pack;
 use crate::wants::{IdList, first_want_in, take_wants};
-use ancestry::Closures;
+use ancestry::{Closures, Known};
 use git_object::ObjectId;
 use hub::Pin;
 use pktline_core::{Link, Pkt, PktReader};
@@ -70,7 +70,7 @@ pub fn upload_wants<L: Link>(
     ensures runs { (desk : DeskView) → Runs (L.state link.old) (L.state link.new) desk desk (wanting (store_of pin.now.pinned.repository) reader.old.offset) (outcome_of result) }
     ensures tells { TellsLink (L.state link.old) (L.state link.new) result }
 {
-    fetch_from(alloc, link, reader, pin.repo(), pin.closures())
+    fetch_from(alloc, link, reader, pin.repo(), pin.closures(), pin.known())
 }
 
 fn fetch_from<L: Link>(
@@ -79,6 +79,7 @@ fn fetch_from<L: Link>(
     reader: &mut PktReader,
     repo: &Repo,
     closures: &Closures,
+    known: &Known,
 ) -> Result<FetchEnd, SessionEnd>
     requires closures { AreClosures repo.now.objects closures.now }
     requires ready { IsReady reader.old (L.state link.old) }
@@ -90,7 +91,7 @@ fn fetch_from<L: Link>(
         Ok(Pkt::Flush) => Ok(FetchEnd::Served),
         Ok(Pkt::Line(line)) => {
             let first = first_want_in(link, offset, without_feed(line))?;
-            fetch(alloc, link, reader, repo, closures, first)
+            fetch(alloc, link, reader, repo, closures, known, first)
         }
         Err(fault) => Err(end_by(link, offset, fault)),
     }
@@ -103,6 +104,7 @@ fn fetch<L: Link>(
     reader: &mut PktReader,
     repo: &Repo,
     closures: &Closures,
+    known: &Known,
     first: ObjectId,
 ) -> Result<FetchEnd, SessionEnd>
     requires closures { AreClosures repo.now.objects closures.now }
@@ -112,7 +114,7 @@ fn fetch<L: Link>(
 {
     let wants = take_wants(alloc, link, reader, first)?;
     match not_ours(alloc, repo, wants.as_slice())? {
-        None => serve(alloc, link, reader, repo, closures, &wants),
+        None => serve(alloc, link, reader, repo, closures, known, &wants),
         Some(id) => refuse_want(alloc, link, id),
     }
 }
@@ -143,6 +145,7 @@ fn serve<L: Link>(
     reader: &mut PktReader,
     repo: &Repo,
     closures: &Closures,
+    known: &Known,
     wants: &IdList,
 ) -> Result<FetchEnd, SessionEnd>
     requires closures { AreClosures repo.now.objects closures.now }
@@ -156,6 +159,7 @@ fn serve<L: Link>(
         link,
         repo,
         closures,
+        known,
         wants.as_slice(),
         common.as_slice(),
     )?;

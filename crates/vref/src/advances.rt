@@ -10,7 +10,7 @@ use crate::bits::{BITS, has, joined, without};
 use crate::history::{Ids, links_of, merges_of, place_of};
 use crate::marks::marks_of;
 use crate::order::in_order;
-use ancestry::{Advance, Known, advance_between};
+use ancestry::{Advance, Known, advance_between, is_near};
 use base_types::NoMemory;
 use git_object::ObjectId;
 use ref_store::Lens;
@@ -22,6 +22,9 @@ pub type Pair = (ObjectId, ObjectId);
 
 // Up to so many pairs each walk by itself: such a walk goes no further back than it must, and so many whole walks cost a few times what the order does.
 const FEW: usize = 4;
+
+// The same of pairs of which each walk is likely to be short. Where none is, as they may have many parents, so many whole walks are what it costs at most.
+const FEW_NEAR: usize = 16;
 
 /// How the second commit of each pair follows the first.
 ///
@@ -35,7 +38,7 @@ pub fn advances_between(
     requires { AreKnown lens.now known.now }
     ensures { IfOk result (λ advances. AllZip (IsAdvance lens.now) pairs.now advances.items) }
 {
-    if count_of_different(pairs) <= FEW {
+    if are_few(lens, known, pairs) {
         return advances_by_walks(alloc, lens, known, pairs);
     }
     let Some(history) = History::of(alloc, lens, pairs)? else {
@@ -50,6 +53,22 @@ pub fn advances_between(
         rest = behind;
     }
     Ok(advances)
+}
+
+// Whether walks of their own cost less than the order does, as far as can be told beforehand.
+fn are_few(lens: &Lens, known: &Known, pairs: &[Pair]) -> bool {
+    let count = count_of_different(pairs);
+    count <= FEW || (count <= FEW_NEAR && are_near(lens, known, pairs))
+}
+
+// Whether the walk of each pair is likely to be short.
+fn are_near(lens: &Lens, known: &Known, pairs: &[Pair]) -> bool {
+    for (old, new) in pairs {
+        if old != new && !is_near(lens, known, *old, *new) {
+            return false;
+        }
+    }
+    true
 }
 
 // How many pairs are of two different commits.
