@@ -128,8 +128,9 @@ fn replay_all<Y: Disk>(
         → TellsPushes (head_for replay.hub.admin) (Y.state disk.old).file.content (last_push replay.last_pushes) → RefusesEvents replay.hub.admin (Y.state disk.old).file.content fault) }
 {
     let mut replay = replay;
+    let mut buffer = Vec::new(alloc);
     loop {
-        let next = match reader.next_record(alloc, disk) {
+        let next = match reader.next_record(disk, buffer) {
             Ok(next) => next,
             Err(fault) => return Err(fault_of(fault)),
         };
@@ -143,6 +144,7 @@ fn replay_all<Y: Disk>(
             Ok(replay) => replay,
             Err(fault) => return Err(fault),
         };
+        buffer = record.body.into_bytes();
     }
 }
 

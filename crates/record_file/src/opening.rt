@@ -66,7 +66,7 @@ fn read_all<D: Disk>(
 {
     let mut records = ItemList::new(alloc);
     loop {
-        let next = match reader.next_record(alloc, disk) {
+        let next = match reader.next_record(disk, Vec::new(alloc)) {
             Ok(next) => next,
             Err(fault) => return Err(fault),
         };

@@ -66,11 +66,12 @@ impl RecordReader {
         }
     }
 
-    /// The next record, or `None` at the zero gate.
+    /// The next record, or `None` at the zero gate. Its body takes the place of whatever the buffer has, so that
+    /// a caller who hands in that of the last record needs no other.
     pub fn next_record<D: Disk>(
         &mut self,
-        alloc: Global,
         disk: &mut D,
+        buffer: Vec<u8>,
     ) -> Result<Option<StoredRecord>, OpenFault>
         requires { IsAtGate self.old (D.state disk.old).size }
         ensures faults { ReportsFaults result (D.state disk.old) (D.state disk.new) }
@@ -79,7 +80,7 @@ impl RecordReader {
         ensures moves { Moves result self.old self.new }
         ensures reads { IsTrue D.is_modeled → ReadsNext (D.state disk.old).file.content self.old.offset self.new.offset result }
     {
-        self.next_front(alloc, disk, usize::MAX)
+        self.next_within(disk, buffer, usize::MAX)
     }
 
     /// The front of the next record, at most so many bytes of its body, or `None` at the zero gate. The reader is
@@ -97,12 +98,28 @@ impl RecordReader {
         ensures moves { MovesBehind most result self.old self.new }
         ensures reads { IsTrue D.is_modeled → ReadsFront most (D.state disk.old).file.content self.old.offset self.new.offset result }
     {
+        self.next_within(disk, Vec::new(alloc), most)
+    }
+
+    fn next_within<D: Disk>(
+        &mut self,
+        disk: &mut D,
+        buffer: Vec<u8>,
+        most: usize,
+    ) -> Result<Option<StoredRecord>, OpenFault>
+        requires { IsAtGate self.old (D.state disk.old).size }
+        ensures faults { ReportsFaults result (D.state disk.old) (D.state disk.new) }
+        ensures at_gate { IsAtGate self.new (D.state disk.new).size }
+        ensures file { IsTrue D.is_modeled → (D.state disk.new).file ≡ (D.state disk.old).file }
+        ensures moves { MovesBehind most result self.old self.new }
+        ensures reads { IsTrue D.is_modeled → ReadsFront most (D.state disk.old).file.content self.old.offset self.new.offset result }
+    {
         match read_gate(disk, self.offset, self.size)? {
             Gate::Closed => Ok(None),
             Gate::Bad => Err(OpenFault::BadRecord(self.offset)),
             Gate::Record(size) => {
                 let count = (size as usize).min(most);
-                let front = match read_bytes(alloc, disk, self.offset + 9, count) {
+                let front = match read_bytes(disk, self.offset + 9, count, buffer) {
                     Ok(front) => front,
                     Err(fault) => return Err(fault),
                 };
@@ -140,12 +157,12 @@ impl RecordReader {
     }
 }
 
-// So many bytes of the file, from an offset on.
+// So many bytes of the file, from an offset on, in place of what the buffer has.
 fn read_bytes<D: Disk>(
-    alloc: Global,
     disk: &mut D,
     offset: u64,
     count: usize,
+    buffer: Vec<u8>,
 ) -> Result<Vec<u8>, OpenFault>
     requires { offset + count ≤ (D.state disk.old).size }
     ensures faults { ReportsFaults result (D.state disk.old) (D.state disk.new) }
@@ -157,7 +174,7 @@ fn read_bytes<D: Disk>(
     ensures only { IfErr result (λ fault. (file : List ℕ) (offset next : ℕ) → ReadsNext file offset next (Err fault)) }
     ensures head { IfErr result (λ fault. (magic name file : List ℕ) → ChecksHead magic name file (Err fault)) }
 {
-    let mut bytes = Vec::new(alloc);
+    let mut bytes = buffer;
     let Ok(()) = bytes.resize(count, 0) else {
         return Err(OpenFault::NoMemory);
     };
@@ -239,7 +256,7 @@ fn check_head<D: Disk>(
 {
     // The longest head has 256 bytes behind the magic bytes, and one byte follows it.
     let count = (magic.len() as u64).saturating_add(257).min(size);
-    let bytes = match read_bytes(alloc, disk, 0, count as usize) {
+    let bytes = match read_bytes(disk, 0, count as usize, Vec::new(alloc)) {
         Ok(bytes) => bytes,
         Err(fault) => return Err(fault),
     };

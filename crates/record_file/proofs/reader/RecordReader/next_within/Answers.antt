@@ -1,5 +1,5 @@
 use Rattle.record_file.proofs.ReadLemmas.{front_read}
-use Rattle.record_file.proofs.reader.RecordReader.next_front.Goals as goal
+use Rattle.record_file.proofs.reader.RecordReader.next_within.Goals as goal
 
 pub returns-in-Err-clause-reads : goal.returns-in-Err-clause-reads
 returns-in-Err-clause-reads g c t = c.in-Err.ensures.only (g.D.Disk.state c.args.disk.now).file.content c.args.self.now.offset c.args.self.now.offset
