@@ -22,7 +22,7 @@ use crate::table::Named;
 use base_types::NoMemory;
 use conf_lex::RepoName;
 use git_object::ObjectList;
-use hub_history::{Event, Outcome, OutcomeList, RepoList};
+use hub_history::{Event, LoggedCommands, LoggedPack, Outcome, OutcomeList, RepoList};
 use hub_state::{ConfInForce, HostedRepo, Pin, PreparedPack};
 use push_judging::{CommandOutcomes, Judged, is_of_conf};
 use push_settling::{Settled, settle};
@@ -251,14 +251,7 @@ impl Hub {
             made: made.clone()?,
             conf: before,
         };
-        let event = Event::Pushed {
-            place: pin.place(),
-            pack,
-            commands,
-            atomic,
-            outcomes,
-            made,
-        };
+        let event = pushed(pin.place(), &pack, &commands, atomic, outcomes, made);
         self.commit(caller, event, changes, conf)?;
         Ok(settled)
     }
@@ -362,6 +355,27 @@ impl Hub {
             }
         }
         Ok(made)
+    }
+}
+
+// The event of a push. It keeps neither objects nor commands.
+fn pushed(
+    place: u64,
+    pack: &ObjectList,
+    commands: &CommandList,
+    atomic: bool,
+    outcomes: OutcomeList,
+    made: RepoList,
+) -> Event
+    ensures { result ≡ event.Pushed place pack.now commands.now atomic outcomes made }
+{
+    Event::Pushed {
+        place,
+        pack: LoggedPack::of(pack),
+        commands: LoggedCommands::of(commands),
+        atomic,
+        outcomes,
+        made,
     }
 }
 

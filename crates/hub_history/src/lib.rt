@@ -14,6 +14,8 @@ mod outcome;
 pub use access_check::{Letter, Verdict, Want};
 pub use base_types::NoMemory;
 pub use conf_lex::{RepoName, UserName};
-pub use entry::{EnterKept, Entry, EntryList, Event, PermChange, PermsKept, RepoList};
+pub use entry::{
+    EnterKept, Entry, EntryList, Event, LoggedCommands, LoggedPack, PermChange, PermsKept, RepoList,
+};
 pub use laws::hold_laws;
 pub use outcome::{Outcome, OutcomeList};

@@ -13,7 +13,7 @@ ghost use Rattle.shared_hub.specs.Shared.{IsHubPass};
 use crate::event_hub::EventHub;
 use crate::shared::{SharedHub, SharedPass};
 use crate::steps::{AskStopped, Asked, Enter, Look, Permit, Push, PushTurn};
-use git_object::ObjectList;
+use git_object::{ObjectList, share};
 use hub::{
     Desk, Entered, Judged, Looked, PermChange, Permitted, Pin, Pushed, RepoName, UserName, Want,
 };
@@ -128,6 +128,8 @@ impl<'a, R: Wait, H: EventHub> Desk for SharedDesk<'a, R, H> {
         atomic: bool,
         judged: Judged,
     ) -> Pushed {
+        // Held until the turn is over: so the objects of a push that isn't done are freed behind it.
+        let _objects = share(&pack);
         let mut asked = Asked {
             pin,
             pack,
