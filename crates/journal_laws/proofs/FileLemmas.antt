@@ -1,15 +1,15 @@
 -- What is found in a file of records that a log's events were written to.
-use Rattle.std.proofs.Common.{◌≡◌, inl, inr, ℕ, zero, suc, ◌<◌, List, [], ◌∷◌, ◌++◌, length, map, take, drop, refl, sym, ◌∙◌, ap, subst, arith, append_assoc, length-append}
+use Rattle.std.proofs.Common.{◌≡◌, inl, inr, ℕ, zero, suc, ◌<◌, ◌≤◌, List, [], ◌∷◌, ◌++◌, length, map, take, drop, refl, sym, ◌∙◌, ap, subst, arith, append_assoc, length-append}
 use Rattle.std.specs.Prelude.{Option, Some, None}
 use Rattle.std.specs.List.{flat_map, slice_get}
-use Rattle.std.proofs.lemmas.List.{length-map, take_at, take-append-drop}
+use Rattle.std.proofs.lemmas.List.{length-map, length-take-le, take_all, take_at, take-append-drop}
 use Rattle.ref_store.specs.Refs.{Name}
 use Rattle.ref_store.specs.declared.command.Command.{Command}
 use Rattle.rule_compile.specs.Patterns.{AreTrue, Patterns}
 use Rattle.hub_history.specs.declared.entry.Entry.{Entry}
 use Rattle.hub_history.specs.declared.entry.Event.{Event}
 use Rattle.hub_history.specs.declared.entry.Event.TheVariants.{Entered, Pushed, Permitted, Looked}
-use Rattle.hub_history.specs.History.{IsDue, IsDueAfter, IsLegal, history, opening_at}
+use Rattle.hub_history.specs.History.{IsDue, IsDueAfter, IsLegal, history, opening_at, replay}
 use Rattle.hub_history.specs.Opening.{Pinned}
 use Rattle.hub_history.specs.Requests.{Request, request_of}
 use Rattle.hub_history.proofs.HistoryLemmas.{beginning_legal, due_behind}
@@ -18,11 +18,13 @@ use Rattle.record_file.specs.Records.{HasAnotherName, Holds, IsBadAt, IsNoRecord
 use Rattle.record_file.proofs.OneReading.{goes_on, read_whole}
 use Rattle.record_file.proofs.ReadLemmas.{reads_bad}
 use Rattle.event_record.specs.Bodies.{IsStorable, body_of}
-use Rattle.hub_journal.specs.Events.{AreStorableEntries, IsStorableEntry, bodies_in, body_in, head_for, magic}
-use Rattle.hub_journal.specs.Recovery.{HasBadEventAt, IsBadBody}
+use Rattle.hub_journal.specs.Events.{AreStorableEntries, HoldsEvents, HoldsSome, IsStorableEntry, bodies_in, body_in, head_for, magic}
+use Rattle.hub_journal.specs.Recovery.{AreEventsOf, HasBadEventAt, IsBadBody}
 use Rattle.hub_journal.specs.Replay.{IsImpossible}
 use Rattle.hub_journal.specs.declared.open_fault.OpenFault.TheVariants as fault
-use Rattle.journal_laws.specs.Laws.{BodiesTellTheLog, FoundIsBeginning, IsJournalLog, OwnIsNotRefused}
+use Rattle.lasting_events.specs.Lasting.{lasting}
+use Rattle.lasting_events.specs.Laws.{BeginningLasts, LastingIsEnough}
+use Rattle.journal_laws.specs.Laws.{BodiesTellTheLog, FoundIsBeginning, HoldsThoseThatLast, IsJournalLog, OwnIsNotRefused}
 
 -- ---- lists
 
@@ -68,6 +70,10 @@ storable_taken : (count : ℕ) (log : List Entry) → AreStorableEntries log →
 storable_taken zero log all = tt
 storable_taken (suc n) [] all = tt
 storable_taken (suc n) (e ∷ log) all = (all.0, storable_taken n log all.1)
+
+storable_front : (one two : List Entry) → AreStorableEntries (one ++ two) → AreStorableEntries one
+storable_front [] two all = tt
+storable_front (e ∷ one) two all = (all.0, storable_front one two all.1)
 
 beginning_kept : (admin : Name) (log : List Entry) (count : ℕ) → IsJournalLog admin log → IsJournalLog admin (take count log)
 beginning_kept admin log count kept = (
@@ -196,3 +202,36 @@ module _ (one_log : OneLog) (one_body : OneBody) where
           absurd (no_bad_event admin (take some.count log) file offset (beginning_kept admin log some.count kept) some.holds has)
       own_is_not_refused admin log least file fault.DiskFault kept some is = inl refl
       own_is_not_refused admin log least file fault.NoMemory kept some is = inr refl
+
+-- ---- where only the entries that last are stored
+
+module _ (enough : LastingIsEnough) (beginning : BeginningLasts) (admin : Name) (log : List Entry) (start count : ℕ) (file : List ℕ) (held : HoldsThoseThatLast admin log start count file) where
+  abbrev front : List Entry
+  front = take count log
+
+  within : start ≤ length front
+  within = omega (arith, held.first, length-take-le count log held.there)
+
+  front_legal : IsLegal admin front
+  front_legal = beginning_legal admin front (drop count log) (subst (IsLegal admin) (sym (take-append-drop count log)) held.legal)
+
+  pub they_are_kept : IsJournalLog admin (lasting start front)
+  they_are_kept =
+      let more = beginning log start count held.first held.there in
+      (enough.legal admin front start within front_legal, storable_front (lasting start front) more.0 (subst AreStorableEntries more.1 held.storable))
+
+  pub lasting_found : OneLog → OneBody → OneReading → (found : List Entry) → IsJournalLog admin found → AreEventsOf admin found file → (found ≡ lasting start front) × (replay admin found ≡ replay admin front)
+  lasting_found one_log one_body one_reading found again are = (same, ap (replay admin) same ∙ enough.state admin front start within front_legal)
+    where
+      same : found ≡ lasting start front
+      same =
+          bodies_tell one_log one_body admin found (lasting start front) again they_are_kept
+          (one_reading (head_for admin) file (bodies_in found) (bodies_in (lasting start front)) (are.1 (holds_some (head_for admin) (bodies_in (lasting start front)) file held.holds)) held.holds)
+
+  pub some_held : HoldsSome admin (lasting start front) 0 file
+  some_held = record {
+    count = length (lasting start front);
+    enough = omega arith;
+    there = omega arith;
+    holds = subst (λ (l : List Entry). HoldsEvents admin l file) (sym (take_all (length (lasting start front)) (lasting start front) (omega arith))) held.holds;
+  }

@@ -1,0 +1,2 @@
+pub mod LastingLemmas
+pub mod PlaceLemmas
