@@ -16,7 +16,8 @@ PERMS = ["R", "RW", "RW+", "RWC", "RW+C", "RWD", "RWCD", "RWDC", "RW+DC", "RWM",
 OTHERS = ["# c", "", "   ", "#", 'desc = "x y"', "config core.x = 1", "owner = z", "category = q", "= begin testconf", "hello", 'include "none.conf"', "desc=x", "gitweb.owner = x"]
 QUESTIONS = [("R", "any"), ("W", "any"), ("C", "refs/heads/master"), ("C", "refs/heads/dev")]
 
-# lines that Gitolite takes and the program doesn't, and what Gitolite refuses and the program takes, by docs/ACCESS.md
+# lines that Gitolite takes and the program doesn't, and what Gitolite refuses and the program takes, by
+# docs/ACCESS.md
 REFUSED_HERE = [r"option \S+ = \S+ \S", r"\S+ \^", r"= begin testconf", r"include "]
 REFUSED_THERE = [r"git config '.*' not allowed"]
 

@@ -474,7 +474,8 @@ def bare_line(word, item, words=b""):
 # 146: the conf, under which the refs of 120 are there
 session(pushes(b"admin", b"gitolite-admin", [(inner, shelves, MASTER)], raw_pack([shelves] + shelves_objects)))
 
-# 147 to 152: nothing in common; words, flushes and haves; a tag in common; what isn't advertised; what leaves the form
+# 147 to 152: nothing in common; words, flushes and haves; a tag in common; what isn't advertised; what leaves
+# the form
 fetches(b"bob", b"shelf", bare_line(b"want", tag) + b"0000" + packet(b"done"))
 fetches(
     b"bob",

@@ -27,8 +27,8 @@ TWICE = [(FOLDER, b"x", BELOW), (FOLDER, b"y", BELOW)]
 LACKS_MAIN = b"gitolite.conf line 0: no file gitolite.conf"
 TOO_LONG = b"gitolite.conf line 0: too long"
 
-# What the folder `conf` has, each entry a mode, a name and what it names: the text of a blob, or the entries of a tree. Behind that what is due: the
-# repositories that ann sees, or the fault.
+# What the folder `conf` has, each entry a mode, a name and what it names: the text of a blob, or the entries
+# of a tree. Behind that what is due: the repositories that ann sees, or the fault.
 CONFS = (
     # the three modes of files
     (IN_WIKI, [b"wiki"]),
@@ -69,7 +69,8 @@ ROOTS = (
     [],
 )
 
-# How many folders there are beside the main file, all of one tree, how many entries of a mode each has, and the fault, if there is one.
+# How many folders there are beside the main file, all of one tree, how many entries of a mode each has, and
+# the fault, if there is one.
 WIDE = (
     # 10,000 rows and 10,001
     (99, 100, LINK, None),
@@ -84,8 +85,8 @@ WIDE = (
     (40, 25, GROUP_FILE, TOO_LONG),
 )
 
-# How many bytes the name of a folder has in which a file is, and the name of that file; and whether it is a file of the conf. Without a folder it is
-# beside the main one.
+# How many bytes the name of a folder has in which a file is, and the name of that file; and whether it is a
+# file of the conf. Without a folder it is beside the main one.
 LENGTHS = (
     (0, 255, True),
     (0, 256, False),

@@ -69,7 +69,8 @@ LoadModule setenvif_module {modules}/mod_setenvif.so
 """
 
 
-# The tests of git whose sessions are git's own, each behind one of the two; the others ask for a session by hand, or for options of the ssh front end.
+# The tests of git whose sessions are git's own, each behind one of the two; the others ask for a session by
+# hand, or for options of the ssh front end.
 CASES = {
     "nginx": (
         git_tests.empty_repository, git_tests.incremental_fetch, git_tests.tags_follow, git_tests.deletes, git_tests.many_refs,

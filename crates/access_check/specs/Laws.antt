@@ -28,7 +28,8 @@ pub record VerdictsNameTheirRules : Type 0 where
 
 -- A role that isn't declared for the repository covers nobody.
 pub record OnlyDeclaredRolesCover : Type 0 where
-  -- a word that is neither declared, nor `CREATOR`, nor the user's name doesn't cover the user, whatever roles the user holds
+  -- a word that is neither declared, nor `CREATOR`, nor the user's name doesn't cover the user, whatever
+  -- roles the user holds
   pub word : (a : Asked) (word : List ℕ) → a.declares word ≡ false → ¬ (word ≡ codes "CREATOR") → ¬ (word ≡ a.user) → word_covers a word ≡ false
   -- who holds which role that isn't declared makes no difference
   pub entries : (a : Asked) (roles : List RoleEntry) → ((role : List ℕ) → a.declares role ≡ true → holds_role (record a { roles = roles }) role ≡ holds_role a role)

@@ -29,8 +29,9 @@ flags_of patterns rules repo creator = record {
 
 -- ---- the letter of a change
 
--- A create needs `C` where that is in force, and else `W`; a delete `D`, and else `+`. A tag, and a ref from or to an object that is no
--- commit, is moved by `+` alone. Every other update needs `W` where it is forward, and else `+`.
+-- A create needs `C` where that is in force, and else `W`; a delete `D`, and else `+`. A tag, and a ref from
+-- or to an object that is no commit, is moved by `+` alone. Every other update needs `W` where it is forward,
+-- and else `+`.
 abbrev pub base_of : Flags → Change → Facts → Base
 base_of flags change.Create facts = if flags.create then Create else Write
 base_of flags change.Delete facts = if flags.delete then Delete else Rewind

@@ -11,7 +11,8 @@ use Rattle.rule_compile.specs.declared.rule.UserWord.TheVariants.{Name, Group, A
 use Rattle.wild_perms.specs.Roles.{WildView}
 use Rattle.wild_perms.specs.declared.role.RoleEntry.{RoleEntry}
 
--- Who asks of which repository: its name, who created it, if anybody did, which words are roles there, who holds which of them, and who asks.
+-- Who asks of which repository: its name, who created it, if anybody did, which words are roles there, who
+-- holds which of them, and who asks.
 pub record Asked : Type 0 where
   pub repo : List ℕ
   pub creator : Option (List ℕ)
@@ -33,7 +34,8 @@ asked patterns flat wild repo user = record {
 abbrev pub asked_unborn : Patterns → Flat → List ℕ → List ℕ → Asked
 asked_unborn patterns flat repo asker = asked patterns flat (record { creator = Some asker; roles = [] }) repo asker
 
--- Where no repository is given, the asker counts as its creator too, and only the two roles that every repository has are declared.
+-- Where no repository is given, the asker counts as its creator too, and only the two roles that every
+-- repository has are declared.
 abbrev pub asked_anywhere : List ℕ → Asked
 asked_anywhere asker = record { repo = []; creator = Some asker; declares = is_common_role; roles = []; user = asker }
 
@@ -43,7 +45,8 @@ is_creator a = option_map_or (λ creator. bytes_eq creator a.user) a.creator fal
 abbrev pub holds_role : Asked → List ℕ → Bool
 holds_role a role = list_any (λ entry. bytes_eq entry.role role && bytes_eq entry.user a.user) a.roles
 
--- `CREATOR` is for the creator, a word that is declared as a role for those who hold it in this repository, and every other word for the user of that name.
+-- `CREATOR` is for the creator, a word that is declared as a role for those who hold it in this repository,
+-- and every other word for the user of that name.
 abbrev pub word_covers : Asked → List ℕ → Bool
 word_covers a word =
     if bytes_eq word (codes "CREATOR") then is_creator a

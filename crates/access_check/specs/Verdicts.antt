@@ -21,7 +21,8 @@ use Rattle.access_check.specs.declared.verdicts.Want.TheVariants.{Read, Write}
 abbrev pub covers : Patterns → Asked → Rule → Bool
 covers patterns a rule = covers_repo patterns rule.repo a.repo a.creator && covers_user a rule.user
 
--- A `-` rule denies, and every other rule that decides allows. Where none decides, the question falls through.
+-- A `-` rule denies, and every other rule that decides allows. Where none decides, the question falls
+-- through.
 abbrev pub verdict_of : Option Rule → Verdict
 verdict_of None = Fallthru
 verdict_of (Some rule) = if rule.perm.deny then DeniedBy rule.seq else Allowed rule.seq
@@ -34,14 +35,18 @@ rule_of rules Fallthru = None
 
 -- ---- a change of a ref, or of a virtual ref
 
--- a rule for the repository and the user whose refex matches the ref from its start, and which is `-` or grants the letter
+-- a rule for the repository and the user whose refex matches the ref from its start, and which is `-` or
+-- grants the letter
 abbrev pub decides : Patterns → Asked → Letter → List ℕ → Rule → Bool
 decides patterns a letter name rule = covers patterns a rule && (patterns.starts rule.refex a.user name && (rule.perm.deny || grants rule.perm letter))
 
 abbrev pub decide : Patterns → List Rule → Asked → Letter → List ℕ → Verdict
 decide patterns rules a letter name = verdict_of (find (decides patterns a letter name) rules)
 
--- ---- the first stage: there is no ref yet, so every refex counts as matching, and `-` rules count under the option `deny-rules` alone
+-- ---- the first stage
+
+-- There is no ref yet, so every refex counts as matching, and `-` rules count under the option `deny-rules`
+-- alone.
 
 -- a permission grants reading or writing as such
 abbrev pub opens : Perm → Want → Bool

@@ -14,8 +14,8 @@ use conf_lex::{RepoName, UserName};
 use rule_compile::{Policy, Rule};
 use wild_perms::Wild;
 
-/// Which letters after `RW` are in force for a repository. It looks at all rules of the repository's name, of `@all` and of
-/// patterns.
+/// Which letters after `RW` are in force for a repository. It looks at all rules of the repository's name, of
+/// `@all` and of patterns.
 pub fn flags_of(policy: &Policy, wild: &Wild, repo: &RepoName) -> Flags
     ensures { (ps : Patterns) → AreTrue ps → result ≡ flags_of ps policy.now.rules repo.now wild.now.creator }
 {
@@ -31,7 +31,8 @@ pub fn flags_of(policy: &Policy, wild: &Wild, repo: &RepoName) -> Flags
     flags
 }
 
-/// Whether a rule for the repository and the user has a refex of the virtual ref. Without one it need not be asked.
+/// Whether a rule for the repository and the user has a refex of the virtual ref. Without one it need not be
+/// asked.
 pub fn holds_vref(
     policy: &Policy,
     wild: &Wild,

@@ -26,7 +26,8 @@ pub fn first_stage(
     verdict_on_opening(policy, &Question::of(policy, wild, repo, user), want)
 }
 
-/// The first stage of a repository that isn't there: the asker counts as its creator, and nobody holds a role.
+/// The first stage of a repository that isn't there: the asker counts as its creator, and nobody holds a
+/// role.
 pub fn unborn_stage(policy: &Policy, repo: &RepoName, asker: &UserName, want: Want) -> Verdict
     ensures { (ps : Patterns) → AreTrue ps → result ≡ unborn_stage ps policy.now repo.now asker.now want }
 {

@@ -128,7 +128,8 @@ impl<'a> Question<'a> {
         self.is_creator() && members.contains(CREATOR)
     }
 
-    // Whether a role that some option line mentions, and that the user holds, is declared and a member of a group.
+    // Whether a role that some option line mentions, and that the user holds, is declared and a member of a
+    // group.
     fn some_role_covers(&self, members: &Members) -> bool
         ensures some { OnTrue result ((ps : Patterns) → AreTrue ps → (word : List ℕ) × (role_covers (asked_by ps self.now) members.now word ≡ true)) }
         ensures none { OnFalse result ((ps : Patterns) → AreTrue ps → (word : List ℕ) → is_mentioned self.now.policy.now.options word ≡ true → role_covers (asked_by ps self.now) members.now word ≡ false) }
@@ -141,7 +142,8 @@ impl<'a> Question<'a> {
         false
     }
 
-    // Whether a word is a member of a group, is declared as a role, and the user holds it. Whether it is declared is asked last.
+    // Whether a word is a member of a group, is declared as a role, and the user holds it. Whether it is
+    // declared is asked last.
     fn role_covers(&self, members: &Members, word: &[u8]) -> bool
         ensures { (ps : Patterns) → AreTrue ps → result ≡ role_covers (asked_by ps self.now) members.now word.now }
     {

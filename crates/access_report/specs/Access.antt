@@ -52,7 +52,8 @@ abbrev pub due_of : Patterns → Result QuestionLists AskFault → List ConfFile
 due_of patterns (Ok q) conf other = due_by patterns q (flat patterns conf) other
 due_of patterns (Err fault) conf other = record { what = printed.BadQuestion; text = question_fault fault }
 
--- What is printed of a text of questions over a conf, or over two: the fault of the questions; that of a conf, of the first before that of the other; or the report.
+-- What is printed of a text of questions over a conf, or over two: the fault of the questions; that of a
+-- conf, of the first before that of the other; or the report.
 abbrev pub access : Patterns → List ℕ → List ConfFile → Option (List ConfFile) → Due
 access patterns ask conf other = due_of patterns (read ask) conf other
 

@@ -42,7 +42,8 @@ about_at zero = Read
 about_at (suc zero) = Write
 about_at (suc (suc n)) = change_at (n / 4) (n % 4)
 
--- What stands at a place of all questions, which count from 0: they are repository by repository, in each user by user.
+-- What stands at a place of all questions, which count from 0: they are repository by repository, in each
+-- user by user.
 unfoldable pub place_at : QuestionLists → ℕ → Place
 place_at q at = record {
   repo = at / (length q.users * per_user q);

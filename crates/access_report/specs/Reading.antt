@@ -34,8 +34,8 @@ abbrev pub after : {A : Type 0} → Option (List ℕ) → (List ℕ → Option A
 after None read other = other
 after (Some rest) read other = read rest
 
--- What the lines so far ask for: the repository of the last `repo` line and those before it, users, refs; and the set of the `repo`, `user` and `ref` lines.
--- Nothing is asked for twice by lines that are equal.
+-- What the lines so far ask for: the repository of the last `repo` line and those before it, users, refs; and
+-- the set of the `repo`, `user` and `ref` lines. Nothing is asked for twice by lines that are equal.
 abbrev pub once : Reading → List ℕ → Reading → Option Reading
 once r line more = if set.contains_key r.lines line then None else Some (record more { lines = set.insert r.lines line true })
 
@@ -133,7 +133,8 @@ are_too_many q = are_too_many_of (length q.repos) (length q.users) (length q.ref
 abbrev pub unless_too_many : QuestionLists → Result QuestionLists AskFault
 unless_too_many q = if are_too_many q then Err TooMany else Ok q
 
--- What the lines from this number on come to, or the first that is bad: each but the last has its line feed, behind which nothing may be.
+-- What the lines from this number on come to, or the first that is bad: each but the last has its line feed,
+-- behind which nothing may be.
 abbrev pub reading : Reading → ℕ → List (List ℕ) → Result QuestionLists AskFault
 reading r n [] = Err (BadLine n)
 reading r n (last ∷ []) = if bytes_eq last [] then unless_too_many (lists_of r) else Err (BadLine n)

@@ -82,6 +82,7 @@ module _ (patterns : Patterns) (old new : Flat) (q : QuestionLists) where
   abbrev pub all_changes : List (Question × Question)
   all_changes = changes_below (count q)
 
-  -- The report over two confs: a line for each question that just one of them allows, in order, and how many these are.
+  -- The report over two confs: a line for each question that just one of them allows, in order, and how many
+  -- these are.
   unfoldable pub change_report : List ℕ
   change_report = change_lines q all_changes ++ changed_count (length all_changes) (count q)

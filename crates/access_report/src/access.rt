@@ -29,7 +29,8 @@ pub enum Printed {
     ConfFault,
 }
 
-/// Reads questions and compiles a conf, or two, and prints a report, or the first fault: that of the questions, then that of the first conf.
+/// Reads questions and compiles a conf, or two, and prints a report, or the first fault: that of the
+/// questions, then that of the first conf.
 pub fn print_access<O: Sink>(
     alloc: Global,
     sink: &mut O,

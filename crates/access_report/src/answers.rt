@@ -82,16 +82,17 @@ pub(crate) struct KnownVerdict {
     verdict: Verdict,
 }
 
-/// What is remembered from one question to the next, so that a repository's letters are found once, and a verdict once for changes of a ref that need the
-/// same letter.
+/// What is remembered from one question to the next, so that a repository's letters are found once, and a
+/// verdict once for changes of a ref that need the same letter.
 #[derive(Clone, Copy)]
 pub(crate) struct Memo {
     flags: Option<KnownFlags>,
     verdict: Option<KnownVerdict>,
 }
 
-/// The question at a place, from 0, of all questions, or `None` behind the last: repository by repository, in each user by user; of both reading and
-/// writing, and then the four changes of each ref. It takes no memory, and looks at all rules of the repository.
+/// The question at a place, from 0, of all questions, or `None` behind the last: repository by repository, in
+/// each user by user; of both reading and writing, and then the four changes of each ref. It takes no memory,
+/// and looks at all rules of the repository.
 pub fn questions(policy: &Policy, asked: &Questions, at: u64) -> Option<Question>
     ensures { (ps : Patterns) → AreTrue ps → result ≡ question_at ps policy.now asked.now at }
 {

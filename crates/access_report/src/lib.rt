@@ -1,4 +1,5 @@
-//! Who may do what: questions, each with its verdict and the rule that decides, over the rules of one conf or of two.
+//! Who may do what: questions, each with its verdict and the rule that decides, over the rules of one conf or
+//! of two.
 //!
 //! - `lists`: what is asked: repositories, users and refs;
 //! - `reading`: how that is read, line by line;

@@ -21,7 +21,8 @@ pub struct AskedRepo {
     pub wild: Wild,
 }
 
-/// Repositories, users and refs, in the order in which they were asked for: each question is of a repository and a user, and most of a ref too.
+/// Repositories, users and refs, in the order in which they were asked for: each question is of a repository
+/// and a user, and most of a ref too.
 #[derive(Drop)]
 pub struct Questions {
     repos: ItemList<AskedRepo>,

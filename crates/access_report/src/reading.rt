@@ -20,7 +20,8 @@ const MAX_ROLE_WORD: usize = 64;
 /// Why a text isn't read as questions.
 #[derive(Clone, Copy, Debug, PartialEq, Eq)]
 pub enum AskFault {
-    /// The line of this number, from 1, is the first that has none of the forms, or names what can't be one, or repeats an earlier line.
+    /// The line of this number, from 1, is the first that has none of the forms, or names what can't be one,
+    /// or repeats an earlier line.
     BadLine(u32),
     /// There are more than 1,000 repositories, users or refs, or than 1,000,000 questions.
     TooMany,
@@ -270,7 +271,8 @@ fn all_role_bytes(word: &[u8]) -> bool
     word.iter().all(|byte| is_role_byte(*byte))
 }
 
-// Gives a user a role, as the creator would. Where there is no creator, or the user holds it, it returns `false`.
+// Gives a user a role, as the creator would. Where there is no creator, or the user holds it, it returns
+// `false`.
 fn add_role(repo: &mut AskedRepo, role: &[u8], user: &UserName) -> Result<bool, NoMemory>
     ensures { IfOk result (SaysOfRole (with_role repo.old role.now user.now) repo.new) }
 {
@@ -294,7 +296,8 @@ fn are_too_many(repos: usize, users: usize, refs: usize) -> bool
     repos as u64 * users as u64 * (2 + 4 * refs as u64) > MOST_QUESTIONS
 }
 
-/// Reads what is asked, in lines. It costs the text; that a role is new, the logarithm of the roles of its repository, behind which its entry is put in place.
+/// Reads what is asked, in lines. It costs the text; that a role is new, the logarithm of the roles of its
+/// repository, behind which its entry is put in place.
 pub fn read_questions(alloc: Global, text: &[u8]) -> Result<Questions, AskFault>
     requires { length text.now ≤ 300000000 }
     ensures { Reads (read text.now) result }

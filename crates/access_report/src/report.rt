@@ -273,8 +273,9 @@ fn print_idle<O: Sink>(
     write_waiting(sink, waiting)
 }
 
-/// Writes a report: a line for each question, in order, and the rules that cover a repository that is asked of and decide no question. It takes a byte for
-/// each rule, and of what is printed gathers some 64 KiB, or the last line.
+/// Writes a report: a line for each question, in order, and the rules that cover a repository that is asked
+/// of and decide no question. It takes a byte for each rule, and of what is printed gathers some 64 KiB, or
+/// the last line.
 pub fn write_report<O: Sink>(
     alloc: Global,
     sink: &mut O,
@@ -350,7 +351,8 @@ pub(crate) struct Memos {
     second: Memo,
 }
 
-// Prints the line of the question at a place, where just one of two confs allows it, and returns how many lines that is.
+// Prints the line of the question at a place, where just one of two confs allows it, and returns how many
+// lines that is.
 fn print_change_at<O: Sink>(
     sink: &mut O,
     waiting: &mut Vec<u8>,
@@ -431,7 +433,8 @@ fn print_count<O: Sink>(
     write_waiting(sink, waiting)
 }
 
-/// Writes what changes from one conf to another: a line for each question that just one of them allows, in order, and how many these are.
+/// Writes what changes from one conf to another: a line for each question that just one of them allows, in
+/// order, and how many these are.
 pub fn write_change<O: Sink>(
     alloc: Global,
     sink: &mut O,

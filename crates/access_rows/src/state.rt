@@ -137,7 +137,8 @@ impl State {
         Ok(())
     }
 
-    /// Another user who holds a role. The creator gives it, as where it was declared; whether it still is the conf says.
+    /// Another user who holds a role. The creator gives it, as where it was declared; whether it still is the
+    /// conf says.
     pub(crate) fn give_role(&mut self, role: &[u8], user: &UserName) -> Result<(), Stop> {
         let Some(creator) = &self.creator else {
             return Err(Stop::NoForm);

@@ -213,7 +213,8 @@ module _ (objects : List Content) (known : Known) (least : ℕ) (old new : Objec
     | inr low ↦ inr low
   ]
 
-  -- where nothing is low, just those merges are brought that are met and aren't among all ancestors of the old commit
+  -- where nothing is low, just those merges are brought that are met and aren't among all ancestors of the
+  -- old commit
   pub merge_by_all : least ≡ 0 → ((id : ObjectId) → Contains past id → IsAncestor objects id old) → (all : List ObjectId) → ArePast objects old 0 all
       → (HasMerge objects line all → BringsMerge objects old new) × (BringsMerge objects old new → HasMerge objects line all)
   merge_by_all none are all all_are = (

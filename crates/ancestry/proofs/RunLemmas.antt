@@ -48,7 +48,8 @@ ends_ascend runs i j d are le below = elim (cases_lt i j) [
   | inr same ↦ let is : i ≡ j = omega (arith, le, same) in subst (λ (n : ℕ). (get_or runs n d).to ≤ (get_or runs j d).to) (sym is) (omega arith)
 ]
 
--- all up to one that ended before a place ended before it, and all from one on that ends behind it end behind it
+-- all up to one that ended before a place ended before it, and all from one on that ends behind it end behind
+-- it
 pub ended_up_to : (runs : List Run) (middle at : ℕ) (run : Run) → AreRuns runs → middle < length runs → run ≡ get_or runs middle run → run.to ≤ at → (k : ℕ) (d : Run) → k < middle + 1 → (get_or runs k d).to ≤ at
 ended_up_to runs middle at run are below is le k d less =
     let last : (get_or runs middle d).to ≤ at = subst (λ (r : Run). r.to ≤ at) (get_or_read runs middle run below is d) le in

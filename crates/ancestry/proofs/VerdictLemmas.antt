@@ -69,7 +69,8 @@ tells_same P Q R S Whole lost odd told = (same_least P R None lost told.0, same_
 tells_same P Q R S (Missing m) lost odd told = same_least P R (Some m) lost told
 tells_same P Q R S (WrongKind m) lost odd told = (same_least P R None lost told.0, same_least Q S (Some m) odd told.1)
 
--- the id where what is wanted of it passes a test, some that a walk meets, and some that walks from several meet
+-- the id where what is wanted of it passes a test, some that a walk meets, and some that walks from several
+-- meet
 abbrev pub Alone : ObjectId → Option Kind → (Want → Bool) → ObjectId → Type 0
 Alone id wanted test other = (id ≡ other) × (test (id, wanted) ≡ true)
 

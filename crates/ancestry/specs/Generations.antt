@@ -9,7 +9,8 @@ use Rattle.ancestry.specs.declared.known.Known.{Known}
 use Rattle.ancestry.specs.Ancestors.{parents_at, IsAncestor, IsLine}
 use Rattle.ancestry.specs.Tables.{first_in}
 
--- so many commits are on the longest line of parents that leads on from this one, and whatever such a line leads to is there
+-- so many commits are on the longest line of parents that leads on from this one, and whatever such a line
+-- leads to is there
 pub record HasGeneration (objects : List Content) (id : ObjectId) (generation : ℕ) : Type 0 where
   pub there : (line : List ObjectId) (to : ObjectId) → IsLine objects id line to → IsSome (first_named objects to)
   pub longest : (line : List ObjectId) × (to : ObjectId) × IsLine objects id line to × (length line ≡ generation)

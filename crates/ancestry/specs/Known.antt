@@ -21,7 +21,8 @@ IsRight objects id verdict = IsSome (first_named objects id) × IsToldOfAll obje
 abbrev pub IsWhole : List Content → ObjectId → ℕ → Type 0
 IsWhole objects id generation = IsRight objects id Whole × HasGeneration objects id generation
 
--- what tables tell of these objects is right: one of generations, of objects behind which all is whole, and one of verdicts
+-- what tables tell of these objects is right: one of generations, of objects behind which all is whole, and
+-- one of verdicts
 pub record AreRight (objects : List Content) (generations : Entries ℕ) (verdicts : Entries Verdict) : Type 0 where
   pub whole : (id : ObjectId) (generation : ℕ) → Has generations id generation → IsWhole objects id generation
   pub amiss : (id : ObjectId) (verdict : Verdict) → Has verdicts id verdict → IsRight objects id verdict

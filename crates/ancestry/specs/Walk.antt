@@ -17,12 +17,13 @@ Want = ObjectId × Option Kind
 abbrev pub wanted_by : List (ObjectId × Kind) → List Want
 wanted_by links = map (λ link. (link.0, Some link.1)) links
 
--- what the links want of the object that stands first under this name, whatever its kind; where there is none, nothing
+-- what the links want of the object that stands first under this name, whatever its kind; where there is
+-- none, nothing
 abbrev pub links_at : List Content → ObjectId → List Want
 links_at objects id = option_map_or (λ o. wanted_by (links_of o.kind o.body)) (first_named objects id) []
 
--- What the walks from a root meet. A walk begins with the root, and each next id is a link of the object of the one before.
--- Of an id is wanted the kind of the link by which it is met, and of the root this kind
+-- What the walks from a root meet. A walk begins with the root, and each next id is a link of the object of
+-- the one before. Of an id is wanted the kind of the link by which it is met, and of the root this kind
 pub data IsMet (objects : List Content) (root : ObjectId) (kind : Option Kind) : Want → Type 0 where
   Root : IsMet objects root kind (root, kind)
   Link : (from to : Want) → IsMet objects root kind from → Contains (links_at objects from.0) to → IsMet objects root kind to
@@ -32,7 +33,8 @@ abbrev pub met_within : List Content → ObjectId → Option Kind → ℕ → Li
 met_within objects root kind zero = (root, kind) ∷ []
 met_within objects root kind (suc n) = met_within objects root kind n ++ flat_map (λ m. links_at objects m.0) (met_within objects root kind n)
 
--- all that is met: whatever a walk meets is met by one that goes on from no object twice, and so has no more links than there are objects
+-- all that is met: whatever a walk meets is met by one that goes on from no object twice, and so has no more
+-- links than there are objects
 abbrev pub met : List Content → ObjectId → Option Kind → List Want
 met objects root kind = met_within objects root kind (length objects)
 

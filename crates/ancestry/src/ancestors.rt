@@ -13,8 +13,9 @@ use git_object::ObjectId;
 use ref_store::Lens;
 use std::alloc::Global;
 
-/// Whether the old commit is an ancestor of the new one, or the same. It walks back from the new commit as far as the old one is away, and goes on from no commit
-/// that is known to be of a lower generation. Where the generation of the old one isn't known, and it is no ancestor, that is all of the new one's history.
+/// Whether the old commit is an ancestor of the new one, or the same. It walks back from the new commit as
+/// far as the old one is away, and goes on from no commit that is known to be of a lower generation. Where
+/// the generation of the old one isn't known, and it is no ancestor, that is all of the new one's history.
 pub fn is_ancestor(
     alloc: Global,
     lens: &Lens,
@@ -35,7 +36,8 @@ pub fn is_ancestor(
     reaches(alloc, lens.salt(), &steps, new, old)
 }
 
-/// Whether a commit with two parents or more is an ancestor of the new commit and not of the old one. It costs what `advance_between` does.
+/// Whether a commit with two parents or more is an ancestor of the new commit and not of the old one. It
+/// costs what `advance_between` does.
 pub fn brings_merge(
     alloc: Global,
     lens: &Lens,
@@ -58,12 +60,13 @@ pub struct Advance {
     pub merge: bool,
 }
 
-// By so many generations the second walks go further down than the first, or by as many as the new commit is known to be above the old one. Each next walks go
-// further down by twice as many as those before.
+// By so many generations the second walks go further down than the first, or by as many as the new commit is
+// known to be above the old one. Each next walks go further down by twice as many as those before.
 const FIRST_STEP: u64 = 16;
 
-/// Whether the new commit's first few first parents come to one that is known to be of about the old one's generation. Then
-/// `advance_between` walks along a few commits, unless they have many parents. Only costs rest on it, and it costs a few look-ups.
+/// Whether the new commit's first few first parents come to one that is known to be of about the old one's
+/// generation. Then `advance_between` walks along a few commits, unless they have many parents. Only costs
+/// rest on it, and it costs a few look-ups.
 pub fn is_near(lens: &Lens, known: &Known, old: ObjectId, new: ObjectId) -> bool {
     let Some(generation) = known.generation(old) else {
         return false;
@@ -90,13 +93,14 @@ fn first_parent(lens: &Lens, id: ObjectId) -> Option<ObjectId> {
 
 /// How the new commit follows the old one.
 ///
-/// Where the generation of the old commit is known, a change that is forward costs what it adds: a walk goes back from the new commit, but not on from the old
-/// one nor from lower generations. Any other change, as a rewind, costs a few times what both histories have above the generation where the new one joins the
-/// old one, or has ended: both commits are walked from, down to the generation of the old one, and then 16, 48, 112 and more generations further, until that
-/// shows the answer.
+/// Where the generation of the old commit is known, a change that is forward costs what it adds: a walk goes
+/// back from the new commit, but not on from the old one nor from lower generations. Any other change, as a
+/// rewind, costs a few times what both histories have above the generation where the new one joins the old
+/// one, or has ended: both commits are walked from, down to the generation of the old one, and then 16, 48,
+/// 112 and more generations further, until that shows the answer.
 ///
-/// Where the generation of the old commit isn't known, the walk from the new one is all of its history if it doesn't meet the old one, and a merge costs all of
-/// the old one's history too.
+/// Where the generation of the old commit isn't known, the walk from the new one is all of its history if it
+/// doesn't meet the old one, and a merge costs all of the old one's history too.
 pub fn advance_between(
     alloc: Global,
     lens: &Lens,
@@ -127,8 +131,9 @@ pub fn advance_between(
     advance_by_all(alloc, lens, known, old, new)
 }
 
-// The same, where walks from both commits down to some generations show it: no merge that isn't past is met, and nothing low behind which one may be; or one
-// is met of a generation so high that it would be past if it were an ancestor of the old commit.
+// The same, where walks from both commits down to some generations show it: no merge that isn't past is met,
+// and nothing low behind which one may be; or one is met of a generation so high that it would be past if it
+// were an ancestor of the old commit.
 fn advance_above(
     alloc: Global,
     lens: &Lens,
@@ -191,7 +196,8 @@ fn advance_by_all(
     })
 }
 
-// Whether a merge is met that isn't past, or something of a lower generation than the least, behind which one may be.
+// Whether a merge is met that isn't past, or something of a lower generation than the least, behind which one
+// may be.
 fn may_bring(lens: &Lens, known: &Known, least: u64, past: &IdSet, line: &IdSet) -> bool
     ensures { IsTrue result ↔ (HasMerge lens.now line.now past.now ⊎ HasLow known.now least line.now past.now) }
 {

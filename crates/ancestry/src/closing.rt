@@ -21,8 +21,8 @@ use git_object::{Kind, Object, ObjectId};
 use ref_store::{Repo, Salt};
 use std::alloc::Global;
 
-// The least generation of commits whose closures are kept: from a commit below it none of them is reached. Only
-// costs rest on it.
+// The least generation of commits whose closures are kept: from a commit below it none of them is reached.
+// Only costs rest on it.
 #[derive(Drop)]
 struct Floor<'a> {
     known: Option<&'a Known>,
@@ -44,7 +44,8 @@ impl<'a> Floor<'a> {
         }
     }
 
-    // Whether this is a commit from which no closure is reached: it is below the floor, or not known to be whole.
+    // Whether this is a commit from which no closure is reached: it is below the floor, or not known to be
+    // whole.
     fn hides(&self, id: ObjectId, kind: Kind) -> bool {
         let Some(known) = self.known else {
             return false;

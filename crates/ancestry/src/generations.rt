@@ -17,7 +17,8 @@ use git_object::{Object, ObjectId};
 use ref_store::Lens;
 use std::alloc::Global;
 
-/// From a commit to its parents, but nowhere from one that is known to be of a generation lower than the least, nor from what is past.
+/// From a commit to its parents, but nowhere from one that is known to be of a generation lower than the
+/// least, nor from what is past.
 #[derive(Clone, Copy)]
 pub struct ToParents<'a> {
     pub lens: &'a Lens,
@@ -72,7 +73,8 @@ pub fn floor_of(known: &Known, old: ObjectId) -> u64
     }
 }
 
-/// Ancestors of the old commit, with all but those of generations lower than the least. It costs a few look-ups for each.
+/// Ancestors of the old commit, with all but those of generations lower than the least. It costs a few
+/// look-ups for each.
 pub fn past_above(
     alloc: Global,
     lens: &Lens,
@@ -87,7 +89,8 @@ pub fn past_above(
     line_above(alloc, lens, known, least, &nothing, old)
 }
 
-/// What a walk from the new commit meets, that goes on neither from what is past nor from what is known to be of a generation lower than the least.
+/// What a walk from the new commit meets, that goes on neither from what is past nor from what is known to be
+/// of a generation lower than the least.
 pub fn line_above(
     alloc: Global,
     lens: &Lens,
@@ -121,8 +124,9 @@ pub fn has_low(known: &Known, least: u64, among: &IdSet, past: &IdSet) -> bool
     false
 }
 
-/// Commits of a walk that are known to be of a generation no lower than the least, and such whose generation isn't known, but behind which the walk came to one
-/// of those. It goes back through the walk, since a commit mostly comes before its parents there.
+/// Commits of a walk that are known to be of a generation no lower than the least, and such whose generation
+/// isn't known, but behind which the walk came to one of those. It goes back through the walk, since a commit
+/// mostly comes before its parents there.
 pub fn high_among(
     alloc: Global,
     lens: &Lens,
@@ -148,7 +152,8 @@ pub fn high_among(
     Ok(high)
 }
 
-// Whether a commit is known to be of a generation no lower than the least, or has a parent among those that are high.
+// Whether a commit is known to be of a generation no lower than the least, or has a parent among those that
+// are high.
 fn is_high(lens: &Lens, known: &Known, least: u64, high: &IdSet, id: ObjectId) -> bool
     requires known { AreKnown lens.now known.now }
     requires high { (other : ObjectId) → Contains high.now other → IsHigh lens.now least other }

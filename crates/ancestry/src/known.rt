@@ -53,8 +53,9 @@ impl Notes {
         }
     }
 
-    /// Notes what is told of all that the links of an object lead to, and its generation. A verdict without a generation, which is found out of no object whose
-    /// parents are among its links, is kept with those that are forgotten as objects come.
+    /// Notes what is told of all that the links of an object lead to, and its generation. A verdict without a
+    /// generation, which is found out of no object whose parents are among its links, is kept with those that
+    /// are forgotten as objects come.
     pub fn insert(
         &mut self,
         id: ObjectId,
@@ -96,8 +97,8 @@ pub struct Findings {
 
 /// What earlier walks found out about the objects of a repository. Clones share it.
 ///
-/// That all is whole that an object leads to stays known as objects come, and so does its generation, which is kept with it. What is amiss is known until an
-/// object comes.
+/// That all is whole that an object leads to stays known as objects come, and so does its generation, which
+/// is kept with it. What is amiss is known until an object comes.
 #[derive(Drop)]
 pub struct Known {
     whole: Layers<u64>,
@@ -117,7 +118,8 @@ impl Known {
         }
     }
 
-    // What is told of all that the links of an object lead to, where it is known. It costs a look-up in each of a few tables.
+    // What is told of all that the links of an object lead to, where it is known. It costs a look-up in each
+    // of a few tables.
     pub(crate) fn get(&self, id: ObjectId) -> Option<Verdict>
         ensures { (objects : List Content) → AreKnown objects self.now → IfSome result (IsRight objects id) }
     {
@@ -130,7 +132,8 @@ impl Known {
         }
     }
 
-    // The generation of an object behind which all is whole, where it is known. It costs a look-up in each of a few tables.
+    // The generation of an object behind which all is whole, where it is known. It costs a look-up in each of
+    // a few tables.
     pub(crate) fn generation(&self, id: ObjectId) -> Option<u64>
         ensures is { result ≡ generation_in self.now id }
         ensures right { (objects : List Content) → AreKnown objects self.now → IfSome result (HasGeneration objects id) }
@@ -141,8 +144,8 @@ impl Known {
         }
     }
 
-    /// The same, and what a walker found out among the same objects. Over many calls it costs what was found out times the logarithm of what is known,
-    /// and in one call it may cost all that is known.
+    /// The same, and what a walker found out among the same objects. Over many calls it costs what was found
+    /// out times the logarithm of what is known, and in one call it may cost all that is known.
     pub fn with(&self, alloc: Global, findings: &Findings) -> Result<Known, NoMemory>
         ensures { (objects : List Content) → AreKnown objects self.now → AreFound objects findings.now → IfOk result (AreKnown objects) }
     {
@@ -162,8 +165,9 @@ impl Known {
         })
     }
 
-    /// What stays known where objects come, and what of that a walker found out among some of them. It costs a few shares, and nothing is copied; only where
-    /// this was done many times, and nothing was joined in between, it costs what `with` does.
+    /// What stays known where objects come, and what of that a walker found out among some of them. It costs
+    /// a few shares, and nothing is copied; only where this was done many times, and nothing was joined in
+    /// between, it costs what `with` does.
     pub fn grown_with(&self, alloc: Global, findings: &Findings) -> Result<Known, NoMemory>
         ensures { (fewer among more : List Content) → Extends fewer more → Extends among more → AreKnown fewer self.now → AreFound among findings.now → IfOk result (AreKnown more) }
     {

@@ -54,8 +54,9 @@ impl<V: Copy> Clone for Layer<V> {
 // A look-up goes through all tables, so no more than these are put beside one another unjoined.
 const MANY: usize = 40;
 
-/// Tables, the oldest first. Where each was joined as it came (`with`), each has at least twice as many values as the next, so there are few; those that were put
-/// beside the others (`beside`) may have any number. A clone shares them.
+/// Tables, the oldest first. Where each was joined as it came (`with`), each has at least twice as many
+/// values as the next, so there are few; those that were put beside the others (`beside`) may have any
+/// number. A clone shares them.
 #[derive(Drop)]
 pub struct Layers<V> {
     layers: Vec<Layer<V>>,
@@ -92,8 +93,8 @@ impl<V: Copy> Layers<V> {
         None
     }
 
-    /// These tables and one more, which is joined with those before it while they have fewer than twice as many values. So over time a value
-    /// is joined as often as the logarithm of their number.
+    /// These tables and one more, which is joined with those before it while they have fewer than twice as
+    /// many values. So over time a value is joined as often as the logarithm of their number.
     pub fn with(&self, alloc: Global, layer: &Layer<V>) -> Result<Layers<V>, NoMemory>
         ensures { IfOk result (AreOf self.now layer.now) }
     {
@@ -151,7 +152,8 @@ impl<V: Copy> Clone for Layers<V> {
     }
 }
 
-// A table with the values of several put in. Its salt is made of all their salts, so whoever chooses names knows it for none of them.
+// A table with the values of several put in. Its salt is made of all their salts, so whoever chooses names
+// knows it for none of them.
 fn joined<V: Copy>(
     alloc: Global,
     layers: &[Layer<V>],

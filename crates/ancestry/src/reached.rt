@@ -20,8 +20,8 @@ pub trait Steps {
         ensures { OnOk result (Adds set.old set.new (next self.now id)) };
 }
 
-/// All that is reached from some names, these too. It enters each once: the set is a list of work too, of which those behind the next one were not
-/// entered yet.
+/// All that is reached from some names, these too. It enters each once: the set is a list of work too, of
+/// which those behind the next one were not entered yet.
 pub fn reached<S: Steps>(
     alloc: Global,
     salt: Salt,
@@ -40,7 +40,8 @@ pub fn reached<S: Steps>(
     Ok(set)
 }
 
-/// Whether a name is reached from another. The walk ends where it comes to the name, and enters nothing that is further from the root than that.
+/// Whether a name is reached from another. The walk ends where it comes to the name, and enters nothing that
+/// is further from the root than that.
 pub fn reaches<S: Steps>(
     alloc: Global,
     salt: Salt,

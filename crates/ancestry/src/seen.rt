@@ -11,7 +11,8 @@ use indexmap::IndexSet;
 use ref_store::{Lens, Salt};
 use std::alloc::Global;
 
-// The ids that were met, in the order in which they came, and what is told of them where their links are left aside.
+// The ids that were met, in the order in which they came, and what is told of them where their links are left
+// aside.
 #[derive(Drop)]
 struct Seen {
     known: IndexSet<ObjectId, Salt>,

@@ -5,8 +5,8 @@ ghost use Rattle.ancestry.specs.Tags.{named_by, peel};
 use git_object::ObjectId;
 use ref_store::Lens;
 
-/// What an id stands for: of a tag what it names, of that again where it is a tag, and so on; of anything else itself. It costs a look-up a tag, and
-/// ends after as many steps as there are objects.
+/// What an id stands for: of a tag what it names, of that again where it is a tag, and so on; of anything
+/// else itself. It costs a look-up a tag, and ends after as many steps as there are objects.
 pub fn peel(lens: &Lens, id: ObjectId) -> ObjectId
     ensures { result ≡ peel lens.now id }
 {

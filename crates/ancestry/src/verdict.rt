@@ -7,7 +7,8 @@ ghost use Rattle.std.specs.Option.{option_copied};
 
 use git_object::{Kind, Object, ObjectId};
 
-/// What is told of some ids: that all is whole, or else the least id that is missing, or else the least of a wrong kind.
+/// What is told of some ids: that all is whole, or else the least id that is missing, or else the least of a
+/// wrong kind.
 #[derive(Clone, Copy, PartialEq, Eq)]
 pub enum Verdict {
     Whole,
@@ -29,7 +30,8 @@ impl Verdict {
         Verdict::WrongKind(id)
     }
 
-    /// What is told of these ids and the other's: one that is missing before one of a wrong kind, and the lesser of two.
+    /// What is told of these ids and the other's: one that is missing before one of a wrong kind, and the
+    /// lesser of two.
     pub fn worse(self, other: Verdict) -> Verdict
         ensures { result ≡ worse self other }
     {

@@ -19,9 +19,10 @@ use ref_store::Lens;
 use std::alloc::Global;
 use std::marker::Model;
 
-/// Walks among the same objects. Each object that isn't known yet is entered once by a walker, whatever it is asked and whether all is whole or
-/// not, and the links of what is entered are looked at twice, the parents of a commit once more. A blob is never entered. Only where links lead in a
-/// circle does each question walk by itself, along all that it meets.
+/// Walks among the same objects. Each object that isn't known yet is entered once by a walker, whatever it is
+/// asked and whether all is whole or not, and the links of what is entered are looked at twice, the parents
+/// of a commit once more. A blob is never entered. Only where links lead in a circle does each question walk
+/// by itself, along all that it meets.
 #[derive(Drop)]
 pub struct Walks<'a> {
     alloc: Global,
@@ -77,7 +78,8 @@ impl<'a> Walks<'a> {
         notes.into_findings(alloc)
     }
 
-    /// Whether all that an id leads to is there and of the kind wanted; of the id itself this kind is wanted, or any.
+    /// Whether all that an id leads to is there and of the kind wanted; of the id itself this kind is wanted,
+    /// or any.
     pub fn whole(&mut self, id: ObjectId, kind: Option<Kind>) -> Wholeness
         ensures told { TellsOfWholeness self.old id kind result }
         ensures lens { self.new ≡ self.old }
@@ -92,7 +94,8 @@ impl<'a> Walks<'a> {
         }
     }
 
-    // What is told of an id and all that it leads to. Where links lead in a circle it isn't settled, and is walked from plainly.
+    // What is told of an id and all that it leads to. Where links lead in a circle it isn't settled, and is
+    // walked from plainly.
     fn judge(&mut self, id: ObjectId, kind: Option<Kind>) -> Result<Verdict, NoMemory>
         ensures told { IfOk result (λ v. IsToldOf self.old id kind v) }
         ensures lens { self.new ≡ self.old }
@@ -104,7 +107,8 @@ impl<'a> Walks<'a> {
         seen::walk(self.alloc, self.lens, id, kind)
     }
 
-    /// What is told of all that the links of an object lead to, where that is known already and no walk is made for it.
+    /// What is told of all that the links of an object lead to, where that is known already and no walk is
+    /// made for it.
     pub fn settled(&self, id: ObjectId) -> Option<Verdict>
         ensures { IfSome result (IsRight self.now id) }
     {
@@ -190,8 +194,9 @@ impl<'a> Walks<'a> {
         self.notes.insert(id, verdict, generation)
     }
 
-    // Settles an id and all that it leads to, links before what they are links of. An id comes up twice where a link of it isn't settled: when
-    // it is entered, and again when its links are settled. Where it comes up again before that, links lead in a circle, and this gives up.
+    // Settles an id and all that it leads to, links before what they are links of. An id comes up twice where
+    // a link of it isn't settled: when it is entered, and again when its links are settled. Where it comes up
+    // again before that, links lead in a circle, and this gives up.
     fn settle(&mut self, root: ObjectId) -> Result<(), NoMemory>
         ensures { self.new ≡ self.old }
     {

@@ -18,7 +18,8 @@ pub enum Wholeness {
     NoMemory,
 }
 
-/// Whether all that an id leads to is there and of the kind wanted; of the id itself this kind is wanted, or any.
+/// Whether all that an id leads to is there and of the kind wanted; of the id itself this kind is wanted, or
+/// any.
 pub fn whole(alloc: Global, lens: &Lens, id: ObjectId, kind: Option<Kind>) -> Wholeness
     ensures { TellsOfWholeness lens.now id kind result }
 {

@@ -1,4 +1,5 @@
--- What stands at the front of an input where a value of some grammar is wanted: a packet, a pack, a head of HTTP.
+-- What stands at the front of an input where a value of some grammar is wanted: a packet, a pack, a head of
+-- HTTP.
 use Rattle.std.specs.Prelude.{ℕ}
 
 pub data Front (V F : Type 0) : Type 0 where

@@ -3,8 +3,9 @@
 #![tactic(auto)]
 
 use clap::Error;
-use edge_links::{FileDisk, StdSink, StdSource};
-use host_program::{ProgramWords, host_main, read_words};
+use edge_links::{FileDisk, ProgressDisk, StdSink, StdSource};
+use host_program::{ProgramWords, VERSION, host_main, read_words};
+use record_file::Disk;
 use report_input::run_report;
 use shell_program::{Status, posts_at, words_given};
 use std::alloc::Global;
@@ -68,6 +69,12 @@ fn main(rt: HostRuntime) -> ExitCode {
         Ok(ProgramWords::Report) => return report(&rt, alloc),
         Err(error) => return end_by_words(&rt, &error),
     };
+    let _said = eprintln!(rt;
+        "cerolimau {}: port {}, journal {}",
+        VERSION,
+        words.port,
+        words.journal.as_str()
+    );
     let address = SocketAddr::V4(SocketAddrV4::new(Ipv4Addr::LOCALHOST, words.port));
     let listener = match TcpListener::bind(&rt, address) {
         Ok(listener) => listener,
@@ -76,9 +83,11 @@ fn main(rt: HostRuntime) -> ExitCode {
             return status(Status::DoorFault);
         }
     };
-    let Some(disk) = open_disk(&rt, words.journal.as_str()) else {
+    let Some(mut disk) = open_disk(&rt, words.journal.as_str()) else {
         return status(Status::DiskFault);
     };
+    let len = disk.len().unwrap_or(0);
+    let disk = ProgressDisk::new(&rt, disk, len);
     let Ok(mut posts) = posts_at(alloc, words.workers, Some(&listener)) else {
         return status(Status::NoMemory);
     };

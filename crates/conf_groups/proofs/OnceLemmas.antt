@@ -82,7 +82,8 @@ owed_brought name files scope (Group g ws) ps = refl
 owed_brought name files scope (Opt k v) ps = refl
 owed_brought name files scope NoEffect ps = refl
 
--- A file's lines so far and those that are owed, by what of it is unspliced: nothing until it is opened, and all its lines from then on.
+-- A file's lines so far and those that are owed, by what of it is unspliced: nothing until it is opened, and
+-- all its lines from then on.
 abbrev Counted : List ℕ → Option (List ℕ) → Option (List ℕ) → List Placed → Type 0
 Counted name all (Some content) total = (total ≡ []) × (all ≡ Some content)
 Counted name all None total = ArePlacedOnce name all total

@@ -41,7 +41,8 @@ abbrev pub fits : List ℕ → List ℕ → Bool
 fits [] name = is_nothing name
 fits (c ∷ pattern) name = if c == 42 then some_end (fits pattern) name else one_byte c (fits pattern) name
 
--- The names of the files that a pattern names, in byte order: without `*` the file of that name, if there is one.
+-- The names of the files that a pattern names, in byte order: without `*` the file of that name, if there is
+-- one.
 abbrev pub named_by : Files → List ℕ → List (List ℕ)
 named_by files pattern =
     if has_star pattern then filter (fits pattern) (named.keys files)

@@ -35,7 +35,8 @@ abbrev pub members_in : Option (List (List ℕ)) → List (List ℕ)
 members_in None = []
 members_in (Some members) = members
 
--- A word of a group line is a member. A group word is for the members that the line's scope knows of that group.
+-- A word of a group line is a member. A group word is for the members that the line's scope knows of that
+-- group.
 abbrev pub meaning : Known → Scope → List ℕ → List (List ℕ)
 meaning known scope word = if begins_with_at word then members_in (known word scope) else word ∷ []
 
@@ -55,6 +56,7 @@ with_placed known (at.Line l) = with_statement known l.scope l.statement
 abbrev pub known_after : List Placed → Known
 known_after placed = fold with_placed (λ group scope. None) placed
 
--- The members that a scope sees of a group by the lines before a place, which counts from 0: each once, in order of first mention.
+-- The members that a scope sees of a group by the lines before a place, which counts from 0: each once, in
+-- order of first mention.
 abbrev pub members_before : List Placed → List ℕ → Scope → ℕ → Option (List (List ℕ))
 members_before placed group scope before = known_after (take before placed) group scope

@@ -1,4 +1,5 @@
--- Files by name as the code keeps them, a map to files that are lent, and as the definitions see them, a map to bytes.
+-- Files by name as the code keeps them, a map to files that are lent, and as the definitions see them, a map
+-- to bytes.
 use Rattle.std.specs.Prelude.{ℕ, List, [], ◌∷◌, ◌+◌, ◌≡◌, ◌≤◌, map, length, Some}
 use Rattle.std.specs.Borrow.{Bor}
 use Rattle.std.specs.FinMap as named

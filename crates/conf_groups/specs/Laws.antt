@@ -65,13 +65,15 @@ pub record EachFileIsPlacedOnce : Type 0 where
 abbrev pub has_name : List ConfFile → List ℕ → Bool
 has_name list name = list_any (λ f. bytes_eq f.name name) list
 
--- The order of the list has no effect where no name is in it twice, and of two files of one name the later has none.
+-- The order of the list has no effect where no name is in it twice, and of two files of one name the later
+-- has none.
 pub record OrderHasNoEffect : Type 0 where
   pub moved : (before after : List ConfFile) (f : ConfFile) → has_name before f.name ≡ false → spliced (before ++ f ∷ after) ≡ spliced (f ∷ before ++ after)
   pub repeated : (before after : List ConfFile) (f : ConfFile) → has_name before f.name ≡ true → spliced (before ++ f ∷ after) ≡ spliced (before ++ after)
 
--- A word is a member of a group for a scope, by these lines: an earlier line made it one; or the last line, which the scope sees, is
--- of the group and has the word, or has a group of which the word is a member for that line's scope by the lines before.
+-- A word is a member of a group for a scope, by these lines: an earlier line made it one; or the last line,
+-- which the scope sees, is of the group and has the word, or has a group of which the word is a member for
+-- that line's scope by the lines before.
 pub data IsMember (word : List ℕ) : List Placed → List ℕ → Scope → Type 0 where
   Earlier : (lines : List Placed) (last : Placed) (group : List ℕ) (scope : Scope) → IsMember word lines group scope → IsMember word (lines ++ last ∷ []) group scope
   Own : (lines : List Placed) (l : PlacedLine) (group : List ℕ) (words : List (List ℕ)) (scope : Scope)

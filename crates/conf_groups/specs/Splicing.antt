@@ -19,13 +19,15 @@ use Rattle.conf_groups.specs.declared.placed.Placed.{Placed}
 use Rattle.conf_groups.specs.declared.placed.Placed.TheVariants as at
 use Rattle.conf_groups.specs.declared.limits.TheConstants.{MAX_FILES, MAX_FILE_BYTES, MAX_SPLICED_BYTES, MAX_LINES}
 
--- What is still to come: the end of a block, the lines of a file unless it was spliced before, or those of a file from a number on.
+-- What is still to come: the end of a block, the lines of a file unless it was spliced before, or those of a
+-- file from a number on.
 pub data Piece : Type 0 where
   boundary : Piece
   whole : Scope → List ℕ → Piece
   rest : Scope → List ℕ → ℕ → List (List ℕ) → Piece
 
--- What was placed so far, the files that weren't spliced yet, how many bytes may still be spliced, and what is still to come.
+-- What was placed so far, the files that weren't spliced yet, how many bytes may still be spliced, and what
+-- is still to come.
 pub record State : Type 0 where
   pub placed : List Placed
   pub unspliced : Files
@@ -86,7 +88,8 @@ refusal files full scope (Ok other) = limit full
 abbrev pub section : List ℕ → List Piece
 section file = whole (Sub (scope_of file)) file ∷ boundary ∷ []
 
--- What a statement brings before the lines that come after it. A block ends before and after each file of a subconf, and at the `subconf` line itself.
+-- What a statement brings before the lines that come after it. A block ends before and after each file of a
+-- subconf, and at the `subconf` line itself.
 abbrev pub brought : Files → Scope → Statement → List Piece
 brought unspliced scope (Include pattern) = map (whole scope) (named_by unspliced pattern)
 brought unspliced scope (Subconf pattern) = boundary ∷ flat_map section (named_by unspliced pattern)

@@ -1,4 +1,5 @@
--- The group lines of a conf by their groups, as the code keeps them: each at its place, with its members written out.
+-- The group lines of a conf by their groups, as the code keeps them: each at its place, with its members
+-- written out.
 use Rattle.std.specs.Prelude.{ℕ, List, [], ◌∷◌, ◌++◌, ◌+◌, nat_lt, ◌&&◌, if◌then◌else◌, fold, Option, Some, None}
 use Rattle.std.specs.FinMap as named
 use Rattle.base_types.specs.Names.{ByName}
@@ -27,14 +28,16 @@ abbrev pub with_line : Scope → ℕ → Option (List (List ℕ)) → GroupLine 
 with_line scope before members line =
     if nat_lt line.place before && sees scope line.scope then Some (with_items (members_in members) line.members) else members
 
--- The members that a scope sees by the lines before a place, of a group with these lines; nothing where there is no such line.
+-- The members that a scope sees by the lines before a place, of a group with these lines; nothing where there
+-- is no such line.
 abbrev pub members_by : List GroupLine → Scope → ℕ → Option (List (List ℕ))
 members_by lines scope before = fold (with_line scope before) None lines
 
 abbrev pub members_at : Lines → List ℕ → Scope → ℕ → Option (List (List ℕ))
 members_at lines group scope before = members_by (lines_of lines group) scope before
 
--- A word of a group line is a member. A group word is for the members of that group at the line, which the line's scope sees.
+-- A word of a group line is a member. A group word is for the members of that group at the line, which the
+-- line's scope sees.
 abbrev pub meaning : Lines → Scope → ℕ → List ℕ → List (List ℕ)
 meaning lines scope place word = if begins_with_at word then members_in (members_at lines word scope place) else word ∷ []
 

@@ -21,7 +21,8 @@ pub enum ConfKind {
     NoMemory,
 }
 
-/// What is wrong, and in which line of which file. Line 0 is before all lines. Out of memory has no file, and line 0.
+/// What is wrong, and in which line of which file. Line 0 is before all lines. Out of memory has no file, and
+/// line 0.
 #[derive(Drop)]
 pub struct ConfFault {
     pub kind: ConfKind,

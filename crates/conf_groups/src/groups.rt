@@ -11,8 +11,8 @@ use base_types::{ItemList, NameMap, NoMemory, Text};
 use conf_lex::{Statement, TextList};
 use std::alloc::Global;
 
-/// A group line: its place among what a conf is spliced to, its scope, and the members that it gives the group, which
-/// are its words, with the members of a group in place of a group word.
+/// A group line: its place among what a conf is spliced to, its scope, and the members that it gives the
+/// group, which are its words, with the members of a group in place of a group word.
 #[derive(Drop)]
 pub struct GroupLine {
     pub place: usize,
@@ -36,8 +36,8 @@ pub fn read_groups(alloc: Global, placed: &PlacedList) -> Result<Groups, NoMemor
     Ok(groups)
 }
 
-/// The members that a scope sees of a group by the lines before a place, or nothing where no such line names the group.
-/// The group's name begins with `@`. It costs the lines of that group.
+/// The members that a scope sees of a group by the lines before a place, or nothing where no such line names
+/// the group. The group's name begins with `@`. It costs the lines of that group.
 #[tactic(auto, using(crate::proofs::TableLemmas::table_tells))]
 pub fn members_of(
     alloc: Global,

@@ -21,8 +21,8 @@ use std::alloc::Global;
 
 /// The statements of a conf at their places, or its first fault.
 ///
-/// It costs what is spliced, and for a line that names files with `*` the comparison of that pattern with the name of
-/// each file that isn't spliced yet: mostly a few bytes, at most the product of their lengths.
+/// It costs what is spliced, and for a line that names files with `*` the comparison of that pattern with the
+/// name of each file that isn't spliced yet: mostly a few bytes, at most the product of their lengths.
 pub fn expand(alloc: Global, files: &FileList) -> Result<PlacedList, ConfFault>
     ensures { Gives result (spliced files.now) }
 {

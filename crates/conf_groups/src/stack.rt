@@ -15,7 +15,8 @@ pub(crate) struct Rest<'a> {
     ghost countable: { line + length bytes.now < 2 ^ 32 },
 }
 
-/// What is still to come: the end of a block, the lines of a file unless it was spliced before, or the rest of a file.
+/// What is still to come: the end of a block, the lines of a file unless it was spliced before, or the rest
+/// of a file.
 #[derive(Clone, Copy)]
 pub(crate) enum Coming<'a> {
     Boundary,
@@ -33,7 +34,8 @@ pub(crate) struct LineAt<'a> {
     pub text: &'a [u8],
 }
 
-/// What was placed so far, what may still be spliced, and a stack of what is to come: its last piece comes first.
+/// What was placed so far, what may still be spliced, and a stack of what is to come: its last piece comes
+/// first.
 #[derive(Drop)]
 pub(crate) struct Splicer<'a> {
     pub placed: PlacedList,

@@ -79,7 +79,8 @@ order_case false plus p P front straight turned e =
     (sym (letter_back 43 plus) ∙ ap (λ l. letter (has_letter 43 plus) 43 ++ l) (letters_from_c c h)))
     (λ none. absurd cc) e
 
--- What holds of each permission where the word is its text, or its text with `DC`, holds of what the word is read as.
+-- What holds of each permission where the word is its text, or its text with `DC`, holds of what the word is
+-- read as.
 pub by_word_cases : (word : List ℕ) (p : Perm) (P : Perm → Type 0)
     → (word ≡ codes "-" → P denies) → (word ≡ codes "R" → P reads) → (word ≡ codes "C" → P creates)
     → ((a b c d : Bool) → word ≡ codes "RW" ++ letters (writes a b c d) → P (writes a b c d))

@@ -2,7 +2,8 @@
 use Rattle.std.specs.Prelude.{ℕ, List, [], ◌∷◌, ◌++◌, ◌==◌, Bool, false, not, ◌&&◌, ◌||◌, if◌then◌else◌, length, filter}
 use Rattle.std.specs.List.{slice_split, flat_map}
 
--- 1. A `#` outside double quotes goes, and all that follows it. The first argument says whether the text begins inside quotes.
+-- 1. A `#` outside double quotes goes, and all that follows it. The first argument says whether the text
+-- begins inside quotes.
 -- A quote that isn't closed reaches to the line's end.
 abbrev pub before_comment : Bool → List ℕ → List ℕ
 before_comment quoted [] = []

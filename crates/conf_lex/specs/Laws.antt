@@ -38,8 +38,8 @@ pub record IsTurned (text word : List ℕ) : Type 0 where
 abbrev pub IsWordOf : Perm → List ℕ → Type 0
 IsWordOf p word = (word ≡ perm_text p) ⊎ IsTurned (perm_text p) word
 
--- The permission of a word is read from its text, too. A permission that is read from its text is read from all its words,
--- and a permission is read from no other word. Each kind of permission is read from its text.
+-- The permission of a word is read from its text, too. A permission that is read from its text is read from
+-- all its words, and a permission is read from no other word. Each kind of permission is read from its text.
 pub record PermTextsAreRead : Type 0 where
   pub read_back : (word : List ℕ) (p : Perm) → perm_of word ≡ Some p → perm_of (perm_text p) ≡ Some p
   pub only_its_words : (word : List ℕ) (p : Perm) → perm_of word ≡ Some p → IsWordOf p word

@@ -18,7 +18,8 @@ is_name_byte others c = is_ascii_alphanumeric c || list_any (λ d. d == c) other
 abbrev pub is_role : List ℕ → Bool
 is_role word = bytes_eq word (codes "CREATOR") || bytes_eq word (codes "READERS") || bytes_eq word (codes "WRITERS")
 
--- 1 to 64 bytes (`MAX_USER_NAME`); a letter or digit first; the others letters, digits or one of `-._@+`; none of the three words
+-- 1 to 64 bytes (`MAX_USER_NAME`); a letter or digit first; the others letters, digits or one of `-._@+`;
+-- none of the three words
 abbrev pub is_user_name : List ℕ → Bool
 is_user_name name =
     nat_le 1 (length name)
@@ -40,8 +41,8 @@ abbrev pub occurs : List ℕ → List ℕ → Bool
 occurs part [] = false
 occurs part (c ∷ rest) = starts_with nat_eq (c ∷ rest) part || occurs part rest
 
--- 1 to 200 bytes (`MAX_REPO_NAME`); a letter or digit first; the others letters, digits or one of `-._@/+`; each piece is one;
--- no `..`, no `CREATOR`, and no `.git` at the end
+-- 1 to 200 bytes (`MAX_REPO_NAME`); a letter or digit first; the others letters, digits or one of `-._@/+`;
+-- each piece is one; no `..`, no `CREATOR`, and no `.git` at the end
 abbrev pub is_repo_name : List ℕ → Bool
 is_repo_name name =
     nat_le 1 (length name)

@@ -10,11 +10,13 @@ use Rattle.conf_lex.specs.declared.repo_words.RepoWordKind.TheVariants.{Group, P
 abbrev pub without_git : List ℕ → List ℕ
 without_git word = take (length word - 4) word
 
--- A word that ends in `.git` and is a plain name without it stands for that name; every other stands for itself.
+-- A word that ends in `.git` and is a plain name without it stands for that name; every other stands for
+-- itself.
 abbrev pub repo_word : List ℕ → List ℕ
 repo_word word = if ends_with nat_eq word (codes ".git") && is_repo_name (without_git word) then without_git word else word
 
--- A word with `CREATOR` in it is a pattern. Else it is a group where it begins with `@`, plain where it is a plain name, and a pattern.
+-- A word with `CREATOR` in it is a pattern. Else it is a group where it begins with `@`, plain where it is a
+-- plain name, and a pattern.
 abbrev pub kind_of : List ℕ → RepoWordKind
 kind_of word =
     if occurs (codes "CREATOR") word then Pattern

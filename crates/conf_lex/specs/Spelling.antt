@@ -15,8 +15,8 @@ has_no_comment text = bytes_eq (before_comment false text) text
 abbrev pub between : ℕ → List ℕ → List ℕ
 between quote text = quote ∷ (text ++ quote ∷ [])
 
--- A pattern of `include` or `subconf` is spelled bare, where no comment begins in it and reading it drops nothing; between
--- single quotes, where no comment begins in it; else between double quotes.
+-- A pattern of `include` or `subconf` is spelled bare, where no comment begins in it and reading it drops
+-- nothing; between single quotes, where no comment begins in it; else between double quotes.
 abbrev pub spelled_pattern : List ℕ → List ℕ
 spelled_pattern pattern =
     if has_no_comment pattern && not (length pattern == 0) && bytes_eq (unquoted pattern) pattern then pattern

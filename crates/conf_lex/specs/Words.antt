@@ -1,4 +1,5 @@
--- Words of a line: which may be where, and the places of those that may not. A place is an offset in the cleaned line.
+-- Words of a line: which may be where, and the places of those that may not. A place is an offset in the
+-- cleaned line.
 use Rattle.std.specs.Prelude.{ℕ, Bool, false, not, ◌&&◌, ◌||◌, ◌+◌, ◌==◌, nat_lt, List, [], ◌∷◌, length, codes, Option, Some, None, if◌then◌else◌}
 use Rattle.std.specs.List.{list_any}
 use Rattle.std.specs.Str.{bytes_eq}

@@ -6,8 +6,8 @@ use base_types::{NoMemory, Text};
 use bstr::ByteSlice;
 use std::alloc::{AllocError, Global};
 
-/// The line without its comment, with a space on either side of its first `=`, and with one space for each run of
-/// white space between words. It costs the line's length, in time and in room.
+/// The line without its comment, with a space on either side of its first `=`, and with one space for each
+/// run of white space between words. It costs the line's length, in time and in room.
 pub fn clean(alloc: Global, line: &[u8]) -> Result<Text, NoMemory>
     ensures { IfOk result (λ text. text ≡ cleaned line.now) }
 {
@@ -32,8 +32,8 @@ pub(crate) fn before_comment(line: &[u8]) -> &[u8]
     line
 }
 
-/// A copy with a space on either side of the first `=`. It asks for room for four bytes more than the line has: two for
-/// the spaces, and two so that every place in the copy, and the place after it, fits 64 bits.
+/// A copy with a space on either side of the first `=`. It asks for room for four bytes more than the line
+/// has: two for the spaces, and two so that every place in the copy, and the place after it, fits 64 bits.
 pub(crate) fn spaced(alloc: Global, line: &[u8]) -> Result<Vec<u8>, AllocError>
     ensures spaced { IfOk result (λ copy. copy.items ≡ spaced line.now) }
     ensures room { IfOk result (λ copy. length copy.items + 2 < 2 ^ 64) }

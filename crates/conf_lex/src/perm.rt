@@ -24,8 +24,8 @@ pub struct Perm {
 }
 
 impl Perm {
-    /// The permission that the word is: `-`, `R`, `C`, or `RW` and any of `+`, `C`, `D` and `M` in this order, or with
-    /// `D` before `C`.
+    /// The permission that the word is: `-`, `R`, `C`, or `RW` and any of `+`, `C`, `D` and `M` in this
+    /// order, or with `D` before `C`.
     pub fn parse(word: &[u8]) -> Option<Perm>
         ensures { result ≡ perm_of word.now }
     {

@@ -13,7 +13,8 @@ use crate::{LexFault, Perm, Statement, TextList};
 use base_types::{NoMemory, Text};
 use std::alloc::Global;
 
-/// What the line says, by the table of `docs/CONF.md`, or its first fault. It costs the line's length, in time and in room.
+/// What the line says, by the table of `docs/CONF.md`, or its first fault. It costs the line's length, in
+/// time and in room.
 #[tactic(auto, using(crate::proofs::WordLemmas::words_of_cleaned, crate::proofs::PlaceLemmas::place_after_pieces))]
 pub fn read_line(alloc: Global, line: &[u8]) -> Result<Statement, LexFault>
     ensures { IsDue result (statement line.now) }
@@ -149,7 +150,8 @@ fn bad_in_rule(perm: &[u8], refexes: &[&[u8]], users: &[&[u8]]) -> Option<u64>
     }
 }
 
-/// The first bad word of users that begin at this place; where there are none, the place before, which is the line's length.
+/// The first bad word of users that begin at this place; where there are none, the place before, which is the
+/// line's length.
 fn bad_user(start: u64, users: &[&[u8]]) -> Option<u64>
     requires positive { 0 < start }
     requires room { start + place_after (map (λ w. w.now) users.now) < 2 ^ 64 }

@@ -37,7 +37,8 @@ impl Model for RepoName {
 }
 
 impl RepoName {
-    /// The name of these bytes, which are copied, or none where they break a rule. It costs at most 200 bytes.
+    /// The name of these bytes, which are copied, or none where they break a rule. It costs at most 200
+    /// bytes.
     pub fn parse(alloc: Global, text: &[u8]) -> Result<Option<RepoName>, NoMemory>
         ensures { IfOk result (λ r. r ≡ (if is_repo_name text.now then Some text.now else None)) }
     {

@@ -17,7 +17,8 @@ pub enum RepoWordKind {
     Pattern,
 }
 
-/// The word that this word stands for: `name.git` stands for `name`, where that is a plain name. It costs the word's length and takes no memory.
+/// The word that this word stands for: `name.git` stands for `name`, where that is a plain name. It costs the
+/// word's length and takes no memory.
 pub fn repo_word(word: &[u8]) -> &[u8]
     ensures { result.now ≡ repo_word word.now }
 {
@@ -28,7 +29,8 @@ pub fn repo_word(word: &[u8]) -> &[u8]
     if RepoName::is_name(name) { name } else { word }
 }
 
-/// What kind of word it is, once `repo_word` has dropped its ending. It costs the word's length and takes no memory.
+/// What kind of word it is, once `repo_word` has dropped its ending. It costs the word's length and takes no
+/// memory.
 pub fn kind_of(word: &[u8]) -> RepoWordKind
     ensures { result ≡ kind_of word.now }
 {

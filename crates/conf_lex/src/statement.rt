@@ -14,7 +14,8 @@ pub enum Statement {
     Repo {
         words: TextList,
     },
-    /// These users have this permission for the refs that match one of these patterns, or for all where there is no pattern.
+    /// These users have this permission for the refs that match one of these patterns, or for all where there
+    /// is no pattern.
     Rule {
         perm: Perm,
         refexes: TextList,

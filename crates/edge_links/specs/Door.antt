@@ -41,8 +41,8 @@ abbrev pub IsEmptyList : {L : Type 0} → Option (List L) → Type 0
 IsEmptyList None = ⊤
 IsEmptyList (Some xs) = xs ≡ []
 
--- `Link` is the first of the links left, and is out from then on; `Closed` comes only where none is left, and alone
--- makes it true that the door has closed; the count rose where `Failed` came, and nowhere else.
+-- `Link` is the first of the links left, and is out from then on; `Closed` comes only where none is left, and
+-- alone makes it true that the door has closed; the count rose where `Failed` came, and nowhere else.
 abbrev pub Gives : {L : Type 0} → DoorState L → DoorState L → Next L → Type 0
 Gives old new (next.Link link) = LosesFirst old.left new.left link × (new.closed ≡ old.closed) × (new.out ≡ true) × (new.faults ≡ old.faults)
 Gives old new next.Closed = IsEmptyList old.left × KeepsList old.left new.left × (new.closed ≡ true) × (new.out ≡ old.out) × (new.faults ≡ old.faults)
@@ -54,7 +54,8 @@ pub record Answers {L : Type 0} (old new : DoorState L) (result : Next L) : Type
   pub served : KeepsList old.served new.served
   pub faults : old.faults ≤ new.faults
 
--- What one call of `done` did: the link is the last of those served. Nothing is said of whether a link is out.
+-- What one call of `done` did: the link is the last of those served. Nothing is said of whether a link is
+-- out.
 pub record TakesBack {L : Type 0} (old new : DoorState L) (link : L) : Type 0 where
   pub served : GainsLast old.served new.served link
   pub left : KeepsList old.left new.left

@@ -1,7 +1,8 @@
--- What a TCP connection and a listener are to contracts. Of the bytes and of the links that will come they tell nothing.
+-- What a TCP connection and a listener are to contracts. Of the bytes and of the links that will come they
+-- tell nothing.
 use Rattle.std.specs.Prelude.{ℕ, ◌==◌, Bool, true, false, not, is_some, None}
 use Rattle.base_types.specs.Counts.{one_more}
-use Rattle.pktline_core.specs.LinkState.{LinkState}
+use Rattle.pktline_core.specs.LinkState.{LinkState, Whole}
 use Rattle.edge_links.specs.Door.{DoorState}
 use Rattle.edge_links.specs.declared.door.Next.{Next}
 use Rattle.edge_links.specs.declared.door.Next.TheVariants as next
@@ -17,6 +18,8 @@ socket_state given read_faults write_faults = record {
   write_faults = write_faults;
   may_lack = false;
   may_fail = true;
+  tells = false;
+  limits = Whole;
 }
 
 -- a listener's door that failed so often, with so many links out; it never closes

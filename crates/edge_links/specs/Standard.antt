@@ -2,7 +2,7 @@
 use Rattle.std.specs.Prelude.{ℕ, true, false, List, None}
 use Rattle.std.specs.declared.option.Option.{Option}
 use Rattle.base_types.specs.Counts.{one_more}
-use Rattle.pktline_core.specs.LinkState.{LinkState}
+use Rattle.pktline_core.specs.LinkState.{LinkState, Whole}
 use Rattle.pktline_core.specs.declared.links.Taken.{Taken}
 use Rattle.pktline_core.specs.declared.links.Taken.TheVariants as taken
 use Rattle.pktline_core.specs.declared.links.Put.{Put}
@@ -18,6 +18,8 @@ reader_state left given faults = record {
   write_faults = 0;
   may_lack = false;
   may_fail = true;
+  tells = false;
+  limits = Whole;
 }
 
 -- a writer with these bytes written, where it tells them, that has failed so often
@@ -30,6 +32,8 @@ writer_state written faults = record {
   write_faults = faults;
   may_lack = false;
   may_fail = true;
+  tells = false;
+  limits = Whole;
 }
 
 -- the count of faults after a read with this answer

@@ -6,8 +6,8 @@ use std::net::TcpStream;
 // How often in a row a signal may interrupt a read or a write.
 const MOST_SIGNALS: u32 = 1024;
 
-// A TCP connection whose reads and writes are made again where a signal came between. A call that has a time limit is
-// interrupted whenever the process is stopped and goes on.
+// A TCP connection whose reads and writes are made again where a signal came between. A call that has a time
+// limit is interrupted whenever the process is stopped and goes on.
 #[derive(Drop)]
 pub(crate) struct Connection {
     pub(crate) stream: TcpStream,

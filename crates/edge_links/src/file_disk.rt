@@ -14,8 +14,9 @@ const MAX_BYTES: u64 = (1 << 63) - 1;
 
 /// A file of the system as a disk. It tells its length and its failed calls, and nothing of its bytes.
 ///
-/// While it is open the file is locked, so that no other `FileDisk` has it, in this process or in another. A call that a
-/// signal interrupts is made again; each other error is a fault. A write that failed may have been made in part.
+/// While it is open the file is locked, so that no other `FileDisk` has it, in this process or in another. A
+/// call that a signal interrupts is made again; each other error is a fault. A write that failed may have
+/// been made in part.
 #[derive(Drop)]
 pub struct FileDisk {
     file: Option<File>,
@@ -25,8 +26,8 @@ pub struct FileDisk {
 }
 
 impl FileDisk {
-    /// The file at a path, which is made where it isn't there. Its folder is synced too, so that a crash can't take the
-    /// file's name away.
+    /// The file at a path, which is made where it isn't there. Its folder is synced too, so that a crash
+    /// can't take the file's name away.
     ///
     /// An error is the system's; that another program has the file open is of the kind `WouldBlock`.
     pub fn open<R: Files<File = File>>(files: &R, path: &str) -> io::Result<FileDisk>

@@ -25,9 +25,9 @@ pub struct MemoryDoor<L> {
 impl<L: Drop> MemoryDoor<L> {
     ghost use Rattle.edge_links.specs.MemoryDoorViews.{door_of};
 
-    /// A door that gives these links in their order, and then is closed. It fails at the calls of `next` whose
-    /// numbers, from 0, are listed. The room for the links that are served is taken here, and no call takes more.
-    /// `NoMemory` says that this room wasn't given.
+    /// A door that gives these links in their order, and then is closed. It fails at the calls of `next`
+    /// whose numbers, from 0, are listed. The room for the links that are served is taken here, and no call
+    /// takes more. `NoMemory` says that this room wasn't given.
     pub fn new(alloc: Global, links: Vec<L>, failing: Vec<u64>) -> Result<MemoryDoor<L>, NoMemory>
         ensures { IfOk result (λ door. door_of door ≡ new_door links.items failing.items) }
     {

@@ -1,5 +1,7 @@
 // The standard input and the standard output, as the two halves of a link.
-ghost use Rattle.std.specs.Prelude.{◌≡◌, ◌<◌, ◌≤◌, ◌^◌, length};
+ghost use Rattle.std.specs.Prelude.{◌≡◌, ◌<◌, ◌≤◌, ◌^◌, ◌||◌, length};
+ghost use Rattle.std.specs.Option.{is_some};
+ghost use Rattle.std.proofs.Common.{ap};
 ghost use Rattle.base_types.specs.Counts.{one_more};
 ghost use Rattle.pktline_core.specs.Links.{Takes, Puts, IsLater, KeepsReading, KeepsWriting};
 ghost use Rattle.edge_links.specs.Standard.{reader_state, writer_state, faults_after_take, faults_after_put};
@@ -10,8 +12,8 @@ use std::io::{Read, Stdin, Stdout, Write};
 // A source gives fewer bytes than 2^63 in all.
 const MOST_GIVEN: u64 = (1 << 63) - 1;
 
-/// The standard input, or another reader in its place. It tells of the bytes what its reader tells, which of the
-/// standard input is nothing.
+/// The standard input, or another reader in its place. It tells of the bytes what its reader tells, which of
+/// the standard input is nothing.
 ///
 /// A read of 0 bytes is the end, and each error is a fault. So is each call after 2^63 - 1 bytes.
 #[derive(Drop)]
@@ -49,6 +51,8 @@ impl<R: Read> StdSource<R> {
 
 impl<R: Read> Endpoint for StdSource<R> {
     ghost state = { λ s. reader_state (R.remaining s.input) s.given s.faults };
+
+    ghost telling = { λ s tells. ap (λ b. b || is_some (R.remaining s.input)) tells };
 }
 
 impl<R: Read> Source for StdSource<R> {
@@ -77,11 +81,11 @@ impl<R: Read> Source for StdSource<R> {
     ghost given_below = { λ s. s.given_below };
 }
 
-/// The standard output, or another writer in its place. It tells of the bytes what its writer tells, which of the
-/// standard output is nothing.
+/// The standard output, or another writer in its place. It tells of the bytes what its writer tells, which of
+/// the standard output is nothing.
 ///
-/// Each call of `put` is one write to the system, so that nothing has to be flushed. An error is a fault, and so is
-/// a write that takes 0 bytes.
+/// Each call of `put` is one write to the system, so that nothing has to be flushed. An error is a fault, and
+/// so is a write that takes 0 bytes.
 #[derive(Drop)]
 pub struct StdSink<W = Stdout> {
     pub(crate) output: W,
@@ -110,6 +114,8 @@ impl<W: Write> StdSink<W> {
 
 impl<W: Write> Endpoint for StdSink<W> {
     ghost state = { λ s. writer_state (W.contents s.output) s.faults };
+
+    ghost telling = { λ s tells. tells };
 }
 
 impl<W: Write> Sink for StdSink<W> {

@@ -13,11 +13,12 @@ use std::net::TcpListener;
 // How many connections in a row may be left out before `next` has failed.
 const MOST_LEFT_OUT: u32 = 1024;
 
-/// A door through which the connections of a TCP listener come. Several doors may share one listener, each in a thread
-/// of its own. It tells nothing of the links that will come, and it never closes.
+/// A door through which the connections of a TCP listener come. Several doors may share one listener, each in
+/// a thread of its own. It tells nothing of the links that will come, and it never closes.
 ///
-/// A connection whose client is gone before it is accepted, and one of which no link can be made, are left out: `next`
-/// waits for another. It fails where the system accepts none, and where 1,024 in a row were left out.
+/// A connection whose client is gone before it is accepted, and one of which no link can be made, are left
+/// out: `next` waits for another. It fails where the system accepts none, and where 1,024 in a row were left
+/// out.
 #[derive(Drop)]
 pub struct TcpDoor<'a> {
     alloc: Global,
@@ -27,8 +28,8 @@ pub struct TcpDoor<'a> {
 }
 
 impl<'a> TcpDoor<'a> {
-    /// A door of this listener. Without one, as where its address is taken, each call of `next` fails. It takes no
-    /// memory; each link takes its buffers.
+    /// A door of this listener. Without one, as where its address is taken, each call of `next` fails. It
+    /// takes no memory; each link takes its buffers.
     pub fn new(alloc: Global, listener: Option<&'a TcpListener>) -> TcpDoor<'a>
         ensures state { ⟦<TcpDoor<'a> as Door<TcpLink>>⟧.state result ≡ listener_state 0 0 }
         ensures listener { has_listener result ≡ is_some listener.entry }
@@ -61,8 +62,8 @@ impl<'a> TcpDoor<'a> {
     }
 }
 
-// Whether this error of an `accept` is of the connection that was to be accepted. The system has then taken it off
-// its queue, and may accept the next.
+// Whether this error of an `accept` is of the connection that was to be accepted. The system has then taken
+// it off its queue, and may accept the next.
 fn is_of_one_connection(error: &io::Error) -> bool {
     matches!(
         error.kind(),

@@ -13,26 +13,28 @@ use std::io::{BufRead, BufReader, BufWriter, Write};
 use std::net::{Shutdown, TcpStream};
 use std::time::Duration;
 
-// How many bytes are read ahead, and how many are gathered before they are sent: room for a packet of the greatest length,
-// so that its length and its payload go out together.
+// How many bytes are read ahead, and how many are gathered before they are sent: room for a packet of the
+// greatest length, so that its length and its payload go out together.
 const BUFFER: usize = 65_536;
 
-// For how many seconds a client may send nothing that is waited for, or take nothing that is sent. Then the read or the
-// write has failed.
+// For how many seconds a client may send nothing that is waited for, or take nothing that is sent. Then the
+// read or the write has failed.
 const SESSION_SILENCE: u64 = 60;
 
 // For how many seconds a client may send nothing once its session is over.
 const CLOSING_SILENCE: u64 = 2;
 
-// How often is read on once a session is over. A read takes at most `BUFFER` bytes, so 16 MiB are read on at most.
+// How often is read on once a session is over. A read takes at most `BUFFER` bytes, so 16 MiB are read on at
+// most.
 const MOST_READS_ON: u32 = 256;
 
 /// A TCP connection as a link. It tells nothing of the bytes.
 ///
-/// What is put is gathered, and goes out together: before the connection is read again, once 64 KiB are full, and at
-/// `close`. So `Took` says that the link has the bytes, as the system's own buffer would have them. Where they can't be
-/// sent, the call that had to send them has failed, be it a `put` or a `take`, and so does each call from then on. A
-/// `take` tells this by its own count, since it leaves the count of failed writes as it is.
+/// What is put is gathered, and goes out together: before the connection is read again, once 64 KiB are full,
+/// and at `close`. So `Took` says that the link has the bytes, as the system's own buffer would have them.
+/// Where they can't be sent, the call that had to send them has failed, be it a `put` or a `take`, and so
+/// does each call from then on. A `take` tells this by its own count, since it leaves the count of failed
+/// writes as it is.
 ///
 /// Where a client sends nothing, or takes nothing, for a minute, the read or the write has failed.
 #[derive(Drop)]
@@ -43,8 +45,8 @@ pub struct TcpLink {
 }
 
 impl TcpLink {
-    /// A link over a connection. An error is the system's, which gave no second handle of it or refused an option, or
-    /// says that there is no memory for the two buffers. The connection is then closed.
+    /// A link over a connection. An error is the system's, which gave no second handle of it or refused an
+    /// option, or says that there is no memory for the two buffers. The connection is then closed.
     pub fn new(alloc: Global, stream: TcpStream) -> io::Result<TcpLink>
         ensures { IfOk result (λ link. ⟦<TcpLink as Endpoint>⟧.state link ≡ socket_state 0 0 0) }
     {
@@ -76,11 +78,12 @@ impl TcpLink {
         !self.broken
     }
 
-    /// Ends the connection: sends what is gathered, says that nothing more will come, and reads on for a while what the
-    /// client still sends. If unread bytes were left, the system would reset the connection, and the client might never
-    /// see the last reply. It returns once the client has closed its side, was silent for two seconds, or has sent as
-    /// much as is read on. Where a read has failed nothing is read on, and where bytes couldn't be sent, now or before, the
-    /// connection is closed at once. Of bytes that can't be sent here nothing tells.
+    /// Ends the connection: sends what is gathered, says that nothing more will come, and reads on for a
+    /// while what the client still sends. If unread bytes were left, the system would reset the connection,
+    /// and the client might never see the last reply. It returns once the client has closed its side, was
+    /// silent for two seconds, or has sent as much as is read on. Where a read has failed nothing is read on,
+    /// and where bytes couldn't be sent, now or before, the connection is closed at once. Of bytes that can't
+    /// be sent here nothing tells.
     pub fn close(mut self) {
         if !self.send() {
             // without a further try to send them, which would wait again
@@ -110,6 +113,8 @@ impl TcpLink {
 
 impl Endpoint for TcpLink {
     ghost state = { λ l. socket_state l.source.given l.source.faults l.sink.faults };
+
+    ghost telling = { λ l tells. tells };
 }
 
 impl Source for TcpLink {

@@ -1,4 +1,5 @@
--- An event as the body of a record: the caller in eight bytes, a byte that says what was asked, and what it was asked with.
+-- An event as the body of a record: the caller in eight bytes, a byte that says what was asked, and what it
+-- was asked with.
 use Rattle.std.specs.Prelude.{◌≡◌, ℕ, ◌≤◌, ◌<◌, ◌^◌, Bool, true, false, List, [], ◌∷◌, ◌++◌, length}
 use Rattle.std.specs.List.{AllByRecursion}
 use Rattle.std.specs.Int.{w64, to_be_bytes}
@@ -36,7 +37,8 @@ request_bytes (Look user) = 4 ∷ text_bytes user
 abbrev pub body_of : ℕ → Request → List ℕ
 body_of caller request = to_be_bytes w64 caller ++ request_bytes request
 
--- the commands of a push as the hub takes them, of which there may be none: at most 10,000, each with a text of at most 1,024 bytes for its ref
+-- the commands of a push as the hub takes them, of which there may be none: at most 10,000, each with a text
+-- of at most 1,024 bytes for its ref
 pub record AreStorable (commands : List Command) : Type 0 where
   pub few : length commands ≤ 10000
   pub short : AllByRecursion (λ (c : Command). length c.name ≤ 1024) commands

@@ -135,7 +135,8 @@ fn body_at(alloc: Global, bytes: &[u8]) -> Result<CallerRequest, BodyFault>
     Ok(CallerRequest { caller, request })
 }
 
-/// Reads the body of a record as a request and its caller. The objects of a push are copied, and their names computed.
+/// Reads the body of a record as a request and its caller. The objects of a push are copied, and their names
+/// computed.
 pub fn read_body(alloc: Global, bytes: &[u8]) -> Result<CallerRequest, BodyFault>
     // What is read can be stored, and its body is these bytes.
     ensures found { IfOk result (λ r. IsStorable r.caller (asked r.request) × (bytes.now ≡ body_of r.caller (asked r.request))) }

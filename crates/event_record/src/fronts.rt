@@ -5,8 +5,8 @@ ghost use Rattle.event_record.specs.Fronts.{place_at};
 /// How many bytes of a body say whether it is a push's, and after which opening.
 pub const PUSH_FRONT: usize = 17;
 
-/// The place of the opening that a push is after, of the first 17 bytes of its body or more, and nothing of any other
-/// body.
+/// The place of the opening that a push is after, of the first 17 bytes of its body or more, and nothing of
+/// any other body.
 pub fn push_place(front: &[u8]) -> Option<u64>
     ensures { result ≡ place_at front.now }
 {

@@ -5,7 +5,8 @@ use Rattle.std.specs.Option.{option_map}
 use Rattle.git_object.specs.Tree.{Entry, entry_of, is_directory, sorts_below}
 use Rattle.git_object.specs.declared.tree.Before.{Before}
 
--- the names of what is no directory, in the order in which they were read; of the entries the nearest comes first
+-- the names of what is no directory, in the order in which they were read; of the entries the nearest comes
+-- first
 abbrev pub file_names : List Entry → List (List ℕ)
 file_names [] = []
 file_names (e ∷ es) = if is_directory e then file_names es else file_names es ++ e.name ∷ []

@@ -1,5 +1,5 @@
--- The form of a commit, after Git's documentation of commit objects: a tree's line, any number of parents' lines, and then any bytes
--- that don't begin as another parent's line does.
+-- The form of a commit, after Git's documentation of commit objects: a tree's line, any number of parents'
+-- lines, and then any bytes that don't begin as another parent's line does.
 use Rattle.std.specs.Prelude.{ℕ, ◌-◌, if◌then◌else◌, List, [], length, Option, Some, None, is_some, codes}
 use Rattle.std.specs.Option.{option_map_or}
 use Rattle.git_object.specs.Reader.{literal, items, behind}

@@ -24,7 +24,8 @@ fault_of Tree body = option_map BadTree (tree_break body)
 fault_of Blob body = None
 fault_of Tag body = option_map BadTag (tag_break body)
 
--- what a name is the SHA-1 of: the kind's word, a space, the length of the body in decimal, a zero byte, the body
+-- what a name is the SHA-1 of: the kind's word, a space, the length of the body in decimal, a zero byte, the
+-- body
 abbrev pub named_bytes : Content → List ℕ
 named_bytes o = kind_word o.kind ++ 32 ∷ [] ++ decimal (length o.body) ++ 0 ∷ [] ++ o.body
 
@@ -48,7 +49,8 @@ pub record IsPackable (content : Content) : Type 0 where
   pub short : length content.body ≤ 16777216
   pub form : fault_of content.kind content.body ≡ None
 
--- one pack may bring these objects: at most 100,000, each of its kind's form, whose bodies have at most 268,435,456 bytes together
+-- one pack may bring these objects: at most 100,000, each of its kind's form, whose bodies have at most
+-- 268,435,456 bytes together
 pub record FitOnePack (objects : List Content) : Type 0 where
   pub few : length objects ≤ 100000
   pub formed : All IsPackable objects
@@ -75,7 +77,8 @@ target_in Tree body = None
 target_in Blob body = None
 target_in Tag body = target_of body
 
--- the link of an entry: to a tree for a directory, none for a commit of another repository, to a blob for the others
+-- the link of an entry: to a tree for a directory, none for a commit of another repository, to a blob for the
+-- others
 abbrev pub entry_link : Entry → Option (ObjectId × Kind)
 entry_link e =
     if bytes_eq e.mode (codes "160000") then None
@@ -86,7 +89,8 @@ entry_link e =
 abbrev pub commit_links : List ObjectId → List (ObjectId × Kind)
 commit_links ids = map (λ id. (id, Commit)) ids
 
--- the links of an object, each an id and the kind that it wants: a commit's tree and then its parents, what a tree's entries and a tag name
+-- the links of an object, each an id and the kind that it wants: a commit's tree and then its parents, what a
+-- tree's entries and a tag name
 abbrev pub links_of : Kind → List ℕ → List (ObjectId × Kind)
 links_of Commit body = option_map_or (λ tree. (tree.0, Tree) ∷ commit_links (parent_ids body)) (tree_line body) []
 links_of Tree body = filter_map entry_link (items tree_entry body)

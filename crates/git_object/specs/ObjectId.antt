@@ -19,7 +19,8 @@ hex_of id = encode_lower id.bytes
 abbrev pub id_from : List ℕ → ObjectId
 id_from bytes = record { bytes = bytes }
 
--- the id that a text of forty lower-case digits stands for, two digits for a byte; no other text stands for one
+-- the id that a text of forty lower-case digits stands for, two digits for a byte; no other text stands for
+-- one
 unfoldable pub id_of_hex : List ℕ → Option ObjectId
 id_of_hex text =
     if list_all is_lower_digit text

@@ -30,7 +30,8 @@ module _ {A : Type 0} (read : List ℕ → Option (A × List ℕ)) where
   behind_within zero bytes = bytes
   behind_within (suc n) bytes = option_map_or (λ found. behind_within n found.1) (read bytes) bytes
 
-  -- all that a reader finds one after another at the front: each takes a byte at least, so there are no more of them than bytes
+  -- all that a reader finds one after another at the front: each takes a byte at least, so there are no more
+  -- of them than bytes
   abbrev pub items : List ℕ → List A
   items bytes = items_within (length bytes) bytes
 

@@ -92,8 +92,8 @@ abbrev pub nearest_first : List Entry → List Entry → List Entry
 nearest_first before [] = before
 nearest_first before (e ∷ es) = nearest_first (e ∷ before) es
 
--- the first entry of a tree that breaks the form begins here: behind whole entries in order stands something that is no
--- entry which may stand there
+-- the first entry of a tree that breaks the form begins here: behind whole entries in order stands something
+-- that is no entry which may stand there
 pub record BreaksTree (body : List ℕ) (at : ℕ) : Type 0 where
   pub entries : List Entry
   pub rest : List ℕ

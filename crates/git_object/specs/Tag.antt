@@ -1,4 +1,5 @@
--- The form of an annotated tag, after Git's documentation of tag objects: the line of the object, the line of its kind, and then any bytes.
+-- The form of an annotated tag, after Git's documentation of tag objects: the line of the object, the line of
+-- its kind, and then any bytes.
 use Rattle.std.specs.Prelude.{ℕ, List, Option, Some, None, is_some, codes, if◌then◌else◌}
 use Rattle.std.specs.Option.{option_map_or}
 use Rattle.git_object.specs.Reader.{◌>>=◌, literal, up_to}

@@ -18,7 +18,8 @@ pub record Entry : Type 0 where
 abbrev pub entry_of : TreeEntry → Entry
 entry_of e = record { mode = e.mode.now; name = e.name.now; id = e.id }
 
--- a directory; a file, one that its group may write, one that can be run; a symbolic link; a commit of another repository
+-- a directory; a file, one that its group may write, one that can be run; a symbolic link; a commit of
+-- another repository
 abbrev pub is_mode : List ℕ → Bool
 is_mode mode =
     bytes_eq mode (codes "40000")
@@ -62,8 +63,8 @@ abbrev pub may_follow : List Entry → Entry → Bool
 may_follow [] e = true
 may_follow (nearest ∷ others) e = sorts_below nearest e && not (list_any (λ f. bytes_eq f.name e.name) (nearest ∷ others))
 
--- where the first entry that breaks the form begins, among entries from a place on that are followed by `rest`:
--- an entry that may not stand behind those before it, or else what isn't a whole entry
+-- where the first entry that breaks the form begins, among entries from a place on that are followed by
+-- `rest`: an entry that may not stand behind those before it, or else what isn't a whole entry
 abbrev pub first_break : List Entry → ℕ → List Entry → List ℕ → Option ℕ
 first_break before at [] [] = None
 first_break before at [] (_ ∷ _) = Some at

@@ -7,8 +7,8 @@ use std::alloc::{AllocError, AllocFailed};
 use std::error::Error;
 use std::fmt;
 
-/// Why bytes are no body of a kind. The number is where the first line or entry that breaks the form begins, counted
-/// in bytes from the body's first.
+/// Why bytes are no body of a kind. The number is where the first line or entry that breaks the form begins,
+/// counted in bytes from the body's first.
 #[derive(Clone, Copy, Debug, PartialEq, Eq)]
 pub enum ObjFault {
     BadCommit(u32),

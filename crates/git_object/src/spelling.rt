@@ -1,4 +1,5 @@
-// The forms as they are read and the forms as they are written out are one. Each function's contract is a law; its body is empty.
+// The forms as they are read and the forms as they are written out are one. Each function's contract is a
+// law; its body is empty.
 ghost use Rattle.std.specs.Prelude.{◌≡◌, ◌∷◌, ℕ, List, None, Some};
 ghost use Rattle.git_object.specs.Object.{commit_links, entries_of, fault_of, links_of, parents_of, target_in};
 ghost use Rattle.git_object.specs.Tree.{Entry};
@@ -9,8 +10,9 @@ ghost use Rattle.git_object.specs.declared.kind.Kind.TheVariants.{Commit, Tree, 
 
 use crate::fault::ObjFault;
 
-/// A body without a fault is a commit of its parents, what is written as a commit of a tree and of parents has no fault,
-/// has those parents and links to those objects, and a fault is told where the first line that breaks the form begins.
+/// A body without a fault is a commit of its parents, what is written as a commit of a tree and of parents
+/// has no fault, has those parents and links to those objects, and a fault is told where the first line that
+/// breaks the form begins.
 pub fn commits_are_as_written()
     ensures read { (body : List ℕ) → fault_of Commit body ≡ None →
         (tree : ObjectId) × (rest : List ℕ) × IsCommit body tree (parents_of Commit body) rest }
@@ -19,8 +21,8 @@ pub fn commits_are_as_written()
     ensures broken { (body : List ℕ) (at : ℕ) → fault_of Commit body ≡ Some (ObjFault.BadCommit at) → BreaksCommit body at }
 {}
 
-/// A body without a fault is a tree of its entries, what is written as a tree of entries has no fault and those entries,
-/// and a fault is told where the first entry that breaks the form begins.
+/// A body without a fault is a tree of its entries, what is written as a tree of entries has no fault and
+/// those entries, and a fault is told where the first entry that breaks the form begins.
 pub fn trees_are_as_written()
     ensures read { (body : List ℕ) → fault_of Tree body ≡ None → IsTree body (entries_of Tree body) }
     ensures written { (body : List ℕ) (entries : List Entry) → IsTree body entries →
@@ -28,8 +30,8 @@ pub fn trees_are_as_written()
     ensures broken { (body : List ℕ) (at : ℕ) → fault_of Tree body ≡ Some (ObjFault.BadTree at) → BreaksTree body at }
 {}
 
-/// A body without a fault is a tag of some object, what is written as a tag of an object has no fault and names that
-/// object, and a fault is told where the first line that breaks the form begins.
+/// A body without a fault is a tag of some object, what is written as a tag of an object has no fault and
+/// names that object, and a fault is told where the first line that breaks the form begins.
 pub fn tags_are_as_written()
     ensures read { (body : List ℕ) → fault_of Tag body ≡ None →
         (id : ObjectId) × (kind : Kind) × (rest : List ℕ) × (body ≡ spelled_tag id kind rest) × IsId id }

@@ -140,8 +140,8 @@ fn sorts_below(first: &TreeEntry<'_>, second: &TreeEntry<'_>) -> bool
     first_key.cmp(second_key).is_lt()
 }
 
-// What the check of a tree keeps of the entries before: the nearest, and the names of the files, which ascend. Only a directory may sort above an
-// entry of its own name, and that is a file.
+// What the check of a tree keeps of the entries before: the nearest, and the names of the files, which
+// ascend. Only a directory may sort above an entry of its own name, and that is a file.
 #[derive(Drop)]
 struct Before<'a> {
     nearest: Option<TreeEntry<'a>>,

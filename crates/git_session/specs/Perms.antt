@@ -38,14 +38,16 @@ answer_lines roles answer.Listed = map role_line roles
 unfoldable pub perms_reply : List RoleEntry → PermsKept → List ℕ
 perms_reply roles kept = flat_map packet (answer_lines roles kept) ++ spelling Flush
 
--- The answer that an entry records for roles. Another entry, which a request for roles never makes, is taken as one of a repository without creator.
+-- The answer that an entry records for roles. Another entry, which a request for roles never makes, is taken
+-- as one of a repository without creator.
 abbrev pub recorded_perms : Event → PermsKept
 recorded_perms (Entered user repo want kept) = answer.NotWild
 recorded_perms (Pushed place pack commands atomic outcomes made) = answer.NotWild
 recorded_perms (Permitted user repo change kept) = kept
 recorded_perms (Looked user) = answer.NotWild
 
--- the answer that the entry records, with the roles as they were just before it; the admin is the one from whose setup the log is legal
+-- the answer that the entry records, with the roles as they were just before it; the admin is the one from
+-- whose setup the log is legal
 unfoldable pub permitting : Name → Name → Name → PermChange → Interaction SessionEnd (Unit {0})
 permitting admin user repo change = do
   own ← ask (Permit user repo change)

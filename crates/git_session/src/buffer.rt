@@ -4,7 +4,9 @@ ghost use Rattle.std.specs.Prelude.{◌≡◌, IfOk, false};
 use pktline_core::{NoMemory, PktReader};
 use std::alloc::Global;
 
-/// What sessions that come one after the other read their packets into. The first of them takes the memory for it, 65,516 bytes, and leaves it to those behind it. What a session reads and writes doesn't depend on the sessions before it, with one exception: a session that finds a buffer can't run out of memory for it.
+/// What sessions that come one after the other read their packets into. The first of them takes the memory
+/// for it, 65,516 bytes, and leaves it to those behind it. What a session reads and writes doesn't depend on
+/// the sessions before it, with one exception: a session that finds a buffer can't run out of memory for it.
 #[derive(Drop)]
 pub struct SessionBuffer {
     // None while a session reads, and until there was memory for one.

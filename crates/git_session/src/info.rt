@@ -1,11 +1,11 @@
 // A listing of what there is to see.
-ghost use Rattle.std.specs.Prelude.{◌≡◌, ◌≤◌, length, map, IfOk};
+ghost use Rattle.std.specs.Prelude.{◌≡◌, ◌≤◌, [], length, map, IfOk};
 ghost use Rattle.std.specs.List.{flat_map};
-ghost use Rattle.hub.specs.Desk.{DeskView};
 ghost use Rattle.interaction_tree.specs.Interaction.{write};
-ghost use Rattle.interaction_tree.specs.Runs.{Runs};
 ghost use Rattle.session_core.specs.End.{TellsLink, outcome_of};
+ghost use Rattle.session_core.specs.Gate.{LetsIn};
 ghost use Rattle.session_core.specs.Packets.{packet};
+ghost use Rattle.session_core.specs.Parts.{RunsLink};
 ghost use Rattle.session_core.specs.Rulebook.{RunsByRulebook};
 ghost use Rattle.git_session.specs.Info.{hello, info_reply, look_line, looking};
 
@@ -28,7 +28,7 @@ fn hello_text(alloc: Global, user: &UserName) -> Result<Vec<u8>, AllocError>
 }
 
 fn say_hello<L: Link>(alloc: Global, link: &mut L, user: &UserName) -> Result<(), SessionEnd>
-    ensures runs { (desk : DeskView) → Runs (L.state link.old) (L.state link.new) desk desk (write (packet (hello user.now))) (outcome_of result) }
+    ensures runs { RunsLink (L.state link.old) (L.state link.new) (write (packet (hello user.now))) result }
     ensures tells { TellsLink (L.state link.old) (L.state link.new) result }
 {
     let text = hello_text(alloc, user)?;
@@ -36,7 +36,7 @@ fn say_hello<L: Link>(alloc: Global, link: &mut L, user: &UserName) -> Result<()
 }
 
 fn say_line<L: Link>(alloc: Global, link: &mut L, line: &LookLine) -> Result<(), SessionEnd>
-    ensures runs { (desk : DeskView) → Runs (L.state link.old) (L.state link.new) desk desk (write (packet (look_line line.now))) (outcome_of result) }
+    ensures runs { RunsLink (L.state link.old) (L.state link.new) (write (packet (look_line line.now))) result }
     ensures tells { TellsLink (L.state link.old) (L.state link.new) result }
 {
     let text = line_text(alloc, line)?;
@@ -44,7 +44,7 @@ fn say_line<L: Link>(alloc: Global, link: &mut L, line: &LookLine) -> Result<(),
 }
 
 fn say_lines<L: Link>(alloc: Global, link: &mut L, lines: &LookList) -> Result<(), SessionEnd>
-    ensures runs { (desk : DeskView) → Runs (L.state link.old) (L.state link.new) desk desk (write (flat_map packet (map look_line lines.now))) (outcome_of result) }
+    ensures runs { RunsLink (L.state link.old) (L.state link.new) (write (flat_map packet (map look_line lines.now))) result }
     ensures tells { TellsLink (L.state link.old) (L.state link.new) result }
 {
     for line in lines.as_slice() {
@@ -60,7 +60,7 @@ fn tell_lines<L: Link>(
     user: &UserName,
     lines: &LookList,
 ) -> Result<(), SessionEnd>
-    ensures runs { (desk : DeskView) → Runs (L.state link.old) (L.state link.new) desk desk (write (info_reply user.now lines.now)) (outcome_of result) }
+    ensures runs { RunsLink (L.state link.old) (L.state link.new) (write (info_reply user.now lines.now)) result }
     ensures tells { TellsLink (L.state link.old) (L.state link.new) result }
 {
     say_hello(alloc, link, user)?;
@@ -78,6 +78,7 @@ pub fn look<L: Link, K: Desk>(
     ensures runs { RunsByRulebook (L.state link.old) (L.state link.new) (K.view desk.old) (K.view desk.new) (λ book. looking book ((K.view desk.old).admin) user.now) (outcome_of result) }
     ensures tells { TellsLink (L.state link.old) (L.state link.new) result }
     ensures goes { K.goes_on desk.old desk.new }
+    ensures lets_in { LetsIn (K.view desk.old) (K.view desk.new) [] }
 {
     // called for its clause that there is one list of rules in force
     hold_laws();

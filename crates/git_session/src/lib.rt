@@ -5,8 +5,8 @@
 //! - `info`: what there is to see;
 //! - `serving`: a session, by what its first packet asks for.
 //!
-//! Pushes are of the crate `receive_pack`, fetches of `upload_pack`, and what they share of `session_core`. The rules are
-//! in `docs/SESSIONS.md`.
+//! Pushes are of the crate `receive_pack`, fetches of `upload_pack`, and what they share of `session_core`.
+//! The rules are in `docs/SESSIONS.md`.
 #![tactic(auto)]
 
 mod buffer;

@@ -2,12 +2,13 @@
 ghost use Rattle.std.specs.Prelude.{◌≡◌, ◌≤◌, ◌++◌, [], ◌∷◌, length, map, IfOk};
 ghost use Rattle.std.specs.List.{flat_map};
 ghost use Rattle.pktline_core.specs.Packets.{spelling, Flush};
-ghost use Rattle.hub.specs.Desk.{DeskView};
 ghost use Rattle.hub_history.specs.History.{HasShortRole};
 ghost use Rattle.interaction_tree.specs.Interaction.{write};
 ghost use Rattle.interaction_tree.specs.Runs.{Runs};
 ghost use Rattle.session_core.specs.End.{TellsLink, outcome_of};
+ghost use Rattle.session_core.specs.Gate.{LetsIn};
 ghost use Rattle.session_core.specs.Packets.{packet};
+ghost use Rattle.session_core.specs.Parts.{RunsLink};
 ghost use Rattle.git_session.specs.Perms.{permitting, role_line};
 
 use conf_lex::{RepoName, UserName};
@@ -20,7 +21,7 @@ use wild_perms::{RoleEntry, RoleList};
 // A packet of a line, and a flush.
 fn tell<L: Link>(link: &mut L, line: &[u8]) -> Result<(), SessionEnd>
     requires { length line.now ≤ 65516 }
-    ensures runs { (desk : DeskView) → Runs (L.state link.old) (L.state link.new) desk desk (write (flat_map packet (line.now ∷ []) ++ spelling Flush)) (outcome_of result) }
+    ensures runs { RunsLink (L.state link.old) (L.state link.new) (write (flat_map packet (line.now ∷ []) ++ spelling Flush)) result }
     ensures tells { TellsLink (L.state link.old) (L.state link.new) result }
 {
     say(link, line)?;
@@ -39,7 +40,7 @@ fn role_text(alloc: Global, entry: &RoleEntry) -> Result<Vec<u8>, AllocError>
 }
 
 fn say_role<L: Link>(alloc: Global, link: &mut L, entry: &RoleEntry) -> Result<(), SessionEnd>
-    ensures runs { (desk : DeskView) → Runs (L.state link.old) (L.state link.new) desk desk (write (packet (role_line entry.now))) (outcome_of result) }
+    ensures runs { RunsLink (L.state link.old) (L.state link.new) (write (packet (role_line entry.now))) result }
     ensures tells { TellsLink (L.state link.old) (L.state link.new) result }
 {
     let text = role_text(alloc, entry)?;
@@ -47,7 +48,7 @@ fn say_role<L: Link>(alloc: Global, link: &mut L, entry: &RoleEntry) -> Result<(
 }
 
 fn say_roles<L: Link>(alloc: Global, link: &mut L, roles: &RoleList) -> Result<(), SessionEnd>
-    ensures runs { (desk : DeskView) → Runs (L.state link.old) (L.state link.new) desk desk (write (flat_map packet (map role_line roles.now))) (outcome_of result) }
+    ensures runs { RunsLink (L.state link.old) (L.state link.new) (write (flat_map packet (map role_line roles.now))) result }
     ensures tells { TellsLink (L.state link.old) (L.state link.new) result }
 {
     for entry in roles.as_slice() {
@@ -58,7 +59,7 @@ fn say_roles<L: Link>(alloc: Global, link: &mut L, roles: &RoleList) -> Result<(
 
 // A packet for each role, and a flush.
 fn tell_roles<L: Link>(alloc: Global, link: &mut L, roles: &RoleList) -> Result<(), SessionEnd>
-    ensures runs { (desk : DeskView) → Runs (L.state link.old) (L.state link.new) desk desk (write (flat_map packet (map role_line roles.now) ++ spelling Flush)) (outcome_of result) }
+    ensures runs { RunsLink (L.state link.old) (L.state link.new) (write (flat_map packet (map role_line roles.now) ++ spelling Flush)) result }
     ensures tells { TellsLink (L.state link.old) (L.state link.new) result }
 {
     say_roles(alloc, link, roles)?;
@@ -78,6 +79,7 @@ pub fn permit<L: Link, K: Desk>(
     ensures runs { Runs (L.state link.old) (L.state link.new) (K.view desk.old) (K.view desk.new) (permitting ((K.view desk.old).admin) user.now repo.now change) (outcome_of result) }
     ensures tells { TellsLink (L.state link.old) (L.state link.new) result }
     ensures goes { K.goes_on desk.old desk.new }
+    ensures lets_in { LetsIn (K.view desk.old) (K.view desk.new) [] }
 {
     match desk.permit(alloc, user, repo, change) {
         Permitted::Changed => tell(link, b"perms: changed\n"),

@@ -6,6 +6,7 @@ ghost use Rattle.interaction_tree.specs.Endings.{TakesTurn};
 ghost use Rattle.interaction_tree.specs.Growth.{GrowsBy, own_since};
 ghost use Rattle.session_core.specs.End.{HasCause, IsSure, TellsEnd, TellsLink, halt_of, outcome_of};
 ghost use Rattle.session_core.specs.FirstPacket.{HasShortChange};
+ghost use Rattle.session_core.specs.Gate.{CallsGate, IsCalled, gate_calls};
 ghost use Rattle.session_core.specs.Readers.{IsReady};
 ghost use Rattle.session_core.specs.Rulebook.{ByRulebook, RunsByRulebook};
 ghost use Rattle.git_session.specs.Session.{fetched_outcome, fetching_from, pushing_into, served, serving, session};
@@ -35,9 +36,10 @@ fn push_into<L: Link, K: Desk, G: Gate>(
     ensures runs { RunsByRulebook (L.state link.old) (L.state link.new) (K.view desk.old) (K.view desk.new) (λ book. pushing_into book ((K.view desk.old).admin) user.now repo.now reader.old.offset) (outcome_of result) }
     ensures tells { TellsLink (L.state link.old) (L.state link.new) result }
     ensures goes { K.goes_on desk.old desk.new }
+    ensures gates { CallsGate (K.view desk.old) (K.view desk.new) (G.calls gate.old) (G.calls gate.new) (L.state link.old).written }
 {
     let pin = enter(alloc, link, desk, user, repo, Want::Write)?;
-    gate.between(pin.place());
+    gate.between(pin.place(), link);
     receive(alloc, link, desk, reader, pin)
 }
 
@@ -55,9 +57,10 @@ fn fetch_from<L: Link, K: Desk, G: Gate>(
     ensures runs { RunsByRulebook (L.state link.old) (L.state link.new) (K.view desk.old) (K.view desk.new) (λ book. fetching_from book ((K.view desk.old).admin) user.now repo.now reader.old.offset) (outcome_of result) }
     ensures tells { TellsLink (L.state link.old) (L.state link.new) result }
     ensures goes { K.goes_on desk.old desk.new }
+    ensures gates { CallsGate (K.view desk.old) (K.view desk.new) (G.calls gate.old) (G.calls gate.new) (L.state link.old).written }
 {
     let pin = enter(alloc, link, desk, user, repo, Want::Read)?;
-    gate.between(pin.place());
+    gate.between(pin.place(), link);
     let end = upload(alloc, link, reader, &pin)?;
     fetched(end)
 }
@@ -86,6 +89,7 @@ fn serve_asked<L: Link, K: Desk, G: Gate>(
     ensures runs { RunsByRulebook (L.state link.old) (L.state link.new) (K.view desk.old) (K.view desk.new) (λ book. serving book ((K.view desk.old).admin) asked.user asked.service reader.old.offset) (outcome_of result) }
     ensures tells { TellsLink (L.state link.old) (L.state link.new) result }
     ensures goes { K.goes_on desk.old desk.new }
+    ensures gates { CallsGate (K.view desk.old) (K.view desk.new) (G.calls gate.old) (G.calls gate.new) (L.state link.old).written }
 {
     let Asked { user, service } = asked;
     match service {
@@ -108,6 +112,7 @@ fn serve<L: Link, K: Desk, G: Gate>(
     ensures runs { RunsByRulebook (L.state link.old) (L.state link.new) (K.view desk.old) (K.view desk.new) (λ book. served book ((K.view desk.old).admin) reader.old.offset) (outcome_of result) }
     ensures tells { TellsLink (L.state link.old) (L.state link.new) result }
     ensures goes { K.goes_on desk.old desk.new }
+    ensures gates { CallsGate (K.view desk.old) (K.view desk.new) (G.calls gate.old) (G.calls gate.new) (L.state link.old).written }
 {
     let asked = ask(alloc, link, reader)?;
     serve_asked(alloc, link, desk, gate, reader, asked)
@@ -126,6 +131,7 @@ pub fn session<L: Link, K: Desk, G: Gate>(
     ensures grows { GrowsBy (K.view desk.old) (K.view desk.new) (own_since (K.view desk.old) (K.view desk.new)) }
     ensures sound { IsSound (K.view desk.new) }
     ensures goes { K.goes_on desk.old desk.new }
+    ensures gates { IsCalled (G.calls gate.old) (G.calls gate.new) (gate_calls (L.state link.old).written (own_since (K.view desk.old) (K.view desk.new))) }
     ensures causes { HasCause (L.state link.old) (L.state link.new) result }
     ensures sure { IsSure (L.state link.old) (L.state link.new) result }
     ensures later { IsLater (L.state link.old) (L.state link.new) }

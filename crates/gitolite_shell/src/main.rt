@@ -1,4 +1,5 @@
-//! The program: `shell_main` of `shell_program` over the words, streams, clients and files that the system gives.
+//! The program: `shell_main` of `shell_program` over the words, streams, clients and files that the system
+//! gives.
 #![tactic(auto)]
 
 use edge_links::{FileDisk, StdSink, StdSource};
@@ -27,8 +28,8 @@ fn posts_wanted(words: &[String]) -> usize {
     }
 }
 
-// The disk that the words want: the journal's file where they begin with `keep`, otherwise none. Where the file can't be
-// opened each call of the disk fails.
+// The disk that the words want: the journal's file where they begin with `keep`, otherwise none. Where the
+// file can't be opened each call of the disk fails.
 fn disk_wanted<R: Files<File = File>>(files: &R, words: &[String]) -> FileDisk {
     match words.first() {
         Some(word) if word.as_str() == "keep" => match FileDisk::open(files, JOURNAL) {

@@ -1,4 +1,5 @@
--- What a command that is done says of the conf and of its opening; and that pushes are at openings for writing.
+-- What a command that is done says of the conf and of its opening; and that pushes are at openings for
+-- writing.
 use Rattle.std.proofs.Common.{◌≡◌, ◌≤◌, ℕ, zero, suc, Bool, true, false, ◌&&◌, List, [], ◌∷◌, ◌++◌, refl, sym, ◌∙◌, ap, subst}
 use Rattle.std.specs.Prelude.{Option, Some, None, if◌then◌else◌}
 use Rattle.std.specs.List.{count_by, slice_get}

@@ -10,7 +10,8 @@ use Rattle.hub_history.specs.declared.entry.Entry.{Entry}
 use Rattle.hub_history.specs.History.{IsLegal, replay}
 use Rattle.hub_history.specs.State.{Repository}
 
--- A repository has a repository's name; its creator, if it has one, has a user's, and so has each who holds a role in it. What is held is a role by its form, whether it is declared or not.
+-- A repository has a repository's name; its creator, if it has one, has a user's, and so has each who holds a
+-- role in it. What is held is a role by its form, whether it is declared or not.
 pub record IsNamed (name : Name) (repository : Repository) : Type 0 where
   pub repo : is_repo_name name ≡ true
   pub creator : IfSome repository.creator (λ user. is_user_name user ≡ true)

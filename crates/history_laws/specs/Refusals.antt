@@ -18,11 +18,15 @@ use Rattle.hub_history.specs.Opening.{Pinned}
 use Rattle.hub_history.specs.Push.{is_named_twice, kind_at}
 use Rattle.hub_history.specs.State.{Repository, conf_branch, conf_repository, repository_at}
 
--- a command of a push: the repository just before, what the opening pinned, and the push's objects and commands
+-- a command of a push: the repository just before, what the opening pinned, and the push's objects and
+-- commands
 module _ (patterns : Patterns) (now : Repository) (pinned : Pinned) (pack : List Content) (commands : List Command) (command : Command) where
-  -- What the command is told is so: its ref's name is bad; two commands or more are for its ref; its two values are one; the ref had another value at the opening, and it is this one;
-  -- its new value leads to this name that no object has, or to this object of a wrong kind; it is for the conf's branch, and the conf at its new value has this fault;
-  -- the pack has this collision; the objects with the pack are so many, and too many. What the rules say, what the refs just before say, and what is told of another have laws of their own.
+  -- What the command is told is so: its ref's name is bad; two commands or more are for its ref; its two
+  -- values are one; the ref had another value at the opening, and it is this one; its new value leads to this
+  -- name that no object has, or to this object of a wrong kind; it is for the conf's branch, and the conf at
+  -- its new value has this fault; the pack has this collision; the objects with the pack are so many, and too
+  -- many. What the rules say, what the refs just before say, and what is told of another have laws of their
+  -- own.
   abbrev pub IsSo : Outcome → Type 0
   IsSo BadName = is_ref_name command.name ≡ false
   IsSo Twice = is_named_twice commands command.name ≡ true

@@ -46,7 +46,8 @@ DoneConfIsInForce =
 abbrev pub HasDone : List Outcome → Type 0
 HasDone outcomes = (index : ℕ) × (slice_get outcomes index ≡ Some Done)
 
--- an event may change the state: it is an opening that made a repository, a push of which a command is done, or a change of roles that is done
+-- an event may change the state: it is an opening that made a repository, a push of which a command is done,
+-- or a change of roles that is done
 abbrev pub MayChange : Event → Type 0
 MayChange (Entered user repo want answer) = answer ≡ Created
 MayChange (Pushed place pack commands atomic outcomes made) = HasDone outcomes
@@ -63,7 +64,8 @@ abbrev pub IsPinned : Option Pinned → Name → Type 0
 IsPinned None name = ⊥
 IsPinned (Some pinned) name = name ≡ pinned.repo
 
--- an event is of this repository: it is the one that is opened, or whose roles are asked for; for a push the one that was opened, or one that its conf makes
+-- an event is of this repository: it is the one that is opened, or whose roles are asked for; for a push the
+-- one that was opened, or one that its conf makes
 abbrev pub IsOf : History → Event → Name → Type 0
 IsOf h (Entered user repo want answer) name = name ≡ repo
 IsOf h (Pushed place pack commands atomic outcomes made) name = IsPinned (opening_at h place) name ⊎ Contains made name
@@ -96,7 +98,8 @@ RolesChangeAlone =
 
 -- ---- pushes and their openings
 
--- An opening for writing, which was granted or made its repository, is in the log at this place; a push has commands within the limits, and objects that fit one pack.
+-- An opening for writing, which was granted or made its repository, is in the log at this place; a push has
+-- commands within the limits, and objects that fit one pack.
 pub record IsForWriting (admin : Name) (log : List Entry) (place : ℕ) (pack : List Content) (commands : List Command) : Type 0 where
   pub pinned : Pinned
   pub opening : opening_at (history admin log) place ≡ Some pinned
@@ -111,7 +114,8 @@ PushesAreForWriting =
     (admin : Name) (before : List Entry) (entry : Entry) (place : ℕ) (pack : List Content) (commands : List Command) (atomic : Bool) (outcomes : List Outcome) (made : List Name)
     → IsLegal admin (before ++ entry ∷ []) → entry.event ≡ Pushed place pack commands atomic outcomes made → IsForWriting admin before place pack commands
 
--- The old value of a command that is done is the one that its ref had at the opening, where it was advertised.
+-- The old value of a command that is done is the one that its ref had at the opening, where it was
+-- advertised.
 abbrev pub DoneWasAdvertised : Type 0
 DoneWasAdvertised =
     (admin : Name) (before : List Entry) (entry : Entry) (pinned : Pinned) (command : Command) → IsLegal admin (before ++ entry ∷ []) → TellsCommand admin before entry pinned command Done
@@ -119,7 +123,8 @@ DoneWasAdvertised =
 
 -- ---- which repositories there are
 
--- an event makes this repository: it is an opening that made it, or a push that records it as made by its conf
+-- an event makes this repository: it is an opening that made it, or a push that records it as made by its
+-- conf
 abbrev pub MakesRepository : Event → Name → Type 0
 MakesRepository (Entered user repo want answer) name = (name ≡ repo) × (answer ≡ Created)
 MakesRepository (Pushed place pack commands atomic outcomes made) name = Contains made name
@@ -136,7 +141,8 @@ NewWasMade =
 abbrev pub IsPlainIn : State → Name → Type 0
 IsPlainIn state name = (patterns : Patterns) → AreTrue patterns → (rules : Flat) × AreInForce patterns state.conf rules × Contains rules.plain name
 
--- A repository that a push records as made wasn't there before it. After it the repository is there, empty and without a creator, and is a plain repository of the rules in force.
+-- A repository that a push records as made wasn't there before it. After it the repository is there, empty
+-- and without a creator, and is a plain repository of the rules in force.
 abbrev pub MadeIsOfTheConf : Type 0
 MadeIsOfTheConf =
     (admin : Name) (before : List Entry) (entry : Entry) (place : ℕ) (pack : List Content) (commands : List Command) (atomic : Bool) (outcomes : List Outcome) (made : List Name) (name : Name)
@@ -151,7 +157,8 @@ PlainAreThere =
 
 -- ---- what is done
 
--- A change has these facts, and by them the rules that are in force let it be made for who opened the repository.
+-- A change has these facts, and by them the rules that are in force let it be made for who opened the
+-- repository.
 pub record IsLet (patterns : Patterns) (force : InForce) (pinned : Pinned) (objects : List Content) (change : Command) : Type 0 where
   pub rules : Flat
   pub are_in_force : AreInForce patterns force.conf rules
@@ -159,7 +166,8 @@ pub record IsLet (patterns : Patterns) (force : InForce) (pinned : Pinned) (obje
   pub are_facts : AreFacts objects change.name change.old change.new facts
   pub lets : LetsBeMade patterns rules.rules (asked_by patterns rules force pinned) objects change facts
 
--- A command that is past the rules at its opening was let be made by them, by its facts; and so by those just before the push, where it is past those too.
+-- A command that is past the rules at its opening was let be made by them, by its facts; and so by those just
+-- before the push, where it is past those too.
 pub record PastIsLetByItsFacts : Type 0 where
   pub opening :
       (admin : Name) (before : List Entry) (entry : Entry) (pinned : Pinned) (command : Command) (outcome : Outcome) → IsLegal admin (before ++ entry ∷ []) → IsPastTheOpening outcome
@@ -203,7 +211,8 @@ SomeAnswerIsDue =
     (admin : Name) (log : List Entry) → is_user_name admin ≡ true → IsLegal admin log → (patterns : Patterns) → AreTrue patterns → (request : Request) → IsAsked request
     → (event : Event) × (request_of event ≡ request) × IsDue patterns (history admin log) event
 
--- So are outcomes to a push within the limits, after an opening for writing, whatever outcomes its commands have by the opening and by the rules just before it.
+-- So are outcomes to a push within the limits, after an opening for writing, whatever outcomes its commands
+-- have by the opening and by the rules just before it.
 abbrev pub SomeOutcomesAreDue : Type 0
 SomeOutcomesAreDue =
     (admin : Name) (log : List Entry) (patterns : Patterns) (place : ℕ) (pack : List Content) (commands : List Command) (atomic : Bool) (pinned : Pinned) (judged : List (Option Outcome))

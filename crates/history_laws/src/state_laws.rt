@@ -3,7 +3,8 @@ ghost use Rattle.history_laws.specs.StateLaws.{DoneBringsItsPack, DoneConfIsInFo
 
 use rule_compile::some_patterns_are_true;
 
-/// Tells what changes the state along a legal log, and what doesn't. It does nothing, and is called for its clauses.
+/// Tells what changes the state along a legal log, and what doesn't. It does nothing, and is called for its
+/// clauses.
 pub fn hold_state_laws()
     ensures conf { DoneConfIsInForce }
     ensures only { OnlyTheseChange }
@@ -24,7 +25,8 @@ pub fn hold_state_laws()
 {
     // called for its clause that some answers about patterns are true, which the proof cites
     some_patterns_are_true();
-    // called for its clauses that there is one answer, that some rules are in force, and on what an answer to a change of roles tells
+    // called for its clauses that there is one answer, that some rules are in force, and on what an answer to
+    // a change of roles tells
     hub_history::hold_laws();
     // called for its clause that the setup's conf comes to rules
     setup_conf::hold_laws();

@@ -15,33 +15,43 @@ use Rattle.record_file.specs.Crashes.{Leaves, LeavesOnly}
 use Rattle.record_file.specs.Disks.{DiskState}
 use Rattle.record_file.specs.Files.{IsDurable, WriterState}
 use Rattle.record_file.specs.Records.{Holds}
-use Rattle.hub_journal.specs.Events.{HoldsSome, bodies_in, head_for}
-use Rattle.hub_journal.specs.Journal.{GoesOn, IsRunning, JournalView}
+use Rattle.hub_journal.specs.Events.{bodies_in, head_for}
+use Rattle.hub_journal.specs.Journal.{JournalView}
 use Rattle.hub_journal.specs.Recovery.{AreEventsOf, IsNoJournal, ReportsFaults}
 use Rattle.hub_journal.specs.declared.open_fault.OpenFault.{OpenFault}
 use Rattle.hub_journal.specs.declared.open_fault.OpenFault.TheVariants as refusal
-use Rattle.hub_journal.proofs.JournalLemmas.{durable_leaves, some_more, weaker}
+use Rattle.hub_journal.proofs.JournalLemmas.{weaker}
+use Rattle.lasting_events.specs.Lasting.{lasting}
+use Rattle.lasting_events.proofs.LastingLemmas.{lasting_first}
 use Rattle.session_workers.specs.declared.post.Post.{Post}
 use Rattle.session_workers.specs.ServesAll.{ServesAll}
 use Rattle.shell_program.specs.Keep.{EndsUnopened, IsStored}
 use Rattle.shell_program.specs.Serve.{StopsPrinting, served_line}
 use Rattle.shell_program.specs.declared.script.ScriptFault.{ScriptFault}
 use Rattle.shell_program.specs.declared.status.Status.{Status}
-use Rattle.stored_hub.specs.Stored.{ContinuesStored, GoesOnStored, HasStored, answered}
+use Rattle.stored_hub.specs.Stored.{ContinuesStored, GoesOnLasting, GoesOnStored, HasStored, HoldsLasting, KeepsLasting, answered}
 use Rattle.stored_hub.proofs.StoredLemmas as stored
+use Rattle.stored_hub.proofs.StoredLemmas.{durable_leaves, some_more}
 use Rattle.host_program.specs.Host.{AsksNone, EndsHost, HostRun, Hosts, IsStoredSince, Prints, SharesNone, StoresEvents, TellsFault, host_status, hub_of}
 
 -- the journal over the hub that was recovered
 abbrev pub first_view : HubView → ℕ → DiskState → JournalView
-first_view hub end disk = record { hub = hub; start = 0; store = record { stored = length hub.log; writer = record { end = end; broken = false }; disk = disk } }
+first_view hub end disk = record { hub = hub; start = length hub.log; store = record { stored = length hub.log; writer = record { end = end; broken = false }; disk = disk } }
 
-grown : (modeled : Bool) (b last : JournalView) (after : GoesOn modeled b last) → last.hub ≡ record { admin = b.hub.admin; log = b.hub.log ++ after.more }
+grown : (modeled : Bool) (b last : JournalView) (after : GoesOnLasting modeled b last) → last.hub ≡ record { admin = b.hub.admin; log = b.hub.log ++ after.more }
 grown modeled b last after = λ i. record { admin = after.admin i; log = after.grows i }
 
 module _ (modeled : Bool) (hub : HubView) (end : ℕ) (opened : DiskState) (last : JournalView) (has : HasStored last) (on : GoesOnStored modeled (first_view hub end opened) last)
     (durable : IsTrue modeled → IsDurable (head_for hub.admin) (bodies_in hub.log) end opened.file) where
-  running : IsTrue modeled → IsRunning (first_view hub end opened)
-  running t = record { durable = λ unbroken. durable t; leaves = durable_leaves hub.admin hub.log end opened.file (durable t) }
+  abbrev first : ℕ
+  first = length hub.log
+
+  -- what was in the file at first is as it was
+  whole : IsTrue modeled → IsDurable (head_for hub.admin) (bodies_in (lasting first hub.log)) end opened.file
+  whole t = subst (λ (l : List Entry). IsDurable (head_for hub.admin) (bodies_in l) end opened.file) (sym (lasting_first first hub.log (omega arith))) (durable t)
+
+  running : IsTrue modeled → KeepsLasting (first_view hub end opened)
+  running t = record { durable = λ unbroken. whole t; leaves = durable_leaves hub.admin first hub.log end opened.file (whole t) }
 
   has_risen : last.store.writer.broken ≡ true → HasRisen opened.disk_faults last.store.disk.disk_faults
   has_risen broken = elim (on.on.fault broken) [
@@ -53,44 +63,48 @@ module _ (modeled : Bool) (hub : HubView) (end : ℕ) (opened : DiskState) (last
   tells_fault true is = has_risen (sym is)
   tells_fault false is = on.on.no_fault (sym is)
 
-  all_stored : last.store.writer.broken ≡ false → (last.store.stored ≡ length last.hub.log) × (IsTrue modeled → IsStored hub.admin last.hub.log last.store.disk.file)
+  all_stored : last.store.writer.broken ≡ false → (last.store.stored ≡ length last.hub.log) × (IsTrue modeled → IsStored hub.admin (lasting first last.hub.log) last.store.disk.file)
   all_stored unbroken = (
     has.sound.whole unbroken,
     λ t. record {
       end = last.store.writer.end;
-      durable = subst (λ (a : Name). IsDurable (head_for a) (bodies_in last.hub.log) last.store.writer.end last.store.disk.file) on.on.admin ((on.on.runs t (running t)).durable unbroken);
+      durable =
+          subst (λ (n : ℕ). IsDurable (head_for hub.admin) (bodies_in (lasting n last.hub.log)) last.store.writer.end last.store.disk.file) on.on.start
+          (subst (λ (a : Name). IsDurable (head_for a) (bodies_in (lasting last.start last.hub.log)) last.store.writer.end last.store.disk.file) on.on.admin ((on.on.runs t (running t)).durable unbroken));
     },
   )
 
-  all : (HasRisen opened.disk_faults last.store.disk.disk_faults → ⊥) → (last.store.stored ≡ length last.hub.log) × (IsTrue modeled → IsStored hub.admin last.hub.log last.store.disk.file)
+  all : (HasRisen opened.disk_faults last.store.disk.disk_faults → ⊥) → (last.store.stored ≡ length last.hub.log) × (IsTrue modeled → IsStored hub.admin (lasting first last.hub.log) last.store.disk.file)
   all none = elim (cases_Bool last.store.writer.broken) [
     | inl broken ↦ absurd (none (has_risen broken))
     | inr unbroken ↦ all_stored unbroken
   ]
 
-  in_last : (b : JournalView) → GoesOn modeled b last → (least : ℕ) (file : List ℕ) → HoldsSome b.hub.admin b.hub.log least file → HoldsSome hub.admin last.hub.log least file
+  in_last : (b : JournalView) → GoesOnLasting modeled b last → (least : ℕ) (file : List ℕ) → HoldsLasting b.hub.admin b.start b.hub.log least file → HoldsLasting hub.admin first last.hub.log least file
   in_last b after least file some =
-      subst (λ (a : Name). HoldsSome a last.hub.log least file) on.on.admin
-      (subst (λ (h : HubView). HoldsSome h.admin h.log least file) (sym (grown modeled b last after)) (some_more b.hub.admin b.hub.log after.more least least file (omega arith) some))
+      subst (λ (n : ℕ). HoldsLasting hub.admin n last.hub.log least file) (sym after.start ∙ on.on.start)
+      (subst (λ (a : Name). HoldsLasting a b.start last.hub.log least file) on.on.admin
+      (subst (λ (h : HubView). HoldsLasting h.admin b.start h.log least file) (sym (grown modeled b last after)) (some_more b.hub.admin b.start b.hub.log after.more least least file (omega arith) some)))
 
-  moment : IsTrue modeled → (count : ℕ) → length hub.log ≤ count → count ≤ last.store.stored → IsStoredSince hub.admin last.hub.log (length hub.log) count opened.file last.store.disk.file
+  moment : IsTrue modeled → (count : ℕ) → first ≤ count → count ≤ last.store.stored → IsStoredSince hub.admin last.hub.log first count opened.file last.store.disk.file
   moment t count least most =
       let by = on.moments count least most in
       record {
         moment = by.between.store.disk.file;
         until =
-            weaker (HoldsSome by.between.hub.admin by.between.hub.log (length hub.log)) (HoldsSome hub.admin last.hub.log (length hub.log)) opened.file by.between.store.disk.file
-            (in_last by.between by.after (length hub.log)) (by.before.any_moment t (running t));
+            weaker (HoldsLasting by.between.hub.admin by.between.start by.between.hub.log first) (HoldsLasting hub.admin first last.hub.log first) opened.file by.between.store.disk.file
+            (in_last by.between by.after first) (by.before.any_moment t (running t));
         since =
-            subst (λ (n : ℕ). LeavesOnly (HoldsSome hub.admin last.hub.log n) by.between.store.disk.file last.store.disk.file) by.stored
-            (subst (λ (a : Name). LeavesOnly (HoldsSome a last.hub.log by.between.store.stored) by.between.store.disk.file last.store.disk.file) on.on.admin (by.after.any_moment t (by.before.runs t (running t))));
+            subst (λ (n : ℕ). LeavesOnly (HoldsLasting hub.admin first last.hub.log n) by.between.store.disk.file last.store.disk.file) by.stored
+            (subst (λ (n : ℕ). LeavesOnly (HoldsLasting hub.admin n last.hub.log by.between.store.stored) by.between.store.disk.file last.store.disk.file) on.on.start
+            (subst (λ (a : Name). LeavesOnly (HoldsLasting a last.start last.hub.log by.between.store.stored) by.between.store.disk.file last.store.disk.file) on.on.admin (by.after.any_moment t (by.before.runs t (running t)))));
       }
 
   pub stores_events : StoresEvents hub.admin modeled opened last.store.disk hub.log last.hub.log last.store.stored
   stores_events = record { least = on.on.stored; within = has.sound.stored; most = has.last; all = all; moments = moment }
 
 -- a hub over a journal that was opened
-pub is_first : (hub : HubView) (writer : WriterState) (disk : DiskState) (first : JournalView) → first.hub ≡ hub → first.start ≡ 0 → first.store.stored ≡ length hub.log → first.store.writer ≡ writer → writer.broken ≡ false → first.store.disk ≡ disk
+pub is_first : (hub : HubView) (writer : WriterState) (disk : DiskState) (first : JournalView) → first.hub ≡ hub → first.start ≡ length hub.log → first.store.stored ≡ length hub.log → first.store.writer ≡ writer → writer.broken ≡ false → first.store.disk ≡ disk
     → first ≡ first_view hub writer.end disk
 is_first hub writer disk first hub_is start stored writer_is unbroken disk_is =
     let whole : first.store.writer ≡ record { end = writer.end; broken = false } = writer_is ∙ (λ i. record { end = writer.end; broken = unbroken i }) in
@@ -106,7 +120,7 @@ line_printed sink sink' line (Err why) ok err = err
 -- the posts were served
 pub hosted : {L D G H : Type 0} (state : L → LinkState) (door : D → DoorState L) (each : ℕ) (old new : List (Post D G H)) (modeled : Bool) (hub : HubView) (writer : WriterState) (opened : DiskState) (first last : JournalView)
     (disk' : Option DiskState) (sink sink' : LinkState) (log : List Entry) (count : ℕ) (status : Status) (sessions : ℕ) (failed lacked broken : Bool) (printed : Result (Unit {0}) ScriptFault)
-    → first.hub ≡ hub → first.start ≡ 0 → first.store.stored ≡ length hub.log → first.store.writer ≡ writer → writer.broken ≡ false → first.store.disk ≡ opened
+    → first.hub ≡ hub → first.start ≡ length hub.log → first.store.stored ≡ length hub.log → first.store.writer ≡ writer → writer.broken ≡ false → first.store.disk ≡ opened
     → (IsTrue modeled → IsDurable (head_for hub.admin) (bodies_in hub.log) writer.end opened.file) → HasStored last → ContinuesStored modeled first last
     → ServesAll state door true (answered first) (answered last) old new each sessions failed lacked
     → log ≡ last.hub.log → count ≡ last.store.stored → disk' ≡ Some last.store.disk → broken ≡ last.store.writer.broken

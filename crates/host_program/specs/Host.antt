@@ -11,9 +11,10 @@ use Rattle.hub.specs.Hub.{HubView}
 use Rattle.record_file.specs.Crashes.{FileState, Leaves, LeavesOnly}
 use Rattle.record_file.specs.Disks.{DiskState}
 use Rattle.record_file.specs.Records.{Holds}
-use Rattle.hub_journal.specs.Events.{HoldsSome, head_for}
+use Rattle.hub_journal.specs.Events.{head_for}
 use Rattle.hub_journal.specs.Recovery.{AreEventsOf, IsNoJournal, ReportsFaults}
 use Rattle.hub_journal.specs.declared.open_fault.OpenFault.{OpenFault}
+use Rattle.lasting_events.specs.Lasting.{lasting}
 use Rattle.session_workers.specs.declared.post.Post.{Post}
 use Rattle.session_workers.specs.ServesAll.{ServesAll}
 use Rattle.shell_program.specs.Keep.{EndsUnopened, IsStored}
@@ -22,12 +23,14 @@ use Rattle.shell_program.specs.Status.{served_status}
 use Rattle.shell_program.specs.declared.script.ScriptFault.{ScriptFault}
 use Rattle.shell_program.specs.declared.status.Status.{Status}
 use Rattle.shell_program.specs.declared.status.Status.TheVariants.{NoMemory, DiskFault}
+use Rattle.stored_hub.specs.Stored.{HoldsLasting}
 
 -- a run
 -- modeled: whether the disk tells its bytes
 -- disk, disk': what it was, and what it is where it comes back
 -- sink, sink': the output
--- log, stored: the log, and how many of its events are stored for certain
+-- log, stored: the log, and how many of its events were answered; those of them that last are stored for
+-- certain
 -- status: how it ended
 pub record HostRun : Type 0 where
   pub modeled : Bool
@@ -41,7 +44,8 @@ pub record HostRun : Type 0 where
 
 -- I. The journal
 
--- The journal was opened behind the log whose events the file held. A crash at each moment meanwhile leaves the records that the file held; an empty file has none.
+-- The journal was opened behind the log whose events the file held. A crash at each moment meanwhile leaves
+-- the records that the file held; an empty file has none.
 pub record Opens (admin : Name) (modeled : Bool) (disk opened : DiskState) (before : List Entry) : Type 0 where
   pub legal : IsLegal admin before
   pub events : IsTrue modeled → AreEventsOf admin before disk.file.content
@@ -49,19 +53,22 @@ pub record Opens (admin : Name) (modeled : Bool) (disk opened : DiskState) (befo
   pub stored : IsTrue modeled → IsStored admin before opened.file
   pub opening : IsTrue modeled → (bodies : List (List ℕ)) → Leaves (Holds (head_for admin) bodies) disk.file.pending → LeavesOnly (Holds (head_for admin) bodies) disk.file opened.file
 
--- From this moment on a crash at each moment leaves the first events of the log, at least so many; before it, at least those that were there at first.
+-- From this moment on a crash at each moment leaves the lasting entries of a beginning of the log with at
+-- least so many events; before it, at least those that were there at first. So what the first so many events
+-- changed isn't lost.
 pub record IsStoredSince (admin : Name) (log : List Entry) (first count : ℕ) (old new : FileState) : Type 0 where
   pub moment : FileState
-  pub until : LeavesOnly (HoldsSome admin log first) old moment
-  pub since : LeavesOnly (HoldsSome admin log count) moment new
+  pub until : LeavesOnly (HoldsLasting admin first log first) old moment
+  pub since : LeavesOnly (HoldsLasting admin first log count) moment new
 
--- The events were stored one by one: for each number of them there was a moment since which so many are stored. All of the log is stored, unless a call of the
--- disk failed; then perhaps its last event isn't.
+-- The events were stored one by one, those that last: for each number of events there was a moment since
+-- which what so many of them changed is stored. The file holds the lasting entries of the whole log, unless a
+-- call of the disk failed; then perhaps its last event isn't stored.
 pub record StoresEvents (admin : Name) (modeled : Bool) (old new : DiskState) (before log : List Entry) (stored : ℕ) : Type 0 where
   pub least : length before ≤ stored
   pub within : stored ≤ length log
   pub most : length log ≤ stored + 1
-  pub all : (HasRisen old.disk_faults new.disk_faults → ⊥) → (stored ≡ length log) × (IsTrue modeled → IsStored admin log new.file)
+  pub all : (HasRisen old.disk_faults new.disk_faults → ⊥) → (stored ≡ length log) × (IsTrue modeled → IsStored admin (lasting (length before) log) new.file)
   pub moments : IsTrue modeled → (count : ℕ) → length before ≤ count → count ≤ stored → IsStoredSince admin log (length before) count old.file new.file
 
 -- II. The end
@@ -89,7 +96,8 @@ module _ {L D G H : Type 0} (state : L → LinkState) (door : D → DoorState L)
   abbrev pub AsksNone : Type 0
   AsksNone = (k : ℕ) (d : Post D G H) → (slice_index_or new k d).door ≡ (slice_index_or old k d).door
 
-  -- The journal wasn't opened, for this reason. Whatever records the file held, a crash at each moment leaves them.
+  -- The journal wasn't opened, for this reason. Whatever records the file held, a crash at each moment leaves
+  -- them.
   pub record IsRefused : Type 0 where
     pub fault : OpenFault
     pub disk' : DiskState
@@ -101,7 +109,8 @@ module _ {L D G H : Type 0} (state : L → LinkState) (door : D → DoorState L)
     pub unasked : AsksNone
     pub no_log : run.log ≡ []
 
-  -- There was no memory to share the hub: it is gone, with its disk, on which nothing was done since the journal was opened.
+  -- There was no memory to share the hub: it is gone, with its disk, on which nothing was done since the
+  -- journal was opened.
   pub record SharesNone : Type 0 where
     pub gone : run.disk' ≡ None
     pub status : run.status ≡ NoMemory
@@ -109,7 +118,8 @@ module _ {L D G H : Type 0} (state : L → LinkState) (door : D → DoorState L)
     pub unasked : AsksNone
     pub no_log : run.log ≡ []
 
-  -- The posts were served at the hub, and the log goes on from the one of the journal.
+  -- The posts were served at the hub, and the log goes on from the one of the journal. Whoever was answered
+  -- was answered by events of the log that are stored, or don't last.
   pub record Hosts (opened : DiskState) (before : List Entry) : Type 0 where
     pub sessions : ℕ
     pub failed : Bool

@@ -27,9 +27,9 @@ use stored_hub::{StoredHub, StoredParts};
 pub struct HostEnded<Y> {
     /// The status with which the program ends.
     pub status: u8,
-    /// The stored events, and at most one more, which was not answered.
+    /// The events that were answered, and at most one more, which wasn't.
     pub log: EntryList,
-    /// How many events of the log are stored for certain.
+    /// How many events of the log were answered. Those of them that last are stored for certain.
     pub stored: u64,
     /// None where there was no memory to share the hub.
     pub disk: Option<Y>,
@@ -78,7 +78,7 @@ fn serve_open<
     ensures idle { All (λ post. IsIdle post) posts.old → All (λ post. IsIdle post) posts.new }
 {
     let (hub, writer) = recovered.into_parts();
-    let hub = StoredHub::new(disk, hub, writer);
+    let hub = StoredHub::new(alloc, disk, hub, writer);
     let ServedAll {
         hub,
         sessions,
@@ -128,12 +128,15 @@ fn end_refused<O: Sink, Y: Disk>(
     }
 }
 
-/// Serves the posts at the hub of this admin's journal, which is made where the disk's file is empty, each with a worker
-/// that serves so many links, and prints how many sessions there were and how many events are stored. Each event is
-/// stored before it is answered. A file that is no journal of this admin's hub is refused, and no door is asked.
+/// Serves the posts at the hub of this admin's journal, which is made where the disk's file is empty, each
+/// with a worker that serves so many links, and prints how many sessions there were and how many events the
+/// log has. An opening that made its repository, an opening for writing that was granted, a push of which a
+/// command is done, and a change of roles that is done are stored before they are answered. All other events
+/// change nothing, and aren't stored. A file that is no journal of this admin's hub is refused, and no door
+/// is asked.
 ///
-/// Where a call of the disk fails, each worker ends behind the session in which it is or its next one, which is answered
-/// as one for which there is no memory.
+/// Where a call of the disk fails, each worker ends behind the session in which it is or its next one, which
+/// is answered as one for which there is no memory.
 pub fn host_main<
     O: Sink,
     L: Link + Send,

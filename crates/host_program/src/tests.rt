@@ -60,13 +60,13 @@ fn memory_link(alloc: Global, input: Vec<u8>) -> MemoryLink {
     MemoryLink::new(input, 7, Vec::new(alloc), Vec::new(alloc))
 }
 
-// Two posts, each with links of a push.
-fn push_posts(alloc: Global) -> Result<Vec<MemoryPost>, NoMemory> {
+// Two posts, each with links on which the client writes this.
+fn posts_of(alloc: Global, input: &[u8]) -> Result<Vec<MemoryPost>, NoMemory> {
     let mut posts = Vec::new(alloc);
     for _ in 0..2 {
         let mut links = Vec::new(alloc);
         for _ in 0..LINKS {
-            links.push(memory_link(alloc, push_input(alloc)?))?;
+            links.push(memory_link(alloc, input.to_vec(alloc)?))?;
         }
         let door = MemoryDoor::new(alloc, links, Vec::new(alloc))?;
         posts.push(Post::new(door, OpenGate))?;
@@ -74,12 +74,17 @@ fn push_posts(alloc: Global) -> Result<Vec<MemoryPost>, NoMemory> {
     Ok(posts)
 }
 
-// Two workers at a new disk, which fails at these of its calls.
-fn run_host<R: Abort + Threads + Wait + Sync>(rt: &R, alloc: Global, failing: Vec<u64>) -> Outcome {
+// Two workers, whose clients write this, at a new disk, which fails at these of its calls.
+fn run_host<R: Abort + Threads + Wait + Sync>(
+    rt: &R,
+    alloc: Global,
+    input: &[u8],
+    failing: Vec<u64>,
+) -> Outcome {
     let admin = admin(rt, alloc);
     let disk = MemoryDisk::new(alloc, Vec::new(alloc), 4000, failing);
     let disk = disk.expect(rt, "memory for a disk");
-    let mut posts = push_posts(alloc).expect(rt, "memory for posts");
+    let mut posts = posts_of(alloc, input).expect(rt, "memory for posts");
     assert!(rt; posts.len() == 2);
     let mut output = memory_link(alloc, Vec::new(alloc));
     let ended = host_main(rt, alloc, &admin, &mut output, &mut posts, 5, disk);
@@ -101,39 +106,63 @@ fn run_host<R: Abort + Threads + Wait + Sync>(rt: &R, alloc: Global, failing: Ve
     }
 }
 
+// Four openings, and the push that is done: the three others are refused, and aren't stored.
 #[test]
-fn two_workers_store_what_they_answer(rt: HostRuntime) {
+fn two_workers_store_what_lasts(rt: HostRuntime) {
     let alloc = rt.alloc();
-    let outcome = run_host(&rt, alloc, Vec::new(alloc));
+    let input = push_input(alloc).expect(&rt, "memory for a push");
+    let outcome = run_host(&rt, alloc, &input, Vec::new(alloc));
     assert!(rt;
         outcome.status == 0
             && outcome.printed.as_slice() == b"served 4 sessions, 8 events\n".as_slice()
     );
-    assert!(rt; outcome.logged == 8 && outcome.stored == 8 && outcome.found == 8);
+    assert!(rt; outcome.logged == 8 && outcome.stored == 8 && outcome.found == 5);
 }
 
-// The call that fails, how many events are stored for certain, and how many are found. Opening makes six calls, and
-// each event four. Each worker ends behind the session that isn't answered.
+// What a client asks that changes nothing: an opening for reading, one that is denied, and a look. Opening
+// makes six calls of the disk, and none follows: a disk that would fail at the next one isn't asked.
+#[test]
+fn readers_ask_no_disk(rt: HostRuntime) {
+    let alloc = rt.alloc();
+    for input in [
+        b"0023carol git-upload-pack 'testing'0000".as_slice(),
+        b"002acarol git-upload-pack 'gitolite-admin'".as_slice(),
+        b"000ecarol info".as_slice(),
+    ] {
+        let failing = vec![in alloc; 6].expect(&rt, "memory for a number");
+        let outcome = run_host(&rt, alloc, input, failing);
+        assert!(rt; outcome.status == 0 && outcome.logged == 4 && outcome.found == 0);
+    }
+}
+
+// The call that fails, how many events are answered, and how many are found. Opening makes six calls, and
+// each event that lasts four. Each worker ends behind the session that isn't answered.
 #[test]
 fn a_call_fails(rt: HostRuntime) {
     let alloc = rt.alloc();
-    for (number, stored, found) in [
-        (6, 0, 0),
-        (7, 0, 0),
-        (8, 0, 0),
-        (9, 0, 1),
-        (10, 1, 1),
-        (21, 3, 4),
-        (37, 7, 8),
-    ] {
+    let input = push_input(alloc).expect(&rt, "memory for a push");
+    for (number, stored, found) in [(6, 0, 0), (8, 0, 0), (9, 0, 1), (10, 1, 1), (13, 1, 2)] {
         let failing = vec![in alloc; number].expect(&rt, "memory for a number");
-        let outcome = run_host(&rt, alloc, failing);
+        let outcome = run_host(&rt, alloc, &input, failing);
         assert!(rt; outcome.status == 8 && outcome.found == found);
         assert!(rt; outcome.stored == stored as u64 && outcome.logged == stored + 1);
     }
     let failing = vec![in alloc; 6].expect(&rt, "memory for a number");
-    let outcome = run_host(&rt, alloc, failing);
+    let outcome = run_host(&rt, alloc, &input, failing);
     assert!(rt; outcome.printed.as_slice() == b"served 2 sessions, 0 events\n".as_slice());
+}
+
+// Behind the first push how many were refused before the next opening depends on the workers' turns.
+#[test]
+fn a_later_call_fails(rt: HostRuntime) {
+    let alloc = rt.alloc();
+    let input = push_input(alloc).expect(&rt, "memory for a push");
+    for (number, found) in [(18, 3), (21, 4), (22, 4), (25, 5)] {
+        let failing = vec![in alloc; number].expect(&rt, "memory for a number");
+        let outcome = run_host(&rt, alloc, &input, failing);
+        assert!(rt; outcome.status == 8 && outcome.found == found);
+        assert!(rt; outcome.logged as u64 == outcome.stored.saturating_add(1));
+    }
 }
 
 // A fault while the journal is opened.
@@ -144,7 +173,7 @@ fn a_refused_file(rt: HostRuntime) {
     let bytes = b"no journal".to_vec(alloc).expect(&rt, "memory for bytes");
     let disk = MemoryDisk::new(alloc, bytes, 9, Vec::new(alloc));
     let disk = disk.expect(&rt, "memory for a disk");
-    let mut posts = push_posts(alloc).expect(&rt, "memory for posts");
+    let mut posts = posts_of(alloc, OPENING).expect(&rt, "memory for posts");
     assert!(rt; posts.len() == 2);
     let mut output = memory_link(alloc, Vec::new(alloc));
     let ended = host_main(&rt, alloc, &admin, &mut output, &mut posts, 5, disk);
@@ -152,7 +181,8 @@ fn a_refused_file(rt: HostRuntime) {
     assert!(rt; output.written() == b"not a journal\n".as_slice());
 }
 
-// The words of a call, its name first, and what they come to: workers, port, sessions; of `report` three zeros.
+// The words of a call, its name first, and what they come to: workers, port, sessions; of `report` three
+// zeros.
 fn words(rt: &impl Abort, alloc: Global, words: &[&str]) -> Option<(usize, u16, u64)> {
     let mut given = Vec::new(alloc);
     for word in words {

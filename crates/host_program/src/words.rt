@@ -11,6 +11,9 @@ use std::alloc::{AllocError, Global};
 /// How many workers there may be at most.
 pub const MAX_WORKERS: usize = 1_000;
 
+/// The program's version.
+pub const VERSION: &str = "0.1.0";
+
 /// How many sessions a worker serves where the words say nothing of it: more than come in a thousand years.
 pub const NO_END: u64 = 1_000_000_000_000_000;
 
@@ -96,7 +99,7 @@ fn report_command<'a>(alloc: Global) -> Command<'a> {
 
 fn program_command<'a>(alloc: Global) -> Result<Command<'a>, AllocError> {
     let program = Command::new(alloc, "cerolimau")
-        .version("0.1.0")
+        .version(VERSION)
         .about("A Git hosting server with the access control of Gitolite")
         .subcommand_required(true)
         .arg_required_else_help(true);
@@ -163,8 +166,8 @@ fn words_of(alloc: Global, given: &ArgMatches<'_>) -> Result<HostWords, Error>
     })
 }
 
-/// Reads the words by which the program is called, its name the first of them. The error has the text for the user, and
-/// the status: also where the words ask for help or the version.
+/// Reads the words by which the program is called, its name the first of them. The error has the text for the
+/// user, and the status: also where the words ask for help or the version.
 pub fn read_words(alloc: Global, words: &[String]) -> Result<ProgramWords, Error>
     ensures { IfOk result AreWithinLimits }
 {

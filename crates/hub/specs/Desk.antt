@@ -1,5 +1,6 @@
 -- What a caller knows of a hub, and what its calls do.
 use Rattle.std.specs.Prelude.{◌≡◌, ◌≤◌, ℕ, List, [], ◌∷◌, ◌++◌, Option, None, Some, Bool, true, IsTrue, nat_eq, drop, length}
+use Rattle.conf_lex.specs.Names.{is_user_name}
 use Rattle.std.specs.List.{AllByRecursion, filter}
 use Rattle.git_object.specs.Content.{Content}
 use Rattle.ref_store.specs.declared.command.Command.{Command}
@@ -46,7 +47,8 @@ mine desk = entries_of desk.caller desk.start desk.seen
 abbrev pub IsOfAnother : ℕ → Entry → Type 0
 IsOfAnother caller e = ¬ (e.caller ≡ caller)
 
--- An entry is made, and no other: the log had gone on, by entries of others, to what it was just before it, and the caller has then seen it up to it
+-- An entry is made, and no other: the log had gone on, by entries of others, to what it was just before it,
+-- and the caller has then seen it up to it
 pub record MakesEntry (old new : DeskView) (before : List Entry) (entry : Entry) : Type 0 where
   pub others : List Entry
   pub before_is : before ≡ old.seen ++ others
@@ -88,7 +90,8 @@ KeepsPins old new = (pin : Opening) → Stands pin old.admin old.seen → Stands
 abbrev pub known_alone : ℕ → HubView → DeskView
 known_alone start hub = record { admin = hub.admin; caller = 0; start = start; seen = hub.log; alone = true }
 
--- what every caller knows is legal, and its own entries begin within it
+-- the admin is a user's name, what every caller knows is legal, and its own entries begin within it
 pub record IsSound (desk : DeskView) : Type 0 where
+  pub named : is_user_name desk.admin ≡ true
   pub legal : IsLegal desk.admin desk.seen
   pub within : desk.start ≤ length desk.seen

@@ -15,7 +15,8 @@ use Rattle.hub_history.specs.History.{replay}
 use Rattle.hub_history.specs.State.{repository_at, wild_of}
 
 -- conf: behind the entry at this place the conf has been in force
--- wilds: by its name, behind which entry a repository has had its creator and its roles; of a name that isn't there it is the first
+-- wilds: by its name, behind which entry a repository has had its creator and its roles; of a name that isn't
+--   there it is the first
 pub record SinceView : Type 0 where
   pub conf : ℕ
   pub wilds : ByName ℕ

@@ -19,7 +19,8 @@ pub enum Entered {
 /// The answer to a push. Without memory nothing has changed, and the pin comes back.
 #[derive(Drop)]
 pub enum Pushed {
-    /// The outcomes of the commands, in their order; the repositories that came with the push's conf; and the conf that was in force just before the push, whose rules `DeniedNow` names.
+    /// The outcomes of the commands, in their order; the repositories that came with the push's conf; and the
+    /// conf that was in force just before the push, whose rules `DeniedNow` names.
     Settled {
         outcomes: OutcomeList,
         made: RepoList,

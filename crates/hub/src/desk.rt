@@ -13,15 +13,15 @@ use access_check::Want;
 use conf_lex::{RepoName, UserName};
 use git_object::ObjectList;
 use hub_history::PermChange;
-use hub_state::Pin;
+use hub_state::{Pin, PushRequest};
 use push_judging::Judged;
 use ref_store::CommandList;
 use std::alloc::Global;
 
 /// One caller of a hub, of which there may be others.
 pub trait Desk {
-    /// The admin from whose setup the log is legal, the caller's number, the log as far as the caller has seen it, from where on entries with the
-    /// number are its own, and whether it is the only caller.
+    /// The admin from whose setup the log is legal, the caller's number, the log as far as the caller has
+    /// seen it, from where on entries with the number are its own, and whether it is the only caller.
     ghost view: { Self → DeskView };
 
     /// A desk as its calls leave it is one of the same hub.
@@ -71,7 +71,8 @@ pub trait Desk {
         ensures keeps { KeepsPins (view self.old) (view self.new) }
         ensures goes { goes_on self.old self.new };
 
-    /// Tells that what the caller has seen is legal. It does nothing, and is called for its clause.
+    /// Tells that the admin is a user's name, and that what the caller has seen is legal. It does nothing,
+    /// and is called for its clause.
     fn sound(&self)
         ensures { IsSound (view self.now) };
 
@@ -132,8 +133,12 @@ impl Desk for LoneDesk {
         atomic: bool,
         judged: Judged,
     ) -> Pushed {
-        self.hub
-            .settle(alloc, 0, pin, pack, commands, atomic, judged)
+        let request = PushRequest {
+            pack,
+            commands,
+            atomic,
+        };
+        self.hub.settle(alloc, 0, pin, request, judged)
     }
 
     fn permit(
@@ -151,8 +156,9 @@ impl Desk for LoneDesk {
     }
 
     fn sound(&self) {
-        // called for its clause that the log is legal
+        // called for their clauses that the log is legal and that the admin is a user's name
         let _log = self.hub.log();
+        let _name = self.hub.conf().admin().bytes();
     }
 
     ghost stays = { λ desk. (refl, refl) };

@@ -50,7 +50,8 @@ impl Model for Hub {
 }
 
 impl Hub {
-    /// A new hub, with an empty log: the repositories `gitolite-admin`, where the admin may do everything, and `testing`, where everybody may.
+    /// A new hub, with an empty log: the repositories `gitolite-admin`, where the admin may do everything,
+    /// and `testing`, where everybody may.
     pub fn start(alloc: Global, admin: &UserName) -> Result<Hub, NoMemory>
         ensures { IfOk result (λ h. h ≡ record { admin = admin.now; log = [] }) }
     {
@@ -95,7 +96,8 @@ impl Hub {
         }
     }
 
-    /// How many refs all repositories have together, or 2^64 - 1 where there are more. It costs the number of the repositories.
+    /// How many refs all repositories have together, or 2^64 - 1 where there are more. It costs the number of
+    /// the repositories.
     pub fn ref_count(&self) -> u64
         ensures { result ≡ min (ref_count (state_of self.now)) (2 ^ 64 - 1) }
     {

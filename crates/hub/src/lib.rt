@@ -1,4 +1,5 @@
-//! The hub: openings, pushes, changes of roles and listings, the log of their answers, and the state that the log leads to.
+//! The hub: openings, pushes, changes of roles and listings, the log of their answers, and the state that the
+//! log leads to.
 //!
 //! - `table`: repositories by their names;
 //! - `since`: since when the conf in force and each repository's creator and roles are what they are;
@@ -27,5 +28,5 @@ pub use hub_history::{
     EnterKept, Entry, EntryList, Event, Letter, Outcome, OutcomeList, PermChange, PermsKept,
     RepoList, RepoName, UserName, Verdict, Want,
 };
-pub use hub_state::{ConfInForce, HostedRepo, NoMemory, Pin};
+pub use hub_state::{ConfInForce, HostedRepo, NoMemory, Pin, PushRequest};
 pub use push_judging::{Judged, judge};

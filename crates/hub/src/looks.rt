@@ -24,7 +24,8 @@ use std::alloc::Global;
 use std::collections::BTreeMap;
 
 impl Hub {
-    /// Lists what a user may see: the repositories that are there, in the byte order of their names, and then the patterns by which the user may create some.
+    /// Lists what a user may see: the repositories that are there, in the byte order of their names, and then
+    /// the patterns by which the user may create some.
     ///
     /// It costs a decision for each repository, and puts their names in order.
     pub fn look(&mut self, alloc: Global, caller: u64, user: &UserName) -> Looked

@@ -1,4 +1,5 @@
-// That what a `UserName` and a `RepoName` hold is a name in the words of legal logs. These functions do nothing, and are called for their clauses.
+// That what a `UserName` and a `RepoName` hold is a name in the words of legal logs. These functions do
+// nothing, and are called for their clauses.
 ghost use Rattle.std.specs.Prelude.{◌≡◌, true};
 ghost use Rattle.conf_lex.specs.Names.{is_user_name};
 ghost use Rattle.hub_history.specs.History.{AreNames, IsOfUser};

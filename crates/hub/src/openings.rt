@@ -24,7 +24,8 @@ use std::alloc::Global;
 use wild_perms::Wild;
 
 impl Hub {
-    /// Opens a repository for a user. With `Granted` and `Created` comes a pin, which keeps what holds at this entry; with `Denied` the conf in force.
+    /// Opens a repository for a user. With `Granted` and `Created` comes a pin, which keeps what holds at
+    /// this entry; with `Denied` the conf in force.
     ///
     /// It costs the decisions over the opening. The pin shares the conf and the repository.
     pub fn enter(

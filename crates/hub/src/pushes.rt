@@ -12,6 +12,8 @@ ghost use Rattle.hub_history.specs.Push.{AreWithinLimits, JudgesAllAtPush, Makes
 ghost use Rattle.hub_history.specs.State.{CommitAmong, in_force, placed_in, put_in_place, repository_at, wild_of};
 ghost use Rattle.push_judging.specs.Again.{IsJudgedBy, TellsAgain};
 ghost use Rattle.push_judging.specs.Judged.{AreTold, IsJudgement};
+ghost use Rattle.push_settling.specs.Basis.{changed_to, same_in};
+ghost use Rattle.push_settling.specs.declared.basis.Standing.TheVariants as standing;
 ghost use Rattle.hub.specs.Answer.{AnswersPush, IsDueIn, settled};
 ghost use Rattle.hub.specs.Hub.{Logs, logged, state_of, stored};
 ghost use Rattle.hub.specs.Puts.{conf_by, conf_chosen};
@@ -21,12 +23,11 @@ use crate::hub::Hub;
 use crate::table::Named;
 use base_types::NoMemory;
 use conf_lex::RepoName;
-use git_object::ObjectList;
 use hub_history::{Event, LoggedCommands, LoggedPack, Outcome, OutcomeList, RepoList};
-use hub_state::{ConfInForce, HostedRepo, Pin, PreparedPack};
+use hub_state::{ConfInForce, HostedRepo, Pin, PreparedPack, PushRequest};
 use push_judging::{CommandOutcomes, Judged, is_of_conf};
-use push_settling::{Settled, settle};
-use ref_store::{Command, CommandList, Repo};
+use push_settling::{Basis, Left, Settled, Standing, settle};
+use ref_store::{Command, Repo};
 use rule_compile::some_patterns_are_true;
 use std::alloc::Global;
 use wild_perms::Wild;
@@ -39,7 +40,8 @@ struct SettledPush {
     conf: ConfInForce,
 }
 
-// What a push puts into the log and in place. Where no command is done, `same` is the repository as it is, with more known of it.
+// What a push puts into the log and in place. Where no command is done, `same` is the repository as it is,
+// with more known of it.
 #[derive(Drop)]
 struct Plan {
     outcomes: OutcomeList,
@@ -52,35 +54,32 @@ struct Plan {
 impl Hub {
     /// Settles a push that has been judged, by what is in force now and by what is in the repository now.
     ///
-    /// It costs the commands and, once a ref moves, the repository's refs; where objects came since the push was judged it compares the pack again. A conf that
-    /// is put in force costs its plain repositories. Nothing is compiled. Only where the conf, or the repository's creator or roles, changed since the opening is anything
-    /// decided by rules, which costs what `Judged::at_push` does.
+    /// It costs the commands and, once a ref moves, the repository's refs; where objects came since the push
+    /// was judged it compares the pack again. A conf that is put in force costs its plain repositories.
+    /// Nothing is compiled. Only where the conf, or the repository's creator or roles, changed since the
+    /// opening is anything decided by rules, which costs what `Judged::at_push` does.
     pub fn settle(
         &mut self,
         alloc: Global,
         caller: u64,
         pin: Pin,
-        pack: ObjectList,
-        commands: CommandList,
-        atomic: bool,
+        request: PushRequest,
         judged: Judged,
     ) -> Pushed
         requires stands { Stands pin self.old.admin self.old.log }
         requires write { pin.pinned.want ≡ want.Write }
-        requires within { AreWithinLimits commands }
-        requires fit { FitOnePack pack }
-        requires judged { IsJudgement pin.pinned pack commands judged }
-        ensures logs { Logs self.old self.new caller (settled pin pack commands atomic result) }
-        ensures due { IsDueIn self.old (settled pin pack commands atomic result) }
+        requires within { AreWithinLimits request.commands }
+        requires fit { FitOnePack request.pack }
+        requires judged { IsJudgement pin.pinned request.pack request.commands judged }
+        ensures logs { Logs self.old self.new caller (settled pin request.pack request.commands request.atomic result) }
+        ensures due { IsDueIn self.old (settled pin request.pack request.commands request.atomic result) }
         ensures answers { AnswersPush self.old pin result }
         ensures legal { IsLegal self.new.admin self.new.log }
     {
         // called for its clause that the log is legal
         let _log = self.log();
-        match self.told(alloc, &pin, &pack, &commands, judged) {
-            Ok((told, prepared)) => {
-                self.settle_told(alloc, caller, pin, pack, commands, atomic, told, prepared)
-            }
+        match self.told(alloc, &pin, &request, judged) {
+            Ok((told, prepared)) => self.settle_told(alloc, caller, pin, request, told, prepared),
             Err(_) => Pushed::NoMemory(pin),
         }
     }
@@ -91,25 +90,23 @@ impl Hub {
         alloc: Global,
         caller: u64,
         pin: Pin,
-        pack: ObjectList,
-        commands: CommandList,
-        atomic: bool,
+        request: PushRequest,
         told: CommandOutcomes,
         prepared: PreparedPack,
     ) -> Pushed
         requires stands { Stands pin self.old.admin self.old.log }
         requires write { pin.pinned.want ≡ want.Write }
-        requires within { AreWithinLimits commands }
-        requires fit { FitOnePack pack }
-        requires told { AreTold (in_force (state_of self.old) pin.pinned.repo) pin.pinned pack commands told.outcomes.items told.confs.items }
+        requires within { AreWithinLimits request.commands }
+        requires fit { FitOnePack request.pack }
+        requires told { AreTold (in_force (state_of self.old) pin.pinned.repo) pin.pinned request.pack request.commands told.outcomes.items told.confs.items }
         requires before { prepared.before ≡ pin.pinned.repository.objects }
-        requires objects { prepared.objects ≡ pin.pinned.repository.objects ++ pack }
-        ensures logs { Logs self.old self.new caller (settled pin pack commands atomic result) }
-        ensures due { IsDueIn self.old (settled pin pack commands atomic result) }
+        requires objects { prepared.objects ≡ pin.pinned.repository.objects ++ request.pack }
+        ensures logs { Logs self.old self.new caller (settled pin request.pack request.commands request.atomic result) }
+        ensures due { IsDueIn self.old (settled pin request.pack request.commands request.atomic result) }
         ensures answers { AnswersPush self.old pin result }
         ensures legal { IsLegal self.new.admin self.new.log }
     {
-        let settled = self.settled(alloc, caller, &pin, pack, commands, atomic, told, prepared);
+        let settled = self.settled(alloc, caller, &pin, request, told, prepared);
         // called for its clause that the log is legal
         let _log = self.log();
         match settled {
@@ -128,20 +125,20 @@ impl Hub {
         }
     }
 
-    // What the commands are told by the opening and by what is in force now, and what was found out of the pack.
+    // What the commands are told by the opening and by what is in force now, and what was found out of the
+    // pack.
     fn told(
         &self,
         alloc: Global,
         pin: &Pin,
-        pack: &ObjectList,
-        commands: &CommandList,
+        request: &PushRequest,
         mut judged: Judged,
     ) -> Result<(CommandOutcomes, PreparedPack), NoMemory>
         requires stands { Stands pin.now self.now.admin self.now.log }
-        requires judged { IsJudgement pin.now.pinned pack.now commands.now judged }
-        ensures told { IfOk result (λ t. AreTold (in_force (state_of self.now) pin.now.pinned.repo) pin.now.pinned pack.now commands.now t.0.outcomes.items t.0.confs.items) }
+        requires judged { IsJudgement pin.now.pinned request.now.pack request.now.commands judged }
+        ensures told { IfOk result (λ t. AreTold (in_force (state_of self.now) pin.now.pinned.repo) pin.now.pinned request.now.pack request.now.commands t.0.outcomes.items t.0.confs.items) }
         ensures before { IfOk result (λ t. t.1.before ≡ pin.now.pinned.repository.objects) }
-        ensures objects { IfOk result (λ t. t.1.objects ≡ pin.now.pinned.repository.objects ++ pack.now) }
+        ensures objects { IfOk result (λ t. t.1.objects ≡ pin.now.pinned.repository.objects ++ request.now.pack) }
     {
         if self.stands_as_opened(pin) {
             return Ok(judged.into_parts());
@@ -151,12 +148,13 @@ impl Hub {
             let (_, prepared) = judged.into_parts();
             return Ok((told, prepared));
         }
-        let told = judged.at_push(alloc, pin, pack, commands, self.conf(), hosted.wild())?;
+        let told = judged.at_push(alloc, pin, request, self.conf(), hosted.wild())?;
         let (_, prepared) = judged.into_parts();
         Ok((told, prepared))
     }
 
-    // What the commands are told, where the push was judged again by the creator and the roles that its repository has now, and the conf is that of the opening.
+    // What the commands are told, where the push was judged again by the creator and the roles that its
+    // repository has now, and the conf is that of the opening.
     fn told_again(
         &self,
         pin: &Pin,
@@ -175,8 +173,9 @@ impl Hub {
         judged.take_again(wild)
     }
 
-    /// The creator and the roles by which a push is to be judged again before its turn, if it is: they changed since its opening, and again since it was last
-    /// judged. Where the conf changed too it has to be judged in its turn. It costs a look-up and, where roles changed, the roles of the repository.
+    /// The creator and the roles by which a push is to be judged again before its turn, if it is: they
+    /// changed since its opening, and again since it was last judged. Where the conf changed too it has to be
+    /// judged in its turn. It costs a look-up and, where roles changed, the roles of the repository.
     pub fn wild_to_judge(
         &self,
         alloc: Global,
@@ -218,26 +217,24 @@ impl Hub {
         alloc: Global,
         caller: u64,
         pin: &Pin,
-        pack: ObjectList,
-        commands: CommandList,
-        atomic: bool,
+        request: PushRequest,
         told: CommandOutcomes,
         prepared: PreparedPack,
     ) -> Result<SettledPush, NoMemory>
         requires stands { Stands pin.now self.old.admin self.old.log }
         requires write { pin.now.pinned.want ≡ want.Write }
-        requires within { AreWithinLimits commands }
-        requires fit { FitOnePack pack }
-        requires told { AreTold (in_force (state_of self.old) pin.now.pinned.repo) pin.now.pinned pack commands told.outcomes.items told.confs.items }
+        requires within { AreWithinLimits request.commands }
+        requires fit { FitOnePack request.pack }
+        requires told { AreTold (in_force (state_of self.old) pin.now.pinned.repo) pin.now.pinned request.pack request.commands told.outcomes.items told.confs.items }
         requires before { prepared.before ≡ pin.now.pinned.repository.objects }
-        requires objects { prepared.objects ≡ pin.now.pinned.repository.objects ++ pack }
-        ensures due { IfOk result (λ s. IsDueBehind self.old.admin self.old.log (event.Pushed pin.now.place pack commands atomic s.outcomes s.made)) }
-        ensures logs { IfOk result (λ s. self.new ≡ logged self.old caller (event.Pushed pin.now.place pack commands atomic s.outcomes s.made)) }
+        requires objects { prepared.objects ≡ pin.now.pinned.repository.objects ++ request.pack }
+        ensures due { IfOk result (λ s. IsDueBehind self.old.admin self.old.log (event.Pushed pin.now.place request.pack request.commands request.atomic s.outcomes s.made)) }
+        ensures logs { IfOk result (λ s. self.new ≡ logged self.old caller (event.Pushed pin.now.place request.pack request.commands request.atomic s.outcomes s.made)) }
         ensures conf { IfOk result (λ s. s.conf ≡ (state_of self.old).conf) }
         ensures err { OnErr result (self.new ≡ self.old) }
     {
         let before = self.conf().clone()?;
-        let plan = self.plan(alloc, pin, &pack, &commands, atomic, told, prepared)?;
+        let plan = self.plan(alloc, pin, &request, told, prepared)?;
         let Plan {
             outcomes,
             made,
@@ -251,7 +248,7 @@ impl Hub {
             made: made.clone()?,
             conf: before,
         };
-        let event = pushed(pin.place(), &pack, &commands, atomic, outcomes, made);
+        let event = pushed(pin.place(), &request, outcomes, made);
         self.commit(caller, event, changes, conf)?;
         Ok(settled)
     }
@@ -261,21 +258,19 @@ impl Hub {
         &self,
         alloc: Global,
         pin: &Pin,
-        pack: &ObjectList,
-        commands: &CommandList,
-        atomic: bool,
+        request: &PushRequest,
         told: CommandOutcomes,
         prepared: PreparedPack,
     ) -> Result<Plan, NoMemory>
         requires stands { Stands pin.now self.now.admin self.now.log }
         requires write { pin.now.pinned.want ≡ want.Write }
-        requires within { AreWithinLimits commands.now }
-        requires fit { FitOnePack pack.now }
-        requires told { AreTold (in_force (state_of self.now) pin.now.pinned.repo) pin.now.pinned pack.now commands.now told.outcomes.items told.confs.items }
+        requires within { AreWithinLimits request.now.commands }
+        requires fit { FitOnePack request.now.pack }
+        requires told { AreTold (in_force (state_of self.now) pin.now.pinned.repo) pin.now.pinned request.now.pack request.now.commands told.outcomes.items told.confs.items }
         requires before { prepared.before ≡ pin.now.pinned.repository.objects }
-        requires objects { prepared.objects ≡ pin.now.pinned.repository.objects ++ pack.now }
-        ensures due { IfOk result (λ p. IsDueBehind self.now.admin self.now.log (event.Pushed pin.now.place pack.now commands.now atomic p.outcomes p.made)) }
-        ensures step { IfOk result (λ p. step (history self.now.admin self.now.log) (event.Pushed pin.now.place pack.now commands.now atomic p.outcomes p.made) ≡ stored (placed_in (state_of self.now).repositories p.changes.items) (unwrap_or p.conf (state_of self.now).conf)) }
+        requires objects { prepared.objects ≡ pin.now.pinned.repository.objects ++ request.now.pack }
+        ensures due { IfOk result (λ p. IsDueBehind self.now.admin self.now.log (event.Pushed pin.now.place request.now.pack request.now.commands request.now.atomic p.outcomes p.made)) }
+        ensures step { IfOk result (λ p. step (history self.now.admin self.now.log) (event.Pushed pin.now.place request.now.pack request.now.commands request.now.atomic p.outcomes p.made) ≡ stored (placed_in (state_of self.now).repositories p.changes.items) (unwrap_or p.conf (state_of self.now).conf)) }
         ensures admin { IfOk result (λ p. IfSome p.conf (λ conf. conf.admin ≡ self.now.admin)) }
         ensures same { IfOk result (λ p. IfSome p.same (λ same. same ≡ repository_at (state_of self.now) pin.now.pinned.repo)) }
     {
@@ -285,18 +280,15 @@ impl Hub {
             outcomes: judged,
             confs,
         } = told;
-        let Settled {
-            outcomes,
-            next,
-            same,
-        } = self.settle_now(alloc, pin, pack, commands, atomic, &judged, prepared)?;
+        let Settled { outcomes, left } = self.settle_now(alloc, pin, request, &judged, prepared)?;
         let conf = conf_of(
             confs,
             pin.repo_name(),
-            commands.as_slice(),
+            request.commands.as_slice(),
             outcomes.as_slice(),
         );
         let made = self.lacking(alloc, &conf)?;
+        let (next, same) = next_and_same(left);
         let changes = changes_of(alloc, pin.repo_name(), next, &made)?;
         Ok(Plan {
             outcomes,
@@ -312,27 +304,27 @@ impl Hub {
         &self,
         alloc: Global,
         pin: &Pin,
-        pack: &ObjectList,
-        commands: &CommandList,
-        atomic: bool,
+        request: &PushRequest,
         judged: &[Option<Outcome>],
         prepared: PreparedPack,
     ) -> Result<Settled, NoMemory>
         requires stands { Stands pin.now self.now.admin self.now.log }
-        requires few { length commands.now ≤ 10000 }
-        requires judged { (ps : Patterns) → AreTrue ps → JudgesAllAtPush ps (in_force (state_of self.now) pin.now.pinned.repo) pin.now.pinned pack.now commands.now judged.now }
+        requires few { length request.now.commands ≤ 10000 }
+        requires judged { (ps : Patterns) → AreTrue ps → JudgesAllAtPush ps (in_force (state_of self.now) pin.now.pinned.repo) pin.now.pinned request.now.pack request.now.commands judged.now }
         requires before { prepared.before ≡ pin.now.pinned.repository.objects }
-        requires objects { prepared.objects ≡ pin.now.pinned.repository.objects ++ pack.now }
-        ensures outcomes { IfOk result (λ s. s.outcomes ≡ outcomes_in (repository_at (state_of self.now) pin.now.pinned.repo) pack.now commands.now atomic judged.now) }
-        ensures next { IfOk result (λ s. s.next ≡ repository_left (repository_at (state_of self.now) pin.now.pinned.repo) pack.now commands.now s.outcomes) }
-        ensures same { IfOk result (λ s. IfSome s.same (λ same. same ≡ repository_at (state_of self.now) pin.now.pinned.repo)) }
+        requires objects { prepared.objects ≡ pin.now.pinned.repository.objects ++ request.now.pack }
+        ensures outcomes { IfOk result (λ s. s.outcomes ≡ outcomes_in (repository_at (state_of self.now) pin.now.pinned.repo) request.now.pack request.now.commands request.now.atomic judged.now) }
+        ensures next { IfOk result (λ s. changed_to s.left ≡ repository_left (repository_at (state_of self.now) pin.now.pinned.repo) request.now.pack request.now.commands s.outcomes) }
+        ensures same { IfOk result (λ s. IfSome (same_in s.left) (λ same. same ≡ repository_at (state_of self.now) pin.now.pinned.repo)) }
     {
-        // called for their clauses that the log is legal and that some answers about patterns are true, which the proof cites
+        // called for their clauses that the log is legal and that some answers about patterns are true, which
+        // the proof cites
         let _log = self.log();
         some_patterns_are_true();
         let now = self.hosted(alloc, pin.repo_name())?;
-        let same = has_as_many(pin.repo(), now.repo());
-        settle(alloc, &now, judged, prepared, pack, commands, atomic, same)
+        let standing = standing_of(pin.repo(), now.repo());
+        let basis = Basis { prepared, standing };
+        settle(alloc, &now, judged, basis, request)
     }
 
     // The plain repositories of a conf that aren't there.
@@ -359,31 +351,39 @@ impl Hub {
 }
 
 // The event of a push. It keeps neither objects nor commands.
-fn pushed(
-    place: u64,
-    pack: &ObjectList,
-    commands: &CommandList,
-    atomic: bool,
-    outcomes: OutcomeList,
-    made: RepoList,
-) -> Event
-    ensures { result ≡ event.Pushed place pack.now commands.now atomic outcomes made }
+fn pushed(place: u64, request: &PushRequest, outcomes: OutcomeList, made: RepoList) -> Event
+    ensures { result ≡ event.Pushed place request.now.pack request.now.commands request.now.atomic outcomes made }
 {
     Event::Pushed {
         place,
-        pack: LoggedPack::of(pack),
-        commands: LoggedCommands::of(commands),
-        atomic,
+        pack: LoggedPack::of(&request.pack),
+        commands: LoggedCommands::of(&request.commands),
+        atomic: request.atomic,
         outcomes,
         made,
     }
 }
 
-// Whether there are as many objects as the opening had. Objects only come, so these are the same then.
-fn has_as_many(pinned: &Repo, now: &Repo) -> bool
-    ensures { result ≡ true → length pinned.now.objects ≡ length now.now.objects }
+// The repository that is put in place, if one is, and the one that stays, where more is known of it.
+fn next_and_same(left: Left) -> (Option<HostedRepo>, Option<HostedRepo>)
+    ensures next { result.0 ≡ changed_to left }
+    ensures same { result.1 ≡ same_in left }
 {
-    pinned.count() == now.count()
+    match left {
+        Left::Changed(next) => (Some(next), None),
+        Left::Same(same) => (None, same),
+    }
+}
+
+// How the objects stand to those of the opening. Objects only come, so where there are as many these are the
+// same.
+fn standing_of(pinned: &Repo, now: &Repo) -> Standing
+    ensures { result ≡ standing.Unmoved → length pinned.now.objects ≡ length now.now.objects }
+{
+    if pinned.count() == now.count() {
+        return Standing::Unmoved;
+    }
+    Standing::Moved
 }
 
 // The conf that a push puts in force: that of the first command for its branch that is done.

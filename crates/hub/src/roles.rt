@@ -21,9 +21,11 @@ use std::alloc::Global;
 use wild_perms::{PermsAnswer, Wild};
 
 impl Hub {
-    /// Changes the roles of a repository, or lists them, for its creator. A repository that isn't there has no creator.
+    /// Changes the roles of a repository, or lists them, for its creator. A repository that isn't there has
+    /// no creator.
     ///
-    /// It costs the repository's roles, which are copied, and what `Policy::declares` costs by the conf in force.
+    /// It costs the repository's roles, which are copied, and what `Policy::declares` costs by the conf in
+    /// force.
     pub fn permit(
         &mut self,
         alloc: Global,

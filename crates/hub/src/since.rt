@@ -13,9 +13,11 @@ use indexmap::IndexMap;
 use std::alloc::Global;
 use std::marker::Model;
 
-/// The place of the entry behind which the conf has been in force, and by its name that behind which a repository has had its creator and its roles.
+/// The place of the entry behind which the conf has been in force, and by its name that behind which a
+/// repository has had its creator and its roles.
 ///
-/// A repository whose creator and roles never changed isn't in the table. A look-up takes the same time however many there are.
+/// A repository whose creator and roles never changed isn't in the table. A look-up takes the same time
+/// however many there are.
 #[derive(Drop)]
 pub struct Since {
     conf: u64,

@@ -57,7 +57,8 @@ impl RepoTable {
         };
     }
 
-    /// Puts all of them in place, in room that is there, the last first; of two with one name the first counts.
+    /// Puts all of them in place, in room that is there, the last first; of two with one name the first
+    /// counts.
     pub fn put_all(&mut self, mut changes: Vec<Named>)
         requires { vec_len changes ≤ spare self.old.entries }
         ensures { map_of self.new.entries.entries ≡ placed_in (map_of self.old.entries.entries) changes.items }

@@ -46,7 +46,8 @@ begins_through a b c ab bc = (ab.0 ++ bc.0, bc.1 ∙ ap (λ os. os ++ bc.0) ab.1
 
 -- ---- what a repository becomes
 
--- It goes on as a repository that is there with the same creator, whose objects begin with those that it had; or it isn't there.
+-- It goes on as a repository that is there with the same creator, whose objects begin with those that it had;
+-- or it isn't there.
 pub record GoesOn (was is : Repository) : Type 0 where
   pub objects : Begins was.objects is.objects
   pub creator : is.creator ≡ was.creator

@@ -243,7 +243,9 @@ module _ (ps : Patterns) (force : InForce) (now : Repository) (pinned : Pinned) 
   abbrev run : List Outcome
   run = in_order now.refs cs js
 
-  -- An outcome that is told by the refs is of a command of which neither the opening says anything nor the rules just before the push, so of the only one for its ref, and is told by the refs at its turn, where this has the value that it had at first
+  -- An outcome that is told by the refs is of a command of which neither the opening says anything nor the
+  -- rules just before the push, so of the only one for its ref, and is told by the refs at its turn, where
+  -- this has the value that it had at first
   pub record IsByRefs (k : ℕ) (c : Command) (o : Outcome) : Type 0 where
     pub untold : JudgesAtPush ps force pinned pack cs c None
     pub same : value (refs_at now.refs cs run k) c.name ≡ value now.refs c.name

@@ -22,7 +22,8 @@ same_object a b = nat_eq (kind_number a.kind) (kind_number b.kind) && same_name 
 abbrev pub collides : Content → Content → Bool
 collides new old = same_id (object_name new) (object_name old) && not (same_object new old)
 
--- the name of the first object of a pack that differs from one of its name before it: in the repository, or earlier in the pack
+-- the name of the first object of a pack that differs from one of its name before it: in the repository, or
+-- earlier in the pack
 abbrev pub collision : List Content → List Content → Option ObjectId
 collision before [] = None
 collision before (o ∷ os) = if list_any (collides o) before then Some (object_name o) else collision (before ++ o ∷ []) os

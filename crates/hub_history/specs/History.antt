@@ -19,7 +19,8 @@ use Rattle.hub_history.specs.Push.{AreWithinLimits, JudgesAllAtPush, Makes, conf
 use Rattle.hub_history.specs.Roles.{IsDueChange, given_by}
 use Rattle.hub_history.specs.State.{Change, Repository, State, changed, empty_repository, in_force, put_in_place, repository_at, start}
 
--- what a log has led to: the state, and at each place of the log what the opening there pinned, if one stands there that pins
+-- what a log has led to: the state, and at each place of the log what the opening there pinned, if one stands
+-- there that pins
 pub record History : Type 0 where
   pub state : State
   pub openings : List (Option Pinned)
@@ -83,8 +84,9 @@ replay admin log = (history admin log).state
 
 -- ---- what an event has to record
 
--- A push names an opening for writing that was granted, is within the limits, and has objects that fit one pack. It records what each command is told, by that opening and by the state
--- just before the push, and the repositories that its conf makes.
+-- A push names an opening for writing that was granted, is within the limits, and has objects that fit one
+-- pack. It records what each command is told, by that opening and by the state just before the push, and the
+-- repositories that its conf makes.
 pub record IsDuePush (patterns : Patterns) (state : State) (pinned : Pinned) (pack : List Content) (commands : List Command) (atomic : Bool) (outcomes : List Outcome) (made : List Name) : Type 0 where
   pub for_writing : pinned.want ≡ Write
   pub within : AreWithinLimits commands
@@ -119,7 +121,8 @@ role_text change.List = []
 abbrev pub HasShortRole : PermChange → Type 0
 HasShortRole asked = length (role_text asked) ≤ 65516
 
--- the names are names, what is asked for is short enough, and the answer that an event records is the one that is due by what stands before it
+-- the names are names, what is asked for is short enough, and the answer that an event records is the one
+-- that is due by what stands before it
 abbrev pub IsDue : Patterns → History → Event → Type 0
 IsDue patterns h (Entered user repo want answer) = AreNames user repo × IsDueOpening patterns h.state user repo want answer
 IsDue patterns h (Pushed place pack commands atomic outcomes made) = IsDueAfter patterns h.state (opening_at h place) pack commands atomic outcomes made
@@ -130,7 +133,8 @@ abbrev pub IsLegalFrom : Patterns → History → List Entry → Type 0
 IsLegalFrom patterns h [] = Unit {0}
 IsLegalFrom patterns h (e ∷ es) = IsDue patterns h e.event × IsLegalFrom patterns (after h e.event) es
 
--- each recorded answer is the one that is due by what stands before it, whatever answers about patterns are true
+-- each recorded answer is the one that is due by what stands before it, whatever answers about patterns are
+-- true
 abbrev pub IsLegal : Name → List Entry → Type 0
 IsLegal admin log = (patterns : Patterns) → AreTrue patterns → IsLegalFrom patterns (new_history admin) log
 

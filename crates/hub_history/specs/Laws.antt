@@ -38,7 +38,8 @@ use Rattle.hub_history.specs.State.{Conf, HasShortNames, Repository, State, conf
 abbrev pub IsDueBehind : Name → List Entry → Event → Type 0
 IsDueBehind admin log event = (patterns : Patterns) → AreTrue patterns → IsDue patterns (history admin log) event
 
--- a log is legal exactly where, for each place, the answer recorded there is due on the history of the entries before that place
+-- a log is legal exactly where, for each place, the answer recorded there is due on the history of the
+-- entries before that place
 abbrev pub LegalByPlaces : Type 0
 LegalByPlaces =
     (admin : Name) (log : List Entry) → IsLegal admin log ↔ ((place : ℕ) (entry : Entry) → slice_get log place ≡ Some entry → IsDueBehind admin (take place log) entry.event)
@@ -61,7 +62,8 @@ PinsOfItsPlace =
     (admin : Name) (before : List Entry) (entry : Entry) (more : List Entry)
     → opening_at (history admin (before ++ entry ∷ more)) (length before) ≡ pinned_by (replay admin (before ++ entry ∷ [])) entry.event
 
--- at a place of a log an opening stands that was granted, and this is what it pinned: what the state had after the entries up to and including it
+-- at a place of a log an opening stands that was granted, and this is what it pinned: what the state had
+-- after the entries up to and including it
 pub record IsOpeningAt (admin : Name) (log : List Entry) (place : ℕ) (pinned : Pinned) : Type 0 where
   pub caller : ℕ
   pub answer : EnterKept
@@ -112,7 +114,8 @@ RefsStayNonzero = OfEachRepository (λ repository. HasNoZero repository.refs)
 abbrev pub ref_in : State → Name → Name → ObjectId
 ref_in state repo name = value (repository_at state repo).refs name
 
--- an entry behind a log is a push into a repository after this opening, and one of its commands has this outcome
+-- an entry behind a log is a push into a repository after this opening, and one of its commands has this
+-- outcome
 pub record TellsCommand (admin : Name) (before : List Entry) (entry : Entry) (pinned : Pinned) (command : Command) (outcome : Outcome) : Type 0 where
   pub place : ℕ
   pub pack : List Content
@@ -126,7 +129,8 @@ pub record TellsCommand (admin : Name) (before : List Entry) (entry : Entry) (pi
   pub command_is : slice_get commands index ≡ Some command
   pub outcome_is : slice_get outcomes index ≡ Some outcome
 
--- A command that is done was let be made by the rules that were in force at its opening, for who opened the repository.
+-- A command that is done was let be made by the rules that were in force at its opening, for who opened the
+-- repository.
 abbrev pub DoneIsLet : Type 0
 DoneIsLet =
     (admin : Name) (before : List Entry) (entry : Entry) (pinned : Pinned) (command : Command) → IsLegal admin (before ++ entry ∷ [])
@@ -134,7 +138,8 @@ DoneIsLet =
     → (rules : Flat) × AreInForce patterns pinned.conf rules × ((facts : Facts) → AreFacts (pinned.repository.objects ++ tells.pack) command.name command.old command.new facts
     → LetsBeMade patterns rules.rules (asked patterns rules (wild_of pinned.repository) pinned.repo pinned.user) (pinned.repository.objects ++ tells.pack) command facts)
 
--- So it was by the rules in force just before the push, by the creator and the roles that the repository had then.
+-- So it was by the rules in force just before the push, by the creator and the roles that the repository had
+-- then.
 abbrev pub DoneIsLetNow : Type 0
 DoneIsLetNow =
     (admin : Name) (before : List Entry) (entry : Entry) (pinned : Pinned) (command : Command) → IsLegal admin (before ++ entry ∷ [])
@@ -142,7 +147,8 @@ DoneIsLetNow =
     → (rules : Flat) × AreInForce patterns (replay admin before).conf rules × ((facts : Facts) → AreFacts (pinned.repository.objects ++ tells.pack) command.name command.old command.new facts
     → LetsBeMade patterns rules.rules (asked patterns rules (wild_of (repository_at (replay admin before) pinned.repo)) pinned.repo pinned.user) (pinned.repository.objects ++ tells.pack) command facts)
 
--- a command that is done moves its ref from the old value, which that had just before the push, to the new one
+-- a command that is done moves its ref from the old value, which that had just before the push, to the new
+-- one
 abbrev pub DoneMoves : Type 0
 DoneMoves =
     (admin : Name) (before : List Entry) (entry : Entry) (pinned : Pinned) (command : Command) → IsLegal admin (before ++ entry ∷ []) → TellsCommand admin before entry pinned command Done
@@ -165,7 +171,8 @@ StaleIsStale =
 abbrev pub HasNoRefusal : Outcome → Type 0
 HasNoRefusal outcome = (outcome ≡ Done) ⊎ ((first : ℕ) × (outcome ≡ AtomicOther first))
 
--- the moment just before a command of a push: the refs just before the push, the push's commands with their outcomes, and the command's place among them
+-- the moment just before a command of a push: the refs just before the push, the push's commands with their
+-- outcomes, and the command's place among them
 pub record Moment : Type 0 where
   pub refs : Refs
   pub commands : List Command
@@ -188,7 +195,8 @@ pub record IsMovedBefore (moment : Moment) (name : Name) (id : ObjectId) : Type 
 abbrev pub IsUnmovedBefore : Moment → Name → Type 0
 IsUnmovedBefore moment name = (id : ObjectId) → ¬ IsMovedBefore moment name id
 
--- a ref's value at the moment, zero where there is none: the one that an earlier command moves it to, and where none does the one just before the push
+-- a ref's value at the moment, zero where there is none: the one that an earlier command moves it to, and
+-- where none does the one just before the push
 abbrev pub IsValueAt : Moment → Name → ObjectId → Type 0
 IsValueAt moment name id = IsMovedBefore moment name id ⊎ (IsUnmovedBefore moment name × (value moment.refs name ≡ id))
 
@@ -196,7 +204,8 @@ IsValueAt moment name id = IsMovedBefore moment name id ⊎ (IsUnmovedBefore mom
 abbrev pub IsThereAt : Moment → Name → Type 0
 IsThereAt moment name = (id : ObjectId) × IsValueAt moment name id × ¬ (id ≡ zero_id)
 
--- A command creates a ref that isn't there, and this one is in its way: of the refs that are there it is the least, in byte order, that is a directory of the other or stands below it
+-- A command creates a ref that isn't there, and this one is in its way: of the refs that are there it is the
+-- least, in byte order, that is a directory of the other or stands below it
 pub record IsInTheWay (moment : Moment) (command : Command) (r : Name) : Type 0 where
   pub create : command.old ≡ zero_id
   pub absent : value moment.refs command.name ≡ zero_id
@@ -248,7 +257,8 @@ HasRules patterns state = (rules : Flat) × AreInForce patterns state.conf rules
 abbrev pub ConfStaysGood : Type 0
 ConfStaysGood = (admin : Name) (log : List Entry) → is_user_name admin ≡ true → IsLegal admin log → (patterns : Patterns) → AreTrue patterns → HasRules patterns (replay admin log)
 
--- it is another at an entry only where a command for the conf's branch is done there, and then it is the one at that command's new value
+-- it is another at an entry only where a command for the conf's branch is done there, and then it is the one
+-- at that command's new value
 abbrev pub ConfChangesAreDone : Type 0
 ConfChangesAreDone =
     (admin : Name) (before : List Entry) (entry : Entry) → ¬ ((replay admin (before ++ entry ∷ [])).conf ≡ (replay admin before).conf)

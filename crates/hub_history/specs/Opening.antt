@@ -28,8 +28,8 @@ by_creation (Allowed seq) = Created
 by_creation (DeniedBy seq) = NoRepo
 by_creation Fallthru = NoRepo
 
--- Where the repository is there, the first stage decides. Where it isn't, the first stage is asked with the asker as its creator, and a denial is the answer;
--- otherwise it is asked whether the asker may make it.
+-- Where the repository is there, the first stage decides. Where it isn't, the first stage is asked with the
+-- asker as its creator, and a denial is the answer; otherwise it is asked whether the asker may make it.
 abbrev pub answer_by : Patterns → Flat → Option Repository → Name → Name → Want → EnterKept
 answer_by patterns rules (Some repository) user repo want = by_verdict (first_stage patterns rules (asked patterns rules (wild_of repository) repo user) want) Granted
 answer_by patterns rules None user repo want = by_verdict (unborn_stage patterns rules repo user want) (by_creation (may_create patterns rules repo user))

@@ -111,7 +111,8 @@ Judges patterns pinned pack commands command found =
 abbrev pub JudgesAll : Patterns → Pinned → List Content → List Command → List (Option Outcome) → Type 0
 JudgesAll patterns pinned pack commands found = AllZip (Judges patterns pinned pack commands) commands found
 
--- II. By the rules just before the push too: a change that they don't let be made, for who opened the repository, is refused as well
+-- II. By the rules just before the push too: a change that they don't let be made, for who opened the
+-- repository, is refused as well
 
 abbrev pub outcome_now : Option Refusal → Option Outcome
 outcome_now None = None
@@ -123,7 +124,8 @@ ByRulesNow patterns now pinned objects command said =
     (rules : Flat) × (refused : Option Refusal) × AreInForce patterns now.conf rules
     × RulesSay patterns rules.rules (asked patterns rules now.wild pinned.repo pinned.user) objects command refused × (said ≡ outcome_now refused)
 
--- the outcome of one command by the opening and by what is in force just before the push, if there is one: the first of these
+-- the outcome of one command by the opening and by what is in force just before the push, if there is one:
+-- the first of these
 abbrev pub JudgesAtPush : Patterns → InForce → Pinned → List Content → List Command → Command → Option Outcome → Type 0
 JudgesAtPush patterns now pinned pack commands command found =
     First (Judges patterns pinned pack commands command)
@@ -196,7 +198,8 @@ beside_first (Some first) outcomes = map (beside first) outcomes
 abbrev pub together : Bool → List Outcome → List Outcome
 together atomic outcomes = if atomic then beside_first (position (λ o. not (is_done o)) outcomes) outcomes else outcomes
 
--- V. Before all of that: an object that differs from one of its name, and too many objects. Then every command is told so
+-- V. Before all of that: an object that differs from one of its name, and too many objects. Then every
+-- command is told so
 
 abbrev pub unless_collided : Option ObjectId → List Command → List Outcome → List Outcome
 unless_collided (Some id) commands outcomes = map (λ c. Collided id) commands
@@ -219,7 +222,8 @@ refs_left refs [] outcomes = refs
 refs_left refs (c ∷ cs) [] = refs
 refs_left refs (c ∷ cs) (o ∷ os) = refs_left (refs_after refs c o) cs os
 
--- the repository that a push leaves, where a command is done: the refs of the commands that are done, and these objects
+-- the repository that a push leaves, where a command is done: the refs of the commands that are done, and
+-- these objects
 abbrev pub repository_left_with : Repository → List Content → List Command → List Outcome → Option Repository
 repository_left_with now objects commands outcomes =
     if list_any is_done outcomes
@@ -230,7 +234,8 @@ repository_left_with now objects commands outcomes =
 abbrev pub repository_left : Repository → List Content → List Command → List Outcome → Option Repository
 repository_left now pack commands outcomes = repository_left_with now (with_pack now.objects pack) commands outcomes
 
--- the commit whose conf is in force behind a push: the new value of the command for the conf's branch, if that is done, among the objects at the opening with the pack's
+-- the commit whose conf is in force behind a push: the new value of the command for the conf's branch, if
+-- that is done, among the objects at the opening with the pack's
 abbrev pub conf_put : Pinned → List Content → List Command → List Outcome → Option CommitAmong
 conf_put pinned pack [] outcomes = None
 conf_put pinned pack (c ∷ cs) [] = None

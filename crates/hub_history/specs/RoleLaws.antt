@@ -32,13 +32,15 @@ Holds state repo entry = Contains (repository_at state repo).roles entry
 
 -- ---- creators
 
--- A repository gets a creator only where an opening made it, and that is who opened it. No repository's creator changes otherwise.
+-- A repository gets a creator only where an opening made it, and that is who opened it. No repository's
+-- creator changes otherwise.
 abbrev pub CreatorsOpened : Type 0
 CreatorsOpened =
     (admin : Name) (before : List Entry) (entry : Entry) (repo : Name) → IsLegal admin (before ++ entry ∷ []) → ¬ (creator_in (replay admin (before ++ entry ∷ [])) repo ≡ creator_in (replay admin before) repo)
     → (user : Name) × (want : Want) × (entry.event ≡ Entered user repo want Created) × (creator_in (replay admin (before ++ entry ∷ [])) repo ≡ Some user)
 
--- an opening that made a repository did so where there was none, and left it empty, with who opened it as its creator
+-- an opening that made a repository did so where there was none, and left it empty, with who opened it as its
+-- creator
 abbrev pub CreatedIsNew : Type 0
 CreatedIsNew =
     (admin : Name) (before : List Entry) (entry : Entry) (user repo : Name) (want : Want) → IsLegal admin (before ++ entry ∷ []) → entry.event ≡ Entered user repo want Created
@@ -91,7 +93,8 @@ abbrev pub IsDeclaredAs : Bool → State → Name → PermChange → Type 0
 IsDeclaredAs declared state repo asked =
     (patterns : Patterns) → AreTrue patterns → (rules : Flat) × AreInForce patterns state.conf rules × (is_declared patterns rules repo (creator_in state repo) asked ≡ declared)
 
--- Each answer tells what is so just before it. That there is no such role is told exactly where the rules in force don't declare the word.
+-- Each answer tells what is so just before it. That there is no such role is told exactly where the rules in
+-- force don't declare the word.
 abbrev pub AnswersTellOfRoles : Type 0
 AnswersTellOfRoles =
     (admin : Name) (before : List Entry) (entry : Entry) (asker repo : Name) (asked : PermChange) (answer : PermsKept) → IsLegal admin (before ++ entry ∷ []) → entry.event ≡ Permitted asker repo asked answer
@@ -123,7 +126,8 @@ abbrev pub IsUndeclared : State → Name → Name → Type 0
 IsUndeclared state repo role =
     (patterns : Patterns) → AreTrue patterns → (rules : Flat) → AreInForce patterns state.conf rules → declares patterns rules.options role repo (creator_in state repo) ≡ false
 
--- A role that is held stays while it isn't declared, whatever happens. A change of the conf gives and takes none.
+-- A role that is held stays while it isn't declared, whatever happens. A change of the conf gives and takes
+-- none.
 abbrev pub UndeclaredStay : Type 0
 UndeclaredStay =
     (admin : Name) (before : List Entry) (entry : Entry) (repo : Name) (held : RoleEntry) → IsLegal admin (before ++ entry ∷ []) → Holds (replay admin before) repo held

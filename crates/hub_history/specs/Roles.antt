@@ -49,7 +49,8 @@ is_declared patterns rules repo creator (change.Grant role user) = declares patt
 is_declared patterns rules repo creator (change.Revoke role user) = declares patterns rules.options role repo creator
 is_declared patterns rules repo creator change.List = true
 
--- A role that is declared is given where the user doesn't hold it, taken where the user does, and all are shown, to the creator alone. A repository that isn't there answers as one without creator.
+-- A role that is declared is given where the user doesn't hold it, taken where the user does, and all are
+-- shown, to the creator alone. A repository that isn't there answers as one without creator.
 abbrev pub answer_to_change : WildView → Name → Bool → PermChange → Option PermsKept
 answer_to_change wild asker declared (change.Grant role user) = unless_refused (refusal wild asker declared) (has_entry wild.roles (entry_of role user))
 answer_to_change wild asker declared (change.Revoke role user) = unless_refused (refusal wild asker declared) (not (has_entry wild.roles (entry_of role user)))
@@ -59,7 +60,8 @@ answer_to_change wild asker declared change.List = unless_kept (refused_by wild.
 abbrev pub answer_by_rules : Patterns → Flat → WildView → Name → Name → PermChange → Option PermsKept
 answer_by_rules patterns rules wild user repo asked = answer_to_change wild user (is_declared patterns rules repo wild.creator asked) asked
 
--- the answer to a change of roles is the one that the rules in force, and the repository's creator and roles, give
+-- the answer to a change of roles is the one that the rules in force, and the repository's creator and roles,
+-- give
 abbrev pub IsDueChange : Patterns → State → Name → Name → PermChange → PermsKept → Type 0
 IsDueChange patterns state user repo asked answer =
     (rules : Flat) × AreInForce patterns state.conf rules × (Some answer ≡ answer_by_rules patterns rules (wild_of (repository_at state repo)) user repo asked)

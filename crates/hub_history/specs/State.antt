@@ -15,7 +15,8 @@ use Rattle.wild_perms.specs.declared.role.RoleEntry.{RoleEntry}
 abbrev pub same_name : Name → Name → Bool
 same_name a b = pointwise nat_eq a b
 
--- a repository: its objects in the order in which they came, its refs, who created it, and who holds which role in it
+-- a repository: its objects in the order in which they came, its refs, who created it, and who holds which
+-- role in it
 pub record Repository : Type 0 where
   pub objects : List Content
   pub refs : Refs
@@ -40,7 +41,8 @@ pub record CommitAmong : Type 0 where
   pub objects : List Content
   pub commit : ObjectId
 
--- The conf in force: the one at a commit that was pushed, and before the first such push the setup's, which goes by the admin's name
+-- The conf in force: the one at a commit that was pushed, and before the first such push the setup's, which
+-- goes by the admin's name
 pub record Conf : Type 0 where
   pub admin : Name
   pub pushed : Option CommitAmong

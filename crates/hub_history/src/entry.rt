@@ -43,8 +43,8 @@ pub enum PermChange {
 /// Names of repositories, in order.
 pub type RepoList = ItemList<RepoName>;
 
-/// The objects that a push brought, for contracts alone: a log keeps none. Those of a push that is done are in its
-/// repository.
+/// The objects that a push brought, for contracts alone: a log keeps none. Those of a push that is done are
+/// in its repository.
 #[derive(Drop)]
 pub struct LoggedPack {
     objects: Snapshot<ObjectList>,
@@ -103,7 +103,8 @@ pub enum Event {
         want: Want,
         answer: EnterKept,
     },
-    /// `place` is the place in the log, from 0, of the push's opening; `made` are the repositories that came with its conf.
+    /// `place` is the place in the log, from 0, of the push's opening; `made` are the repositories that came
+    /// with its conf.
     Pushed {
         place: u64,
         pack: LoggedPack,

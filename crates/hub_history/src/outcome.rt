@@ -24,9 +24,11 @@ pub enum Outcome {
     NotAdvertised(ObjectId),
     /// The new value leads to this name, which no object has. Of several it is the least.
     Missing(ObjectId),
-    /// The new value leads to this object, which isn't of the kind that is wanted of it there. Of several it is the least.
+    /// The new value leads to this object, which isn't of the kind that is wanted of it there. Of several it
+    /// is the least.
     WrongKind(ObjectId),
-    /// The rules at the opening don't let the change be made. The name is the ref's, or that of the virtual ref that was asked.
+    /// The rules at the opening don't let the change be made. The name is the ref's, or that of the virtual
+    /// ref that was asked.
     Denied {
         verdict: Verdict,
         letter: Letter,
@@ -108,7 +110,8 @@ impl Outcome {
         matches!(self, Outcome::Done)
     }
 
-    /// The number by which the outcome is known, whatever it holds. A variant with a field can't bear it itself.
+    /// The number by which the outcome is known, whatever it holds. A variant with a field can't bear it
+    /// itself.
     pub fn number(&self) -> u8
         ensures { result ≡ outcome_number self.now }
     {

@@ -35,21 +35,24 @@ pub record Stores (modeled : Bool) (group : List (List ℕ)) (count : ℕ) (old 
   pub any_moment : IsTrue modeled → old.writer.broken ≡ false → (head : List ℕ) (bodies : List (List ℕ))
       → IsDurable head bodies old.writer.end old.disk.file → LeavesOnly (HoldsAllOrNone head bodies group) old.disk.file new.disk.file
 
--- the first events that are stored for certain are in the log; while the journal isn't broken, that is all of it
+-- the first events that are stored for certain are in the log; while the journal isn't broken, that is all of
+-- it
 pub record IsSound (j : JournalView) : Type 0 where
   pub within : j.start ≤ length j.hub.log
   pub at_gate : EndsAtGate j.store.writer j.store.disk.size
   pub stored : j.store.stored ≤ length j.hub.log
   pub whole : j.store.writer.broken ≡ false → j.store.stored ≡ length j.hub.log
 
--- While the journal isn't broken its file holds the whole log, and nothing is pending. Whether broken or not, a crash leaves the first events of the log, no
--- fewer than are stored for certain.
+-- While the journal isn't broken its file holds the whole log, and nothing is pending. Whether broken or not,
+-- a crash leaves the first events of the log, no fewer than are stored for certain.
 pub record IsRunning (j : JournalView) : Type 0 where
   pub durable : j.store.writer.broken ≡ false → IsDurable (head_for j.hub.admin) (bodies_in j.hub.log) j.store.writer.end j.store.disk.file
   pub leaves : Leaves (HoldsSome j.hub.admin j.hub.log j.store.stored) j.store.disk.file.pending
 
--- What any calls of a journal do, one after the other. A body can be made of each event that they make. It is broken only where a call of the disk failed, and then makes none any more. What is stored for
--- certain stays. At each moment a crash leaves the first events of the log, no fewer than were stored for certain at the beginning.
+-- What any calls of a journal do, one after the other. A body can be made of each event that they make. It is
+-- broken only where a call of the disk failed, and then makes none any more. What is stored for certain
+-- stays. At each moment a crash leaves the first events of the log, no fewer than were stored for certain at
+-- the beginning.
 pub record GoesOn (modeled : Bool) (old new : JournalView) : Type 0 where
   pub start : new.start ≡ old.start
   pub admin : new.hub.admin ≡ old.hub.admin
@@ -64,7 +67,7 @@ pub record GoesOn (modeled : Bool) (old new : JournalView) : Type 0 where
   pub runs : IsTrue modeled → IsRunning old → IsRunning new
   pub any_moment : IsTrue modeled → IsRunning old → LeavesOnly (HoldsSome new.hub.admin new.hub.log old.store.stored) old.store.disk.file new.store.disk.file
 
--- What calls did from a first journal to the old one, they did to the new one too. It is how a caller knows that a desk is the journal that it was: from any
--- journal on, calls go on to it.
+-- What calls did from a first journal to the old one, they did to the new one too. It is how a caller knows
+-- that a desk is the journal that it was: from any journal on, calls go on to it.
 abbrev pub Continues : Bool → JournalView → JournalView → Type 0
 Continues modeled old new = (first : JournalView) → GoesOn modeled first old → GoesOn modeled first new

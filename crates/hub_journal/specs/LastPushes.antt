@@ -6,7 +6,8 @@ use Rattle.record_file.specs.declared.stored_record.StoredRecord.{StoredRecord}
 use Rattle.event_record.specs.Fronts.{place_at}
 use Rattle.hub_journal.specs.Replay.{IsAwaited}
 
--- Of each push among the records of a file it is known that its opening has a push at that record's place in the log or a later one.
+-- Of each push among the records of a file it is known that its opening has a push at that record's place in
+-- the log or a later one.
 abbrev pub TellsPushes : List ℕ → List ℕ → (ℕ → Option ℕ) → Type 0
 TellsPushes head file last_pushes =
     (bodies : List (List ℕ)) (body : List ℕ) (offset next opening : ℕ)

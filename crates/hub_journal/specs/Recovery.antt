@@ -36,7 +36,8 @@ pub record IsImpossibleBody (hub : HubView) (body : List ℕ) : Type 0 where
 abbrev pub IsBadBody : HubView → List ℕ → Type 0
 IsBadBody hub body = ((caller : ℕ) (request : Request) → IsStorable caller request → body ≡ body_of caller request → ⊥) ⊎ IsImpossibleBody hub body
 
--- A push with this body was foreseen: its opening is known to have a push at the next place of the hub's log, or at a later one.
+-- A push with this body was foreseen: its opening is known to have a push at the next place of the hub's log,
+-- or at a later one.
 abbrev pub IsForeseenBody : ReplayView → List ℕ → Type 0
 IsForeseenBody replay body = (opening : ℕ) → place_at (take 17 body) ≡ Some opening → IsAwaited (last_push replay.last_pushes) (length replay.hub.log) opening
 
@@ -53,7 +54,8 @@ pub record IsBadRecordAt (hub : HubView) (file : List ℕ) (offset : ℕ) : Type
   pub there : IsRecordAt file offset body next
   pub bad : IsBadBody hub body
 
--- Behind the records of a legal log's events, at this offset, is no whole record and no zero gate, or the record of no event that can be asked of the hub of that log.
+-- Behind the records of a legal log's events, at this offset, is no whole record and no zero gate, or the
+-- record of no event that can be asked of the hub of that log.
 pub record HasBadEventAt (admin : Name) (file : List ℕ) (offset : ℕ) : Type 0 where
   pub log : List Entry
   pub legal : IsLegal admin log
@@ -76,7 +78,8 @@ journal_fault (records_fault.BadRecord offset) = BadRecord offset
 journal_fault records_fault.DiskFault = DiskFault
 journal_fault records_fault.NoMemory = NoMemory
 
--- why a file isn't the journal of an admin's hub, each fault by its word; the other faults say nothing of the file
+-- why a file isn't the journal of an admin's hub, each fault by its word; the other faults say nothing of the
+-- file
 abbrev pub IsNoJournal : Name → List ℕ → OpenFault → Type 0
 IsNoJournal admin file NotAJournal = IsNoRecordFile magic file
 IsNoJournal admin file OtherAdmin = HasAnotherName magic admin file

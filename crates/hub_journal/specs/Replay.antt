@@ -30,7 +30,8 @@ pub record Replays (old new : HubView) (caller : ℕ) (request : Request) : Type
   pub asks : request_of event ≡ request
   pub grows : new ≡ logged old caller event
 
--- By what is known of last pushes, a push at this place of the log or a later one may be after the opening at the other.
+-- By what is known of last pushes, a push at this place of the log or a later one may be after the opening at
+-- the other.
 pub record IsAwaited (last_pushes : ℕ → Option ℕ) (from opening : ℕ) : Type 0 where
   pub last : ℕ
   pub known : last_pushes opening ≡ Some last
@@ -51,7 +52,8 @@ IsForeseen replay (Enter user repo want) = ⊤
 IsForeseen replay (Permit user repo change) = ⊤
 IsForeseen replay (Look user) = ⊤
 
--- The pins that are kept, by their places: of openings for writing that were granted, those at least after which a push is awaited.
+-- The pins that are kept, by their places: of openings for writing that were granted, those at least after
+-- which a push is awaited.
 pub record ArePins (last_pushes : ℕ → Option ℕ) (hub : HubView) (kept : ℕ → Option Opening) : Type 0 where
   pub all : (place : ℕ) (pinned : Pinned) → opening_at (history hub.admin hub.log) place ≡ Some pinned → pinned.want ≡ want.Write → IsAwaited last_pushes (length hub.log) place → kept place ≡ Some (record { place = place; pinned = pinned })
   pub stand : (place : ℕ) (pin : Opening) → kept place ≡ Some pin → (pin.place ≡ place) × (pin.pinned.want ≡ want.Write) × Stands pin hub.admin hub.log

@@ -7,7 +7,9 @@ use crate::storing::store;
 use conf_lex::{RepoName, UserName};
 use event_record::{enter_record, look_record, permit_record, push_record};
 use git_object::ObjectList;
-use hub::{Desk, Entered, Hub, Judged, Looked, PermChange, Permitted, Pin, Pushed, Want};
+use hub::{
+    Desk, Entered, Hub, Judged, Looked, PermChange, Permitted, Pin, PushRequest, Pushed, Want,
+};
 use record_file::{Disk, RecordWriter};
 use ref_store::CommandList;
 use std::alloc::Global;
@@ -15,8 +17,9 @@ use wild_perms::PermsAnswer;
 
 /// The only caller of a hub, whose number is 0, which stores each event on a disk before it returns.
 ///
-/// Each call takes the memory of its record first, so that without memory nothing has changed. Once a call of the disk
-/// has failed, the journal is broken: it goes on answering, makes no call of the disk, and stores nothing.
+/// Each call takes the memory of its record first, so that without memory nothing has changed. Once a call of
+/// the disk has failed, the journal is broken: it goes on answering, makes no call of the disk, and stores
+/// nothing.
 #[derive(Drop)]
 pub struct JournalHub<'a, Y: Disk> {
     disk: &'a mut Y,
@@ -114,10 +117,13 @@ impl<'a, Y: Disk> Desk for JournalHub<'a, Y> {
         let Ok(group) = push_record(alloc, 0, pin.place(), &pack, &commands, atomic) else {
             return Pushed::NoMemory(pin);
         };
+        let request = PushRequest {
+            pack,
+            commands,
+            atomic,
+        };
         let before = self.hub.log().len();
-        let answer = self
-            .hub
-            .settle(alloc, 0, pin, pack, commands, atomic, judged);
+        let answer = self.hub.settle(alloc, 0, pin, request, judged);
         let count = self.hub.log().len();
         if before == count {
             return answer;
@@ -179,8 +185,9 @@ impl<'a, Y: Disk> Desk for JournalHub<'a, Y> {
     }
 
     fn sound(&self) {
-        // called for its clause that the log is legal
+        // called for their clauses that the log is legal and that the admin is a user's name
         let _log = self.hub.log();
+        let _name = self.hub.conf().admin().bytes();
     }
 
     ghost stays = { λ desk. (refl, refl, λ first on. on) };

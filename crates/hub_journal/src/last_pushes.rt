@@ -13,8 +13,8 @@ use record_file::{Disk, RecordReader, StoredRecord};
 use std::alloc::Global;
 use std::collections::BTreeMap;
 
-// For each opening after which there is a push among the records from the reader's gate on, the place in the log of the
-// last one. It reads the front of each record, up to what is no record.
+// For each opening after which there is a push among the records from the reader's gate on, the place in the
+// log of the last one. It reads the front of each record, up to what is no record.
 pub(crate) fn find_last_pushes<Y: Disk>(
     alloc: Global,
     disk: &mut Y,
@@ -68,7 +68,8 @@ fn next_front<Y: Disk>(
     }
 }
 
-// Notes that the record of which this is the front, at this place of the log, is the last push so far after its opening.
+// Notes that the record of which this is the front, at this place of the log, is the last push so far after
+// its opening.
 fn note_push(last_pushes: &mut BTreeMap<u64, u64>, front: &[u8], place: u64) -> Result<(), NoMemory>
     ensures { OnOk result ((q : ℕ) → last_push last_pushes.new.entries q ≡ noted (place_at front.now) place (last_push last_pushes.old.entries) q) }
 {

@@ -7,7 +7,8 @@ use hub::{Pin, Want};
 use hub_state::HostedRepo;
 use std::alloc::Global;
 
-/// A second pin of the same opening for writing. The conf, the objects, the refs and what is known of them are shared; the roles are copied.
+/// A second pin of the same opening for writing. The conf, the objects, the refs and what is known of them
+/// are shared; the roles are copied.
 pub fn copy_pin(alloc: Global, pin: &Pin) -> Result<Pin, NoMemory>
     requires { pin.now.pinned.want ≡ want.Write }
     ensures { IfOk result (λ copy. copy ≡ pin.now) }

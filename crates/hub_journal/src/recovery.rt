@@ -47,12 +47,12 @@ impl Recovered {
     }
 }
 
-/// Makes the hub of an admin's journal again, from any file that a crash may have left. An empty file is made a journal
-/// without events. What follows the last record is cut off.
+/// Makes the hub of an admin's journal again, from any file that a crash may have left. An empty file is made
+/// a journal without events. What follows the last record is cut off.
 ///
-/// It reads the front of each record first, to know after which openings there are pushes, and then one record after the
-/// other: beside the hub one record is in memory, and a pin of each opening whose last push is still to come. It may be
-/// stopped at any moment and begun again.
+/// It reads the front of each record first, to know after which openings there are pushes, and then one
+/// record after the other: beside the hub one record is in memory, and a pin of each opening whose last push
+/// is still to come. It may be stopped at any moment and begun again.
 pub fn recover<Y: Disk>(
     alloc: Global,
     disk: &mut Y,
@@ -128,7 +128,10 @@ fn replay_all<Y: Disk>(
         → TellsPushes (head_for replay.hub.admin) (Y.state disk.old).file.content (last_push replay.last_pushes) → RefusesEvents replay.hub.admin (Y.state disk.old).file.content fault) }
 {
     let mut replay = replay;
+    // Openings and pushes mostly take turns, so each record is read where the one before the last was: a
+    // buffer keeps its length, and has no new bytes to fill.
     let mut buffer = Vec::new(alloc);
+    let mut other = Vec::new(alloc);
     loop {
         let next = match reader.next_record(disk, buffer) {
             Ok(next) => next,
@@ -144,7 +147,8 @@ fn replay_all<Y: Disk>(
             Ok(replay) => replay,
             Err(fault) => return Err(fault),
         };
-        buffer = record.body.into_bytes();
+        buffer = other;
+        other = record.body.into_bytes();
     }
 }
 
@@ -156,7 +160,8 @@ fn replay_record(alloc: Global, replay: Replay, stored: &StoredRecord) -> Result
     ensures storable { IfOk result (λ after. AreStorableEntries replay.hub.log → AreStorableEntries after.hub.log) }
     ensures refused { IfErr result (λ fault. RefusesRecord replay stored.now fault) }
 {
-    // called for its clause that the front of a push's body says after which opening it is, which the proof cites
+    // called for its clause that the front of a push's body says after which opening it is, which the proof
+    // cites
     event_record::hold_laws();
     let request = match read_body(alloc, stored.body.bytes()) {
         Ok(request) => request,

@@ -17,7 +17,7 @@ use crate::pins::copy_pin;
 use conf_lex::{RepoName, UserName};
 use event_record::{CallerRequest, Request};
 use git_object::ObjectList;
-use hub::{Entered, Hub, Looked, PermChange, Pin, Pushed, Want, judge};
+use hub::{Entered, Hub, Looked, PermChange, Pin, PushRequest, Pushed, Want, judge};
 use ref_store::CommandList;
 use std::alloc::Global;
 use std::collections::BTreeMap;
@@ -42,11 +42,11 @@ impl From<NoMemory> for ReplayFault {
     }
 }
 
-/// A hub that is made again, one request after the other. Contracts see the hub, and after which openings a push is
-/// awaited.
+/// A hub that is made again, one request after the other. Contracts see the hub, and after which openings a
+/// push is awaited.
 ///
-/// Of openings for writing it keeps the pins of those alone after which a push is to come, each until that push. So it
-/// holds no state of a repository that nothing asks for any more.
+/// Of openings for writing it keeps the pins of those alone after which a push is to come, each until that
+/// push. So it holds no state of a repository that nothing asks for any more.
 #[derive(Drop)]
 pub struct Replay {
     hub: Hub,
@@ -67,8 +67,8 @@ impl Model for Replay {
 }
 
 impl Replay {
-    /// A new hub, of which nothing was asked. Of openings at which a push is to come, the map has the place of the last
-    /// such push.
+    /// A new hub, of which nothing was asked. Of openings at which a push is to come, the map has the place
+    /// of the last such push.
     pub fn start(
         alloc: Global,
         admin: &UserName,
@@ -96,7 +96,8 @@ impl Replay {
         hub
     }
 
-    /// Asks of the hub what was asked once. It costs what the hub's call does, and for a push what `judge` does.
+    /// Asks of the hub what was asked once. It costs what the hub's call does, and for a push what `judge`
+    /// does.
     pub fn next(self, alloc: Global, request: CallerRequest) -> Result<Replay, ReplayFault>
         requires storable { IsStorable request.caller (asked request.request) }
         ensures replays { IfOk result (λ replay. Replays self.hub replay.hub request.caller (asked request.request)) }
@@ -335,7 +336,12 @@ fn ask_push(
     // called for its clause that the log is legal
     let _log = hub.log();
     let judged = judge(alloc, &pin, &pack, &commands, atomic)?;
-    match hub.settle(alloc, caller, pin, pack, commands, atomic, judged) {
+    let request = PushRequest {
+        pack,
+        commands,
+        atomic,
+    };
+    match hub.settle(alloc, caller, pin, request, judged) {
         Pushed::Settled { .. } => Ok(()),
         Pushed::NoMemory(_) => Err(NoMemory),
     }

@@ -81,7 +81,8 @@ fn push<D: Desk>(rt: &impl Abort, alloc: Global, desk: &mut D) {
     }
 }
 
-// A disk on which an opening and a push were stored, which fails at these calls, and how many events are stored for certain.
+// A disk on which an opening and a push were stored, which fails at these calls, and how many events are
+// stored for certain.
 fn stored(rt: &impl Abort, alloc: Global, failing: Vec<u64>) -> (MemoryDisk, u64) {
     let admin = user_name(rt, alloc, "admin");
     let disk = MemoryDisk::new(alloc, Vec::new(alloc), 1000, failing);
@@ -219,7 +220,8 @@ fn torn(
     cut_to(rt, alloc, &left, left.len())
 }
 
-// Each length of each event's first write: the gate, what is behind it, the end of the write, and the events before it.
+// Each length of each event's first write: the gate, what is behind it, the end of the write, and the events
+// before it.
 #[test]
 fn a_torn_write_is_no_event(rt: HostRuntime) {
     let alloc = rt.alloc();

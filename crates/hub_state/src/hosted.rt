@@ -127,7 +127,8 @@ impl HostedRepo {
         HostedRepo::knowing(alloc, repo, wild, known, closures)
     }
 
-    /// The same objects and refs, with another creator and other roles. The objects are shared, and so are the refs.
+    /// The same objects and refs, with another creator and other roles. The objects are shared, and so are
+    /// the refs.
     pub fn with_wild(&self, alloc: Global, wild: Wild) -> Result<HostedRepo, NoMemory>
         ensures { IfOk result (λ h. h ≡ record { objects = self.now.objects; refs = self.now.refs; creator = wild.creator; roles = wild.roles }) }
     {

@@ -15,7 +15,8 @@ use rule_compile::Policy;
 use std::marker::Model;
 use wild_perms::Wild;
 
-/// What held at an opening that was granted: who opened which repository to do what, the conf, and the repository.
+/// What held at an opening that was granted: who opened which repository to do what, the conf, and the
+/// repository.
 #[derive(Drop)]
 pub struct Pin {
     place: u64,

@@ -2,14 +2,15 @@
 ghost use Rattle.std.specs.Prelude.{◌≡◌};
 ghost use Rattle.ancestry.specs.Closures.{AreClosures};
 ghost use Rattle.ancestry.specs.Known.{AreFound, AreKnown};
-ghost use Rattle.hub_state.specs.Prepared.{IsPrepared};
+ghost use Rattle.hub_state.specs.Prepared.{AreGrownClosures, IsPrepared};
 
 use ancestry::{Closures, Findings, Known};
 use ref_store::{FreshObjects, Lens, Repo};
 use std::marker::Model;
 
-/// A pack beside the repository as it was at an opening: what it adds, with the segments that there are then where a command may be done; what walks
-/// found out; and what is known, with that where it is kept; and what the old values of its refs lead to.
+/// A pack beside the repository as it was at an opening: what it adds, with the segments that there are then
+/// where a command may be done; what walks found out; what is known, with that where it is kept; what the old
+/// values of its refs lead to; and where the pack is most of the repository what the new ones do.
 #[derive(Drop)]
 pub struct PreparedPack {
     repo: Repo,
@@ -17,6 +18,7 @@ pub struct PreparedPack {
     findings: Findings,
     known: Known,
     closures: Closures,
+    grown_closures: Closures,
     // Nothing once it is taken.
     fresh: Option<FreshObjects>,
 }
@@ -24,13 +26,13 @@ pub struct PreparedPack {
 impl Model for PreparedPack {
     ghost use Rattle.ancestry.specs.Closures.{AreClosures};
     ghost use Rattle.ancestry.specs.Known.{AreFound, AreKnown};
-    ghost use Rattle.hub_state.specs.Prepared.{IsPrepared, PackView};
+    ghost use Rattle.hub_state.specs.Prepared.{AreGrownClosures, IsPrepared, PackView};
 
     ghost Value = { PackView };
 
     ghost view = { λ p. record { before = p.repo.objects; objects = p.lens } };
 
-    ghost invariant = { λ p. AreFound p.lens p.findings × AreKnown p.lens p.known × AreClosures p.repo.objects p.closures × IsPrepared p.repo.objects p.lens p.fresh };
+    ghost invariant = { λ p. AreFound p.lens p.findings × AreKnown p.lens p.known × AreClosures p.repo.objects p.closures × AreGrownClosures p.repo.objects p.lens p.grown_closures × IsPrepared p.repo.objects p.lens p.fresh };
 }
 
 impl PreparedPack {
@@ -40,11 +42,13 @@ impl PreparedPack {
         findings: Findings,
         known: Known,
         closures: Closures,
+        grown_closures: Closures,
         fresh: Option<FreshObjects>,
     ) -> PreparedPack
         requires found { AreFound lens findings }
         requires known { AreKnown lens known }
         requires closures { AreClosures repo.objects closures }
+        requires grown_closures { AreGrownClosures repo.objects lens grown_closures }
         requires fresh { IsPrepared repo.objects lens fresh }
         ensures { result ≡ record { before = repo.objects; objects = lens } }
     {
@@ -54,6 +58,7 @@ impl PreparedPack {
             findings,
             known,
             closures,
+            grown_closures,
             fresh,
         }
     }
@@ -87,6 +92,13 @@ impl PreparedPack {
         &self.closures
     }
 
+    /// What new values of its refs lead to, once the pack's objects are added.
+    pub fn grown_closures(&self) -> &Closures
+        ensures { AreGrownClosures self.now.before self.now.objects result.now }
+    {
+        &self.grown_closures
+    }
+
     /// What is known of the objects, the pack's among them.
     pub fn into_known(self) -> Known
         ensures { AreKnown self.objects result }
@@ -97,6 +109,7 @@ impl PreparedPack {
             findings: _,
             known,
             closures: _,
+            grown_closures: _,
             fresh: _,
         } = self;
         known

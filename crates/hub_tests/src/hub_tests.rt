@@ -1,5 +1,5 @@
-//! A hub over its only desk: pushes that overtake each other. `gitolite_shell` has whole sessions, and `shared_hub_tests` confs that are put in force between
-//! an opening and its push.
+//! A hub over its only desk: pushes that overtake each other. `gitolite_shell` has whole sessions, and
+//! `shared_hub_tests` confs that are put in force between an opening and its push.
 ghost use Rattle.std.specs.Prelude.{◌≡◌, ◌<◌, ◌≤◌, length};
 ghost use Rattle.std.specs.List.{AllByRecursion};
 ghost use Rattle.ref_store.specs.declared.command.Command.{Command};
@@ -169,7 +169,8 @@ fn tells(two: &OutcomeList, there: ObjectId, atomic: bool) -> bool {
     stale_at(two, 1) == Some(there) && first_at(two, 0) == first && first_at(two, 2) == first
 }
 
-// Of two pushes, both opened before the first was settled, the second is told these numbers: it is stale at the ref that the first has made.
+// Of two pushes, both opened before the first was settled, the second is told these numbers: it is stale at
+// the ref that the first has made.
 fn check_overtaken<D: Desk>(
     rt: &impl Abort,
     alloc: Global,

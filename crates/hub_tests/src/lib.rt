@@ -1,4 +1,6 @@
-//! Tests of `turn_lock`, `hub_history`, `hub_state`, `push_judging`, `hub` and `shared_hub`, by what is public there. They are one crate, since each crate of tests proves anew how values of the types that it uses are dropped.
+//! Tests of `turn_lock`, `hub_history`, `hub_state`, `push_judging`, `hub` and `shared_hub`, by what is
+//! public there. They are one crate, since each crate of tests proves anew how values of the types that it
+//! uses are dropped.
 #![tactic(auto)]
 
 #[cfg(test)]

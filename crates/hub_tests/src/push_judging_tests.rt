@@ -11,7 +11,8 @@ use std::alloc::Global;
 use std::test::Fail;
 use wild_perms::Wild;
 
-// Who pushes which text as the conf, what the command for the conf's branch is told, where 0 is nothing, and how many rules it would put in force.
+// Who pushes which text as the conf, what the command for the conf's branch is told, where 0 is nothing, and
+// how many rules it would put in force.
 static ROWS: [(&str, &str, u8, usize); 4] = [
     ("ann", "repo x\n    RW+ = ann\n    R = bob\n", 0, 2),
     ("ann", "repo x\n    RX = ann\n", 10, 0),

@@ -42,7 +42,8 @@ fn at_once<'a, 'b, R: Threads + Wait + Sync, H: EventHub + Send>(
 // What a caller leaves: its pass, and what its last push was told.
 type Left<H> = (SharedPass<H>, Told);
 
-// What two callers do, step by step: in each both act at once, and the next begins when both have come to their end.
+// What two callers do, step by step: in each both act at once, and the next begins when both have come to
+// their end.
 fn in_steps<'a, R: Threads + Wait + Sync, H: EventHub + Send>(
     rt: &'a R,
     alloc: Global,
@@ -93,7 +94,8 @@ static IN_TURN: [(Act, Act); 4] = [
     (Act::Rest, Act::Open),
 ];
 
-// What two callers ask, whether they push at once, the numbers of their outcomes, and how many openings are denied.
+// What two callers ask, whether they push at once, the numbers of their outcomes, and how many openings are
+// denied.
 type Row = (Asks, Asks, bool, u8, u8, usize);
 
 static ROWS: [Row; 3] = [
@@ -336,7 +338,8 @@ fn is_done_of(entry: &Entry, opening: usize) -> bool {
     }
 }
 
-// How many entries bear the number, if each push among them is done, and is of the last opening of that number.
+// How many entries bear the number, if each push among them is done, and is of the last opening of that
+// number.
 fn count_of(log: &[Entry], caller: u64) -> usize {
     let mut count: usize = 0;
     let mut opening: usize = 0;

@@ -60,8 +60,8 @@ impl Step<Log> for Append {
     }
 }
 
-/// Appends one entry. What the pass had seen goes on with entries of others, and then with this one, which is one more
-/// of its own.
+/// Appends one entry. What the pass had seen goes on with entries of others, and then with this one, which is
+/// one more of its own.
 fn append_one<R: Wait>(
     rt: &R,
     lock: &TurnLock<Log>,
@@ -167,7 +167,8 @@ fn two_threads_make_a_thousand_steps_each(rt: HostRuntime) -> Result<(), Fail> {
     Ok(())
 }
 
-/// What four threads leave, two at a time, of which the third makes no step. The fourth pass is joined into the third.
+/// What four threads leave, two at a time, of which the third makes no step. The fourth pass is joined into
+/// the third.
 fn relay<R: Threads + Wait + Sync>(
     rt: &R,
     alloc: Global,

@@ -7,7 +7,8 @@ use Rattle.git_object.specs.declared.kind.Kind.TheVariants.{Tree, Blob}
 use Rattle.git_object.specs.declared.object_id.ObjectId.{ObjectId}
 use Rattle.installation.specs.Sessions.{pushing_conf, sending_conf}
 
--- the bodies as they were named (`f`, `r`), as they are sent (`folder'`, `root'`, `commit'`), and as they were made
+-- the bodies as they were named (`f`, `r`), as they are sent (`folder'`, `root'`, `commit'`), and as they
+-- were made
 pub conf_is_sent : (text folder root commit f r folder' root' commit' : List ℕ) (blob_id folder_id root_id : ObjectId)
     → blob_id ≡ object_name (record { kind = Blob; body = text }) → folder ≡ spelled_entry (record { mode = codes "100644"; name = codes "gitolite.conf"; id = blob_id }) → f ≡ folder
     → folder_id ≡ object_name (record { kind = Tree; body = f }) → root ≡ spelled_entry (record { mode = codes "40000"; name = codes "conf"; id = folder_id }) → r ≡ root

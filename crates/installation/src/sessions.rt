@@ -125,7 +125,8 @@ pub fn next_visit(count: u32, draws: &mut Draws) -> Visit
     }
 }
 
-/// A visit's session: a push of a commit that nothing else names, by the session's number, from the ref's value.
+/// A visit's session: a push of a commit that nothing else names, by the session's number, from the ref's
+/// value.
 #[tactic(auto, unfolding(crate::specs::Sessions::visit_input))]
 pub fn visit_input(
     alloc: Global,

@@ -118,7 +118,8 @@ module _ {E A : Type 0} (answers : Answers) (wanted : Wanted) (cut : Fault wante
       let none : Begins (map asked own) [] = subst (λ (u : Turn E A). Begins (map asked own) u.requests) (ap (λ (at : Front (Value wanted) (Fault wanted)). by_front at cut_here go_here) is) begins in
       begins_here answers (reads wanted cut f) (part ++ rest) own log log' alone (none_begun own none)
 
--- Entries that begin the ones due by a part of the input lead to a beginning of the log that the turn over the whole leads to.
+-- Entries that begin the ones due by a part of the input lead to a beginning of the log that the turn over
+-- the whole leads to.
 pub alone_begins : {E A : Type 0} (answers : Answers) (t : Interaction E A) (part rest : List ℕ) (own : List OwnEntry) (log log' : List Entry) → IsAlone answers log own log'
     → Begins (map asked own) (due t part own).requests → Begins log' (turn_alone answers t (part ++ rest) log).log
 unfolding turn_over turn_alone

@@ -121,7 +121,7 @@ made_since a b own made =
 pub makes_grows : (a b : DeskView) (own : List OwnEntry) → IsSound a → MakesAll a b own → IsSound b × GrowsBy a b own
 makes_grows a b own sound made =
     let goes = makes_goes a b own made in (
-      subst IsSound (sym goes.new_is) (record { legal = goes.legal sound.legal; within = further a.seen goes.more sound.within }),
+      subst IsSound (sym goes.new_is) (record { named = sound.named; legal = goes.legal sound.legal; within = further a.seen goes.more sound.within }),
       record {
         made = made;
         more = goes.more;
@@ -138,7 +138,8 @@ makes_grows a b own sound made =
     further : (seen more : List Entry) → a.start ≤ length seen → a.start ≤ length (seen ++ more)
     further seen more within = omega (arith, within, length-append seen more)
 
--- at the desk of a hub's only caller each entry stands right behind the one before, by answers that agree with what was seen
+-- at the desk of a hub's only caller each entry stands right behind the one before, by answers that agree
+-- with what was seen
 pub makes_alone : (a b : DeskView) (own : List OwnEntry) → IsTrue a.alone → MakesAll a b own → (answers : Answers) → Agrees answers b.seen → IsAlone answers a.seen own b.seen
 makes_alone a b [] alone same answers agrees = ap (λ (d : DeskView). d.seen) same
 makes_alone a b (one ∷ own) alone p answers agrees =

@@ -20,7 +20,8 @@ use Rattle.interaction_tree.specs.Order.{EntriesFirst, IsOrdered}
 use Rattle.interaction_tree.specs.Endings.{FailsReading, FailsWriting}
 use Rattle.interaction_tree.proofs.OrderLemmas.{order_bind}
 
--- a name is read, its owner opens a repository, and is greeted where the log records that it was granted; an input that ends inside the name is told so
+-- a name is read, its owner opens a repository, and is greeted where the log records that it was granted; an
+-- input that ends inside the name is told so
 
 unfoldable name_in : Result packets.Packet PktFault → Interaction ℕ (List ℕ)
 name_in (Ok (packets.Line payload)) = gives payload

@@ -149,7 +149,8 @@ memory_used extent left (asks request f) read written own (inl p) =
 memory_used extent left (asks request f) read written own (inr p) =
     (λ i. (turn_over extent (asks request f) read (p.2 i)).used) ∙ memory_used extent left (f p.0) read written p.1 p.4
 
--- What was written falls short of what is due of the part that was read, or of the whole where nothing is left.
+-- What was written falls short of what is due of the part that was read, or of the whole where nothing is
+-- left.
 abbrev pub ShortOfTurn : {E A : Type 0} → Option (List ℕ) → Interaction E A → List ℕ → List ℕ → List OwnEntry → Type 0
 ShortOfTurn left t read written own = (extent : Extent) × IsExtent left extent × FallsShort written (turn_over extent t read own).bytes
 
@@ -175,7 +176,8 @@ trace_short left (asks request f) read written own (inl p) = absurd p.0
 trace_short left (asks request f) read written own (inr p) =
     subst (λ (l : List OwnEntry). ShortOfTurn left (asks request f) read written l) (sym p.2) (trace_short left (f p.0) read written p.1 p.4)
 
--- What was written begins what is due of the part that was read, or of the whole where nothing is left; the entries begin the ones due.
+-- What was written begins what is due of the part that was read, or of the whole where nothing is left; the
+-- entries begin the ones due.
 abbrev pub BeginsTurn : {E A : Type 0} → Option (List ℕ) → Interaction E A → List ℕ → List ℕ → List OwnEntry → Type 0
 BeginsTurn left t read written own =
     (extent : Extent) × IsExtent left extent × Begins written (turn_over extent t read own).bytes × Begins (map asked own) (due t read own).requests

@@ -1,4 +1,5 @@
--- A session's turn at a hub that nobody else asks, by what that hub answers: the log before each entry is the one that the session itself led to.
+-- A session's turn at a hub that nobody else asks, by what that hub answers: the log before each entry is the
+-- one that the session itself led to.
 use Rattle.std.specs.Prelude.{◌≡◌, ℕ, List, [], ◌∷◌, ◌++◌, drop}
 use Rattle.hub_history.specs.declared.entry.Entry.{Entry}
 use Rattle.interaction_tree.specs.Wanted.{front_of, by_front}

@@ -19,7 +19,8 @@ abbrev pub IsExtent : Option (List ℕ) → Extent → Type 0
 IsExtent left Closed = IsAtEnd left
 IsExtent left Open = ⊤
 
--- What was read is the used beginning of the input, the own entries are the ones due, what was written are the bytes due, and the end is the turn's.
+-- What was read is the used beginning of the input, the own entries are the ones due, what was written are
+-- the bytes due, and the end is the turn's.
 pub record EndsAsDue {E A : Type 0} (link link' : LinkState) (own : List OwnEntry) (t : Interaction E A) (end : E) : Type 0 where
   pub input : List ℕ
   pub told : IsInput link.left input
@@ -29,8 +30,8 @@ pub record EndsAsDue {E A : Type 0} (link link' : LinkState) (own : List OwnEntr
   pub written : Appends link.written link'.written (turn t input own).bytes
   pub end_is : (turn t input own).stop ≡ stop.Ended end
 
--- After a part of the input a read failed where more is wanted, and all of that part is used. What was written is due of it, and the own entries
--- are the ones due by it.
+-- After a part of the input a read failed where more is wanted, and all of that part is used. What was
+-- written is due of it, and the own entries are the ones due by it.
 pub record FailsReading {E A : Type 0} (link link' : LinkState) (own : List OwnEntry) (t : Interaction E A) : Type 0 where
   pub part : List ℕ
   pub read : Consumes link.left link'.left part
@@ -42,8 +43,9 @@ pub record FailsReading {E A : Type 0} (link link' : LinkState) (own : List OwnE
   pub risen : HasRisen link.read_faults link'.read_faults
   pub may_fail : IsTrue link.may_fail
 
--- After a part of the input a write failed, and all of that part is used. The own entries are the ones due by it, and what was written falls short
--- of what is due of it or, where all of the input was read, of the whole; what is due of each shorter part was written before more was read.
+-- After a part of the input a write failed, and all of that part is used. The own entries are the ones due by
+-- it, and what was written falls short of what is due of it or, where all of the input was read, of the
+-- whole; what is due of each shorter part was written before more was read.
 pub record FailsWriting {E A : Type 0} (link link' : LinkState) (own : List OwnEntry) (t : Interaction E A) : Type 0 where
   pub part : List ℕ
   pub bytes : List ℕ
@@ -59,8 +61,9 @@ pub record FailsWriting {E A : Type 0} (link link' : LinkState) (own : List OwnE
   pub risen : HasRisen link.write_faults link'.write_faults
   pub may_fail : IsTrue link.may_fail
 
--- After a part of the input memory lacked, and all of that part is used. The own entries begin the ones due by it, and what was written begins what
--- is due of it or, where all of the input was read, of the whole; what is due of each shorter part was written before more was read.
+-- After a part of the input memory lacked, and all of that part is used. The own entries begin the ones due
+-- by it, and what was written begins what is due of it or, where all of the input was read, of the whole;
+-- what is due of each shorter part was written before more was read.
 pub record LacksMemory {E A : Type 0} (link link' : LinkState) (own : List OwnEntry) (t : Interaction E A) : Type 0 where
   pub part : List ℕ
   pub bytes : List ℕ

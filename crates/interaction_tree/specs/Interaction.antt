@@ -1,4 +1,5 @@
--- What a session does, as an interaction tree: what it writes, reads and asks, one step after the other, each by the replies before it.
+-- What a session does, as an interaction tree: what it writes, reads and asks, one step after the other, each
+-- by the replies before it.
 use Rattle.std.specs.Prelude.{ℕ, List}
 use Rattle.interaction_tree.specs.Wanted.{Wanted, Fault, Reply}
 use Rattle.hub_history.specs.Requests.{Request}
@@ -17,7 +18,8 @@ pub data Interaction (E A : Type 0) : Type 0 where
   ends : E → Interaction E A
   -- these bytes are due
   writes : List ℕ → Interaction E A → Interaction E A
-  -- this is read, and the reply decides what follows; an input that ends inside it ends the interaction, as its fault says
+  -- this is read, and the reply decides what follows; an input that ends inside it ends the interaction, as
+  -- its fault says
   reads : (wanted : Wanted) → (Fault wanted → CutOff E) → (Reply wanted → Interaction E A) → Interaction E A
   -- an entry is made; with the answer that it records, and the log just before it, it decides what follows
   asks : Request → (OwnEntry → Interaction E A) → Interaction E A

@@ -59,11 +59,13 @@ LogsHaveAnswers = (log : List Entry) → (answers : Answers) × Agrees answers l
 abbrev pub BeginningsAgree : Type 0
 BeginningsAgree = (answers : Answers) (log more : List Entry) → Agrees answers (log ++ more) → Agrees answers log
 
--- At the desk of a hub's only caller each entry stands right behind the one before, by whatever answers agree with what was seen.
+-- At the desk of a hub's only caller each entry stands right behind the one before, by whatever answers agree
+-- with what was seen.
 abbrev pub OnlyCallersAreAlone : Type 0
 OnlyCallersAreAlone = (old new : DeskView) (own : List OwnEntry) → IsTrue old.alone → MakesAll old new own → AsLogged new.seen (λ answers. IsAlone answers old.seen own new.seen)
 
--- Where a session is its hub's only caller, its turn is the one that the log at the start and the answers give, and the log afterwards is that one's.
+-- Where a session is its hub's only caller, its turn is the one that the log at the start and the answers
+-- give, and the log afterwards is that one's.
 abbrev pub AloneAsLogged : Type 0 → Type 0 → Type 0
 AloneAsLogged E A =
     (answers : Answers) (end : E) (t : Interaction E A) (input : List ℕ) (own : List OwnEntry) (log log' : List Entry) → IsAlone answers log own log'
@@ -123,7 +125,8 @@ PacksRun E =
     (old new : LinkState) (desk : DeskView) (cut : PackFault → CutOff E) (used : ℕ) (contents : List Content)
     → ReadsFront pack_front old new (Ok contents) → KeepsWriting old new → IsLater old new → new.given ≡ old.given + used → Runs old new desk desk (read Pack cut) (Ok (record { used = used; found = Ok contents }))
 
--- the reader of packs, that refuses one: where the same is due whether the fault was read or the input ended inside the pack
+-- the reader of packs, that refuses one: where the same is due whether the fault was read or the input ended
+-- inside the pack
 abbrev pub RefusedPacksRun : Type 0 → Type 0 → Type 0
 RefusedPacksRun E A =
     (a b c : LinkState) (d e : DeskView) (cut : PackFault → CutOff E) (f : Reply Pack → Interaction E A) (fault : PackFault) (out : Result A (Halt E))
@@ -140,8 +143,8 @@ OrdersCompose E A B =
 
 -- IV. Turns
 
--- The turn of one interaction and then another is the turn of the first and, where that gave its value, then the turn of the second over what the
--- first left of the input and of the entries.
+-- The turn of one interaction and then another is the turn of the first and, where that gave its value, then
+-- the turn of the second over what the first left of the input and of the entries.
 abbrev pub TurnsCompose : Type 0 → Type 0 → Type 0 → Type 0
 TurnsCompose E A B =
     (extent : Extent) (t : Interaction E A) (k : A → Interaction E B) (input : List ℕ) (own : List OwnEntry)

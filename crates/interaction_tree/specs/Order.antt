@@ -4,8 +4,8 @@ use Rattle.interaction_tree.specs.Wanted.{Reply}
 use Rattle.interaction_tree.specs.Requests.{OwnEntry}
 use Rattle.interaction_tree.specs.Interaction.{Interaction, gives, ends, writes, reads, asks}
 
--- Between two readings, entries come first and bytes after them: `wrote` says whether it has written since it last read.
--- Where it gives its value, `then` holds of that and of the value.
+-- Between two readings, entries come first and bytes after them: `wrote` says whether it has written since it
+-- last read. Where it gives its value, `then` holds of that and of the value.
 unfoldable pub EntriesFirst : {E A : Type 0} → Bool → Interaction E A → (Bool → A → Type 0) → Type 0
 EntriesFirst wrote (gives a) then = then wrote a
 EntriesFirst wrote (ends e) then = ⊤

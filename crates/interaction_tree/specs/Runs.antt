@@ -23,7 +23,8 @@ IsCaused old new (Err (Failed Reading)) = HasRisen old.read_faults new.read_faul
 IsCaused old new (Err (Failed Writing)) = HasRisen old.write_faults new.write_faults × IsTrue old.may_fail
 IsCaused old new (Err (Failed Memory)) = ⊤
 
--- From a link and a desk to what they are afterwards, with this outcome. It holds over links that tell nothing as well.
+-- From a link and a desk to what they are afterwards, with this outcome. It holds over links that tell
+-- nothing as well.
 pub record Runs {E A : Type 0} (link link' : LinkState) (desk desk' : DeskView) (t : Interaction E A) (out : Result A (Halt E)) : Type 0 where
   pub read : List ℕ
   pub written : List ℕ

@@ -42,7 +42,8 @@ FallsShort {X} front whole = (rest : List X) × (whole ≡ front ++ rest) × (0 
 abbrev pub IsCutOff : Option (List ℕ) → (wanted : Wanted) → List ℕ → Fault wanted → Type 0
 IsCutOff left wanted read fault = (front_of wanted read ≡ Partial fault) × IsAtEnd left
 
--- Code stands still at this step with this outcome, having read and written so much of the step; `left` is what is left of the input.
+-- Code stands still at this step with this outcome, having read and written so much of the step; `left` is
+-- what is left of the input.
 abbrev pub StandsStill : {E A : Type 0} → Option (List ℕ) → Result A (Halt E) → Interaction E A → List ℕ → List ℕ → Type 0
 StandsStill left (Ok a) (gives b) read written = (a ≡ b) × (read ≡ []) × (written ≡ [])
 StandsStill left (Err (Ended e)) (ends e') read written = (e ≡ e') × (read ≡ []) × (written ≡ [])
@@ -62,7 +63,8 @@ StandsStill left (Err (Failed Memory)) (reads wanted cut f) read written =
 StandsStill left (Err (Failed Memory)) (asks request f) read written = (read ≡ []) × (written ≡ [])
 StandsStill left _ _ read written = ⊥
 
--- Code went along the interaction up to where it stands still with this outcome, and on the way read and wrote these bytes and made these entries.
+-- Code went along the interaction up to where it stands still with this outcome, and on the way read and
+-- wrote these bytes and made these entries.
 abbrev pub IsTrace : {E A : Type 0} → Option (List ℕ) → Result A (Halt E) → Interaction E A → List ℕ → List ℕ → List OwnEntry → Type 0
 IsTrace left out (gives a) read written own = StandsStill left out (gives a) read written × (own ≡ [])
 IsTrace left out (ends e) read written own = StandsStill left out (ends e) read written × (own ≡ [])

@@ -47,7 +47,8 @@ abbrev pub cut_off : {E A : Type 0} → Extent → List ℕ → CutOff E → Tur
 cut_off Closed input cut = record { used = input; requests = []; bytes = cut.bytes; stop = Ended cut.end }
 cut_off Open input cut = record { used = input; requests = []; bytes = []; stop = Waiting }
 
--- What is due by an input and the session's own entries, in their order. A request whose entry isn't there is unanswered.
+-- What is due by an input and the session's own entries, in their order. A request whose entry isn't there is
+-- unanswered.
 unfoldable pub turn_over : {E A : Type 0} → Extent → Interaction E A → List ℕ → List OwnEntry → Turn E A
 turn_over extent (gives a) input own = at_once (Gave a)
 turn_over extent (ends e) input own = at_once (Ended e)

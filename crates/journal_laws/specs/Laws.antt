@@ -24,7 +24,8 @@ pub record IsBeginning (log : List Entry) (least : ℕ) (found : List Entry) : T
 abbrev pub BodiesTellTheLog : Type 0
 BodiesTellTheLog = (admin : Name) (one other : List Entry) → IsJournalLog admin one → IsJournalLog admin other → bodies_in one ≡ bodies_in other → one ≡ other
 
--- Of a file that holds the first events of a log, at least so many, a hub is made again with a beginning of that log, with at least so many entries: answers and all.
+-- Of a file that holds the first events of a log, at least so many, a hub is made again with a beginning of
+-- that log, with at least so many entries: answers and all.
 abbrev pub FoundIsBeginning : Type 0
 FoundIsBeginning =
     (admin : Name) (log found : List Entry) (least : ℕ) (file : List ℕ)
@@ -38,7 +39,8 @@ OwnIsNotRefused =
 
 -- ---- where only the entries that last are stored
 
--- A file holds the lasting entries of the first so many of a legal log, and a body can be made of each that lasts.
+-- A file holds the lasting entries of the first so many of a legal log, and a body can be made of each that
+-- lasts.
 pub record HoldsThoseThatLast (admin : Name) (log : List Entry) (start count : ℕ) (file : List ℕ) : Type 0 where
   pub legal : IsLegal admin log
   pub storable : AreStorableEntries (lasting start log)
@@ -46,7 +48,8 @@ pub record HoldsThoseThatLast (admin : Name) (log : List Entry) (start count : �
   pub there : count ≤ length log
   pub holds : HoldsEvents admin (lasting start (take count log)) file
 
--- Of such a file a hub is made again with exactly these entries, and in the state of that beginning of the log: nothing that it changed is lost.
+-- Of such a file a hub is made again with exactly these entries, and in the state of that beginning of the
+-- log: nothing that it changed is lost.
 abbrev pub LastingAreFound : Type 0
 LastingAreFound =
     (admin : Name) (log found : List Entry) (start count : ℕ) (file : List ℕ) → HoldsThoseThatLast admin log start count file → IsJournalLog admin found → AreEventsOf admin found file

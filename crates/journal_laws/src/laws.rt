@@ -3,7 +3,8 @@ ghost use Rattle.journal_laws.specs.Laws.{BodiesTellTheLog, FoundIsBeginning, La
 
 use rule_compile::some_patterns_are_true;
 
-/// Tells what is found in a file that a crash may have left of a journal. It does nothing, and is called for its clauses.
+/// Tells what is found in a file that a crash may have left of a journal. It does nothing, and is called for
+/// its clauses.
 pub fn hold_laws()
     ensures bodies { BodiesTellTheLog }
     ensures found { FoundIsBeginning }

@@ -14,7 +14,8 @@ use Rattle.hub_history.specs.Push.{is_done}
 
 -- ---- which events last
 
--- an opening that made its repository lasts, and one for writing that was granted, since a push may come after it
+-- an opening that made its repository lasts, and one for writing that was granted, since a push may come
+-- after it
 abbrev pub opening_lasts : EnterKept → Want → Bool
 opening_lasts Created want = true
 opening_lasts Granted Write = true

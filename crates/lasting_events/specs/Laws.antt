@@ -6,7 +6,8 @@ use Rattle.hub_history.specs.History.{IsLegal, history, opening_at, replay}
 use Rattle.hub_history.specs.Opening.{Pinned}
 use Rattle.lasting_events.specs.Lasting.{IsChosen, if_lasting, lasting, lasts, place_among}
 
--- The lasting entries of a legal log are a legal log, with the answers that they had, and lead to the same state. What the opening at the place of one of them pinned, it pins at the new place.
+-- The lasting entries of a legal log are a legal log, with the answers that they had, and lead to the same
+-- state. What the opening at the place of one of them pinned, it pins at the new place.
 pub record LastingIsEnough : Type 0 where
   pub legal : (admin : Name) (log : List Entry) (start : ℕ) → start ≤ length log → IsLegal admin log → IsLegal admin (lasting start log)
   pub state : (admin : Name) (log : List Entry) (start : ℕ) → start ≤ length log → IsLegal admin log → replay admin (lasting start log) ≡ replay admin log

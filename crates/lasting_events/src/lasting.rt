@@ -6,8 +6,8 @@ ghost use Rattle.lasting_events.specs.Lasting.{lasts, opening_lasts};
 
 use hub_history::{EnterKept, Event, OutcomeList, PermsKept, Want};
 
-/// Whether an event lasts: it is an opening that made its repository, one for writing that was granted, a push of which
-/// a command is done, or a change of roles that is done.
+/// Whether an event lasts: it is an opening that made its repository, one for writing that was granted, a
+/// push of which a command is done, or a change of roles that is done.
 pub fn lasts(event: &Event) -> bool
     ensures { result ≡ lasts event.now }
 {

@@ -4,8 +4,8 @@ ghost use Rattle.lasting_events.specs.Lasting.{lasting_places, place_among};
 
 use hub_history::EntryList;
 
-/// The place of a log's entry among those that last, by their places behind the first entries. It is a binary search; the
-/// log itself isn't read.
+/// The place of a log's entry among those that last, by their places behind the first entries. It is a binary
+/// search; the log itself isn't read.
 pub fn place_among(start: u64, places: &[u64], _log: &EntryList, place: u64) -> u64
     requires places { places.now ≡ lasting_places start _log.now }
     requires within { place ≤ length _log.now }

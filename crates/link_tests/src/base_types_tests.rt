@@ -124,7 +124,8 @@ fn a_map_gives_its_names_in_byte_order(rt: HostRuntime) {
     assert!(rt; copy_keeps_all(&rt, rt.alloc(), &mut map));
 }
 
-// Texts, of which the first is before the second: a byte above 127 stands behind every letter, and a beginning before the whole.
+// Texts, of which the first is before the second: a byte above 127 stands behind every letter, and a
+// beginning before the whole.
 static ORDERED: [(&str, &str); 4] = [("a", "b"), ("a", "aa"), ("Z", "a"), ("z", "\u{e9}")];
 
 fn is_before(first: &Text, alloc: Global, second: &str) -> bool {

@@ -256,7 +256,8 @@ fn a_tcp_door_gives_the_connections_of_its_listener(rt: HostRuntime) {
     assert_eq!(rt; serve_next(&mut unbound), b'f');
 }
 
-// What is done on a disk with an empty file: four bytes are written and one more, one is cut off, and the rest is read.
+// What is done on a disk with an empty file: four bytes are written and one more, one is cut off, and the
+// rest is read.
 fn write_cut_and_read(disk: &mut impl Disk) -> Result<[u8; 4], DiskFault> {
     disk.write_at(0, b"abcd")?;
     disk.write_at(4, b"e")?;

@@ -1,11 +1,13 @@
-// The inputs of installations, the first of which has the conf. All numbers, texts and digests were reckoned apart from the code.
+// The inputs of installations, the first of which has the conf. All numbers, texts and digests were reckoned
+// apart from the code.
 use git_object::ObjectId;
 use installation::{Draws, Visit, first_input, next_visit, repo_name, visit_input};
 use sha1::Sha1;
 use std::alloc::Global;
 use std::test::Fail;
 
-// How many repositories, from which start, the number behind the conf's draws, and the digest of the first input.
+// How many repositories, from which start, the number behind the conf's draws, and the digest of the first
+// input.
 static FIRST: [(u32, u32, u32, &str); 3] = [
     (1, 1, 11_249, "8f30ef7fa7d8811f23f8cbecd298e141b8e3311b"),
     (3, 2, 37_229, "85b331f743580bc14ca7e20282124e934826588b"),

@@ -1,4 +1,6 @@
-//! Tests of `base_types`, `pktline_core`, `script_frames`, `edge_links`, `request_head`, `raw_pack` and `installation`, by what is public there. They are one crate, since each crate of tests proves anew how values of the types that it uses are dropped.
+//! Tests of `base_types`, `pktline_core`, `script_frames`, `edge_links`, `request_head`, `raw_pack` and
+//! `installation`, by what is public there. They are one crate, since each crate of tests proves anew how
+//! values of the types that it uses are dropped.
 #![tactic(auto)]
 
 #[cfg(test)]

@@ -2,7 +2,7 @@
 // `git hash-object -t commit --stdin`, and the heads of blobs by `git pack-objects`, of Git 2.39.5.
 ghost use Rattle.std.specs.Prelude.{◌<◌, ◌^◌, None, false, length};
 ghost use Rattle.std.proofs.Common.{arith};
-ghost use Rattle.pktline_core.specs.LinkState.{LinkState};
+ghost use Rattle.pktline_core.specs.LinkState.{LinkState, Whole};
 
 use git_object::{Kind, Object, ObjectList};
 use pktline_core::{Endpoint, MemoryLink, Source, Taken, WriteFault};
@@ -432,8 +432,8 @@ fn readers_cross_threads(rt: HostRuntime) {
     });
 }
 
-// A pack of 17 blobs of 16,777,216 zero bytes, made as it is read: so far into it. The first 16 are as large as the
-// bodies of a pack may be together.
+// A pack of 17 blobs of 16,777,216 zero bytes, made as it is read: so far into it. The first 16 are as large
+// as the bodies of a pack may be together.
 #[derive(Drop)]
 struct MadePack {
     at: u64,
@@ -446,7 +446,9 @@ const MADE: [u8; 16] = *b"PACK\0\0\0\x02\0\0\0\x11\xb0\x80\x80\x40";
 const MADE_ENTRY: u64 = 16_777_220;
 
 impl Endpoint for MadePack {
-    ghost state = { λ made. record { left = None; given = made.at; read_faults = 0; written = None; write_faults = 0; may_lack = false; may_fail = false } };
+    ghost state = { λ made. record { left = None; given = made.at; read_faults = 0; written = None; write_faults = 0; may_lack = false; may_fail = false; tells = false; limits = Whole } };
+
+    ghost telling = { λ made tells. tells };
 }
 
 impl Source for MadePack {

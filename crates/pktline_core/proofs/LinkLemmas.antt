@@ -34,7 +34,7 @@ consumes_same (Some os) (Some bs) None xs p q = absurd q
 consumes_same (Some os) (Some bs) (Some cs) xs p q = p ∙ ap (λ (l : List ℕ). xs ++ l) (sym q)
 
 pub later_same : (a : LinkState) → IsLater a a
-later_same a = record { given = omega arith; read_faults = omega arith; write_faults = omega arith; may_lack = refl; may_fail = refl }
+later_same a = record { given = omega arith; read_faults = omega arith; write_faults = omega arith; may_lack = refl; may_fail = refl; tells = refl; limits = refl }
 
 pub later_more : (a b c : LinkState) → IsLater a b → IsLater b c → IsLater a c
 later_more a b c p q = record {
@@ -43,6 +43,8 @@ later_more a b c p q = record {
   write_faults = omega (arith, p.write_faults, q.write_faults);
   may_lack = q.may_lack ∙ p.may_lack;
   may_fail = q.may_fail ∙ p.may_fail;
+  tells = q.tells ∙ p.tells;
+  limits = q.limits ∙ p.limits;
 }
 
 pub reading_more : (a b c : LinkState) → KeepsReading a b → KeepsReading b c → KeepsReading a c

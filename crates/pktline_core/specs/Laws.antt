@@ -10,7 +10,8 @@ IsWritable (Line payload) = length payload ≤ 65516
 IsWritable Flush = Unit {0}
 
 pub record PacketLaws : Type 0 where
-  -- A packet stands at the front of an input exactly where the input begins with a spelling of it, by the grammar.
+  -- A packet stands at the front of an input exactly where the input begins with a spelling of it, by the
+  -- grammar.
   pub grammar : (bytes : List ℕ) (n : ℕ) (packet : Packet) → (packet_front bytes ≡ Whole n packet) ↔ ((n ≤ length bytes) × IsPacket (take n bytes) packet)
   -- What is known of a beginning stays so, whatever follows it.
   pub whole_stays : (bytes more : List ℕ) (n : ℕ) (packet : Packet) → packet_front bytes ≡ Whole n packet → packet_front (bytes ++ more) ≡ Whole n packet

@@ -1,6 +1,15 @@
 -- What a link is to contracts, in both directions at once.
 use Rattle.std.specs.Prelude.{ℕ, Bool, List}
 use Rattle.std.specs.declared.option.Option.{Option}
+use Rattle.std.specs.Borrow.{GName}
+
+-- what a link holds back of another one's input
+pub data Limits : Type 0 where
+  -- it is no limit
+  Whole : Limits
+  -- it limits the link behind the reference of this name: these bytes are behind its end, where they are
+  -- told; and what that link holds back itself
+  Limited : GName → Option (List ℕ) → Limits → Limits
 
 pub record LinkState : Type 0 where
   -- the bytes that are left to be read, where the link tells them
@@ -17,3 +26,7 @@ pub record LinkState : Type 0 where
   pub may_lack : Bool
   -- whether a read or a write may fail
   pub may_fail : Bool
+  -- whether it goes on telling the bytes that are left
+  pub tells : Bool
+  -- what it holds back, which no call changes
+  pub limits : Limits

@@ -12,15 +12,15 @@ use Rattle.pktline_core.specs.declared.links.TakeFault.TheVariants as fault
 use Rattle.pktline_core.specs.declared.links.WriteFault.{WriteFault}
 use Rattle.pktline_core.specs.declared.links.WriteFault.TheVariants as write
 
--- `Got(n)` put the next n bytes into the front of the room, one at least; `End` comes only where none is left;
--- `Failed` comes only where the link may fail and its count rose, and took nothing.
+-- `Got(n)` put the next n bytes into the front of the room, one at least; `End` comes only where none is
+-- left; `Failed` comes only where the link may fail and its count rose, and took nothing.
 abbrev pub Takes : LinkState → LinkState → List ℕ → Taken → Type 0
 Takes old new room (taken.Got n) = (1 ≤ n) × (n ≤ length room) × Consumes old.left new.left (take n room) × (new.given ≡ old.given + n)
 Takes old new room taken.End = IsAtEnd new.left × Keeps old.left new.left × (new.given ≡ old.given)
 Takes old new room taken.Failed = HasRisen old.read_faults new.read_faults × IsTrue old.may_fail × Keeps old.left new.left × (new.given ≡ old.given)
 
--- `Took(n)` appended the first n bytes of the piece, one at least; `Failed` comes only where the link may fail and its
--- count rose, `NoMemory` only where it may lack memory, and both appended nothing.
+-- `Took(n)` appended the first n bytes of the piece, one at least; `Failed` comes only where the link may
+-- fail and its count rose, `NoMemory` only where it may lack memory, and both appended nothing.
 abbrev pub Puts : LinkState → LinkState → List ℕ → Put → Type 0
 Puts old new piece (put.Took n) = (1 ≤ n) × (n ≤ length piece) × Appends old.written new.written (take n piece)
 Puts old new piece put.Failed = HasRisen old.write_faults new.write_faults × IsTrue old.may_fail × Keeps old.written new.written
@@ -35,13 +35,16 @@ abbrev pub TellsPut : LinkState → LinkState → Put → Type 0
 TellsPut old new put.Failed = ⊤
 TellsPut old new answer = new.write_faults ≡ old.write_faults
 
--- What holds between a link and itself after any calls: no count falls, and what it may do is as it was.
+-- What holds between a link and itself after any calls: no count falls; what it may do, whether it goes on
+-- telling, and what it holds back are as they were.
 pub record IsLater (old new : LinkState) : Type 0 where
   pub given : old.given ≤ new.given
   pub read_faults : old.read_faults ≤ new.read_faults
   pub write_faults : old.write_faults ≤ new.write_faults
   pub may_lack : new.may_lack ≡ old.may_lack
   pub may_fail : new.may_fail ≡ old.may_fail
+  pub tells : new.tells ≡ old.tells
+  pub limits : new.limits ≡ old.limits
 
 -- The reading direction is as it was.
 pub record KeepsReading (old new : LinkState) : Type 0 where

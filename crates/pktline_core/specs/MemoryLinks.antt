@@ -2,7 +2,7 @@
 use Rattle.std.specs.Prelude.{◌≡◌, ◌⊎◌, ℕ, ◌==◌, ◌+◌, ◌||◌, min, Bool, true, false, not, if◌then◌else◌, List, [], ◌++◌, length, take, drop, Some}
 use Rattle.std.specs.List.{list_any}
 use Rattle.base_types.specs.Counts.{one_more}
-use Rattle.pktline_core.specs.LinkState.{LinkState}
+use Rattle.pktline_core.specs.LinkState.{LinkState, Whole}
 use Rattle.pktline_core.specs.declared.links.Taken.{Taken}
 use Rattle.pktline_core.specs.declared.links.Taken.TheVariants as taken
 use Rattle.pktline_core.specs.declared.links.Put.{Put}
@@ -50,6 +50,8 @@ memory_state m = record {
   write_faults = m.write_faults;
   may_lack = true;
   may_fail = not (length m.failing_takes == 0) || not (length m.failing_puts == 0);
+  tells = true;
+  limits = Whole;
 }
 
 -- how many bytes a take into so much room moves

@@ -1,5 +1,5 @@
--- Packets, as Git's protocol-common has them under "pkt-line Format": four hex digits, the pkt-len, that count
--- themselves and the payload after them; or the four digits of 0, the flush-pkt.
+-- Packets, as Git's protocol-common has them under "pkt-line Format": four hex digits, the pkt-len, that
+-- count themselves and the payload after them; or the four digits of 0, the flush-pkt.
 use Rattle.std.specs.Prelude.{◌≡◌, ℕ, ◌+◌, ◌-◌, ◌*◌, ◌/◌, ◌%◌, ◌≤◌, ◌==◌, nat_le, nat_lt, ◌&&◌, ◌||◌, if◌then◌else◌, List, [], ◌∷◌, ◌++◌, length, take, drop, None, Some}
 use Rattle.std.specs.declared.option.Option.{Option}
 use Rattle.base_types.specs.Fronts.{Front, Whole, Broken, Partial}
@@ -43,7 +43,8 @@ front_by_length bytes (Some n) =
     else if nat_lt (length bytes) n then Partial Truncated
     else Whole n (Line (drop 4 (take n bytes)))
 
--- What stands at the front of an input: a packet of so many bytes, or four bytes that are no length; or the input ends before that is known.
+-- What stands at the front of an input: a packet of so many bytes, or four bytes that are no length; or the
+-- input ends before that is known.
 unfoldable pub packet_front : List ℕ → Front Packet PktFault
 packet_front bytes = if nat_lt (length bytes) 4 then Partial Truncated else front_by_length bytes (number_of (take 4 bytes))
 

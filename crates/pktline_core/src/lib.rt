@@ -1,7 +1,7 @@
 //! Links to a client, and the packets that travel on them.
 //!
-//! - `links`: what a link is, as two traits over one ghost record of its state, the causes of its faults, and the loops
-//!   over its calls;
+//! - `links`: what a link is, as two traits over one ghost record of its state, the causes of its faults, and
+//!   the loops over its calls;
 //! - `memory_link`: a link over memory, which fails at the calls that are listed;
 //! - `packets`: a packet and its faults, by the format pkt-line of Git's protocol;
 //! - `reading`: packets read from any source, into one buffer;

@@ -1,5 +1,6 @@
 // A link to a client, as contracts see it in both directions.
-ghost use Rattle.std.specs.Prelude.{◌≡◌, ◌^◌, ◌<◌, ◌≤◌, Some, length};
+ghost use Rattle.std.specs.Prelude.{◌≡◌, ◌^◌, ◌<◌, ◌≤◌, Some, length, true};
+ghost use Rattle.std.specs.Option.{is_some};
 ghost use Rattle.pktline_core.specs.Faults.{take_text, write_text};
 ghost use Rattle.pktline_core.specs.LinkState.{LinkState};
 ghost use Rattle.pktline_core.specs.Links.{Takes, Puts, TellsTake, TellsPut, TakesAll, TellsReading, Writes, TellsWriting, IsLater, KeepsReading, KeepsWriting};
@@ -26,10 +27,13 @@ pub enum Put {
     NoMemory,
 }
 
-/// One end of a connection. Its state is one record for both directions, so that a call that reads can say what it
-/// keeps of what was written, and a call that writes what it keeps of what is left.
+/// One end of a connection. Its state is one record for both directions, so that a call that reads can say
+/// what it keeps of what was written, and a call that writes what it keeps of what is left.
 pub trait Endpoint {
     ghost state: { Self → LinkState };
+
+    /// Where it goes on telling, it tells.
+    ghost telling: { (one : Self) → (state one).tells ≡ true → is_some ((state one).left) ≡ true };
 }
 
 /// Bytes that come in.

@@ -1,6 +1,6 @@
 // A link over memory.
 ghost use Rattle.std.specs.Prelude.{◌≡◌, ◌<◌, ◌≤◌, ◌^◌, length};
-ghost use Rattle.std.proofs.Common.{arith};
+ghost use Rattle.std.proofs.Common.{arith, refl};
 ghost use Rattle.pktline_core.specs.Links.{Takes, Puts, TellsTake, TellsPut, IsLater, KeepsReading, KeepsWriting};
 ghost use Rattle.pktline_core.specs.MemoryLinks.{new_memory, memory_state, take_answer, after_take, IsPutAnswer, after_put};
 
@@ -27,8 +27,8 @@ pub struct MemoryLink {
 impl MemoryLink {
     ghost use Rattle.pktline_core.specs.MemoryViews.{memory_of};
 
-    /// A link whose input is these bytes. It moves at most so many of them in a call, and fails at the calls of `take`
-    /// and of `put` whose numbers, from 0, are listed. It takes no memory but for what is written.
+    /// A link whose input is these bytes. It moves at most so many of them in a call, and fails at the calls
+    /// of `take` and of `put` whose numbers, from 0, are listed. It takes no memory but for what is written.
     pub fn new(
         input: Vec<u8>,
         most: usize,
@@ -72,6 +72,8 @@ impl Endpoint for MemoryLink {
     ghost use Rattle.pktline_core.specs.MemoryViews.{memory_of};
 
     ghost state = { λ m. memory_state (memory_of m) };
+
+    ghost telling = { λ m tells. refl };
 }
 
 impl Source for MemoryLink {

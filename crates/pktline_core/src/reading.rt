@@ -14,7 +14,8 @@ use crate::packets::{MAX_PAYLOAD, Pkt, PktFault};
 use std::alloc::Global;
 use std::marker::Model;
 
-/// A reader of packets, which keeps the payload of the last one. It has room for the longest payload from the start, and clears of it what payloads use.
+/// A reader of packets, which keeps the payload of the last one. It has room for the longest payload from the
+/// start, and clears of it what payloads use.
 #[derive(Drop)]
 pub struct PktReader {
     buffer: Vec<u8>,
@@ -56,14 +57,16 @@ impl PktReader {
         self.failed = false;
     }
 
-    /// The number of bytes that whole packets took: the place of the packet that comes next, or of the one that broke.
+    /// The number of bytes that whole packets took: the place of the packet that comes next, or of the one
+    /// that broke.
     pub fn offset(&self) -> u64
         ensures { result ≡ self.now.offset }
     {
         self.offset
     }
 
-    /// The next packet, whose payload is lent until the next call. It is copied once, into the reader's buffer.
+    /// The next packet, whose payload is lent until the next call. It is copied once, into the reader's
+    /// buffer.
     pub fn next<S: Source>(&mut self, source: &mut S) -> Result<Pkt<'_>, PktFault>
         requires ready { self.old.failed ≡ false }
         requires behind { self.old.offset ≤ (S.state source.old).given }
@@ -119,7 +122,8 @@ impl PktReader {
         }
     }
 
-    // Makes the buffer as long as a payload, where it is shorter. It has room for any payload, so this takes no memory, and a byte is cleared once.
+    // Makes the buffer as long as a payload, where it is shorter. It has room for any payload, so this takes
+    // no memory, and a byte is cleared once.
     fn lengthen(&mut self, size: usize)
         requires { size ≤ 65516 }
         ensures within { size ≤ length self.new.buffer }

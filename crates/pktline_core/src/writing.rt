@@ -7,11 +7,12 @@ use crate::links::{Sink, WriteFault, write_all};
 use crate::packets::MAX_PAYLOAD;
 use arrayvec::ArrayVec;
 
-// Lines of up to so many bytes go out in one call of `put`, since over a socket a second one may wait until the first is acknowledged.
+// Lines of up to so many bytes go out in one call of `put`, since over a socket a second one may wait until
+// the first is acknowledged.
 const SHORT_LINE: usize = 1024;
 
-/// Writes a line with this payload. It takes no memory itself. A line of at most 1,024 bytes is put together on the stack, and of a longer one the
-/// payload goes out as it lies.
+/// Writes a line with this payload. It takes no memory itself. A line of at most 1,024 bytes is put together
+/// on the stack, and of a longer one the payload goes out as it lies.
 pub fn write_pkt<S: Sink>(sink: &mut S, payload: &[u8]) -> Result<(), WriteFault>
     requires { length payload.now ≤ MAX_PAYLOAD }
     ensures writes { Writes (S.state sink.old) (S.state sink.new) (spelling (Line payload.now)) result }

@@ -16,7 +16,8 @@ abbrev pub flat_of : Patterns → Result (List ConfFile) ConfFault → Result Fl
 flat_of patterns (Ok files) = flat patterns files
 flat_of patterns (Err e) = Err (Splicing e)
 
--- what is returned is what the files come to that are returned of the conf, or their fault, unless memory ran out
+-- what is returned is what the files come to that are returned of the conf, or their fault, unless memory ran
+-- out
 abbrev pub TellsOfPolicy : List Content → Option ObjectId → Result Flat PolicyFault → Type 0
 TellsOfPolicy objects tree result =
     (conf : Result (List ConfFile) ConfFault) × TellsOfConf objects tree conf × ((patterns : Patterns) → AreTrue patterns → Gives result (flat_of patterns conf))

@@ -43,7 +43,8 @@ abbrev pub text_in : Option Content → Option (List ℕ)
 text_in None = None
 text_in (Some o) = blob_text o.kind o.body
 
--- the file of a name, by what is there: the bytes of a blob, where the mode is a file's and the name isn't too long
+-- the file of a name, by what is there: the bytes of a blob, where the mode is a file's and the name isn't
+-- too long
 abbrev pub file_of : List Content → Path → Option Entry → Option (List ℕ)
 file_of objects name None = None
 file_of objects name (Some e) = if is_conf_mode e.mode && nat_le (length name) MAX_FILE_NAME then text_in (first_named objects e.id) else None

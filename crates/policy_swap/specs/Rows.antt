@@ -1,4 +1,5 @@
--- The walk over the rows below a tree: what was met, and what is looked up. It serves private functions alone.
+-- The walk over the rows below a tree: what was met, and what is looked up. It serves private functions
+-- alone.
 use Rattle.std.specs.Prelude.{◌≡◌, ◌⊎◌, ◌+◌, ◌<◌, ◌≤◌, ℕ, nat_le, if◌then◌else◌, List, [], ◌∷◌, ◌++◌, map, length, Option, None, Some}
 use Rattle.std.specs.List.{All, AllZip, Contains}
 use Rattle.git_object.specs.Content.{Content}
@@ -59,7 +60,8 @@ module _ (objects : List Content) (tree : Option ObjectId) where
   IsRow names (File found) = (tree_at objects tree names ≡ None) × (pieces found.path ≡ names) × (file_at objects tree found.path ≡ Some found.body)
   IsRow names Other = (tree_at objects tree names ≡ None) × IsNoFile names
 
-  -- Rows that were met, each at its place. `Looked` says which names were looked up in which directory: those that are there were met, and no others.
+  -- Rows that were met, each at its place. `Looked` says which names were looked up in which directory: those
+  -- that are there were met, and no others.
   pub record IsMet (Looked : List Name → Name → Type 0) (rows : List Row) (paths : List Path) : Type 0 where
     pub each : AllZip IsRow (places paths) rows
     pub there : All (HasRow objects tree) paths

@@ -8,7 +8,8 @@ use ref_store::Lens;
 use rule_compile::{Policy, PolicyFault};
 use std::alloc::Global;
 
-/// The rules that the conf at a commit comes to, or the first fault of its files or of their lines. It costs what `conf_files` and `Policy::compile` do.
+/// The rules that the conf at a commit comes to, or the first fault of its files or of their lines. It costs
+/// what `conf_files` and `Policy::compile` do.
 pub fn compile_at(alloc: Global, lens: &Lens, commit: ObjectId) -> Result<Policy, PolicyFault>
     ensures { TellsOfPolicy lens.now (conf_tree lens.now commit) result }
 {

@@ -17,9 +17,11 @@ use ref_store::Lens;
 use std::alloc::Global;
 use vref::root_of;
 
-/// The files of the conf at a commit, in the byte order of their names, which are relative to the folder `conf`.
+/// The files of the conf at a commit, in the byte order of their names, which are relative to the folder
+/// `conf`.
 ///
-/// It costs the rows below `conf`, and the bytes of the files, which are copied once it is known that they aren't too many.
+/// It costs the rows below `conf`, and the bytes of the files, which are copied once it is known that they
+/// aren't too many.
 pub fn conf_files(alloc: Global, lens: &Lens, commit: ObjectId) -> Result<FileList, ConfFault>
     ensures { TellsOfConf lens.now (conf_tree lens.now commit) result }
 {

@@ -46,7 +46,8 @@ impl<'l> Body<'l> {
     }
 }
 
-/// A directory: its tree, and what comes before the names in it, where that leaves room for the name of a file.
+/// A directory: its tree, and what comes before the names in it, where that leaves room for the name of a
+/// file.
 #[derive(Drop)]
 pub struct Folder {
     front: Option<Text>,
@@ -96,7 +97,8 @@ impl<T: Drop> From<AllocFailed<T>> for Stop {
     }
 }
 
-/// What is below a tree, and the tree itself as the first row. Without an id it is the empty tree. It stops at the first row that is too many.
+/// What is below a tree, and the tree itself as the first row. Without an id it is the empty tree. It stops
+/// at the first row that is too many.
 pub fn walk_rows<'l>(
     alloc: Global,
     lens: &'l Lens,

@@ -14,8 +14,8 @@ use indexmap::IndexMap;
 use ref_store::{Lens, Salt};
 use std::alloc::Global;
 
-/// The entries of each tree that was read, so that a tree that is at many paths is read once: a name in it may have millions of bytes. It holds no more
-/// entries than there are rows, but for those of one tree.
+/// The entries of each tree that was read, so that a tree that is at many paths is read once: a name in it
+/// may have millions of bytes. It holds no more entries than there are rows, but for those of one tree.
 #[derive(Drop)]
 pub struct Trees<'l> {
     lists: IndexMap<ObjectId, Vec<TreeEntry<'l>>, Salt>,
@@ -69,7 +69,8 @@ fn list_entries<'l>(
     let Some(tree) = object else {
         return Ok(list);
     };
-    // `body` is called for its clause that the form has no fault, from which the proof has that each name comes once.
+    // `body` is called for its clause that the form has no fault, from which the proof has that each name
+    // comes once.
     let _form = tree.body();
     for entry in tree.tree_entries() {
         list.push(entry)?;

@@ -13,13 +13,16 @@ use Rattle.hub_history.specs.Opening.{Pinned}
 use Rattle.hub_history.specs.Push.{JudgesAll, JudgesAllAtPush, is_of_conf}
 use Rattle.hub_history.specs.State.{Conf, InForce}
 
--- what each command is told by the conf at the opening, and by a creator and roles, and the conf that each would put in force
+-- what each command is told by the conf at the opening, and by a creator and roles, and the conf that each
+-- would put in force
 pub record JudgedAgain : Type 0 where
   pub wild : WildView
   pub outcomes : List (Option Outcome)
   pub confs : List (Option Conf)
 
--- what each command is told by the opening, if anything; the conf that each would put in force, if it would; the facts of each change; the opening's objects, and the same with the pack's behind them; what was found out by other roles, if it was
+-- what each command is told by the opening, if anything; the conf that each would put in force, if it would;
+-- the facts of each change; the opening's objects, and the same with the pack's behind them; what was found
+-- out by other roles, if it was
 pub record Judgement : Type 0 where
   pub outcomes : List (Option Outcome)
   pub confs : List (Option Conf)
@@ -49,7 +52,8 @@ conf_kept conf told = if is_none told then conf else None
 abbrev pub AreFactsOf : List Content → List Command → List Facts → Type 0
 AreFactsOf objects commands facts = AllZip (λ (change : Command) (facts : Facts). AreFacts objects change.name change.old change.new facts) commands facts
 
--- this is what the commands of a push are told by its opening and by what is in force just before it, and these are the confs that they would put in force
+-- this is what the commands of a push are told by its opening and by what is in force just before it, and
+-- these are the confs that they would put in force
 pub record AreTold (force : InForce) (pinned : Pinned) (pack : List Content) (commands : List Command) (outcomes : List (Option Outcome)) (confs : List (Option Conf)) : Type 0 where
   pub outcomes_are : (patterns : Patterns) → AreTrue patterns → JudgesAllAtPush patterns force pinned pack commands outcomes
   pub confs_are : confs ≡ confs_of pinned pack commands outcomes

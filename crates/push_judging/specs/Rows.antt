@@ -33,7 +33,8 @@ abbrev pub SaysNow : Patterns → CheckView → List Content → Command → Opt
 SaysNow patterns check objects command said =
     (refused : Option Refusal) × RulesSay patterns check.flat.rules (asked_by patterns check) objects command refused × (said ≡ outcome_now refused)
 
--- what a command is told at the push: what the opening said of it, and where it said nothing what the rules just before the push say
+-- what a command is told at the push: what the opening said of it, and where it said nothing what the rules
+-- just before the push say
 abbrev pub TellsNow : Patterns → CheckView → List Content → Command → Option Outcome → Option Outcome → Type 0
 TellsNow patterns check objects command (Some o) found = found ≡ Some o
 TellsNow patterns check objects command None found = SaysNow patterns check objects command found

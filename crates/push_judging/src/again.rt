@@ -1,4 +1,5 @@
-// A push that is judged again outside of its turn: its repository got another creator or other roles since the opening.
+// A push that is judged again outside of its turn: its repository got another creator or other roles since
+// the opening.
 ghost use Rattle.std.specs.Prelude.{◌≡◌, ◌≢◌, IfOk, IfSome, None, OnOk, false, true};
 ghost use Rattle.push_judging.specs.Again.{IsJudgedBy, TellsAgain};
 ghost use Rattle.push_judging.specs.Judged.{IsJudgement};
@@ -6,34 +7,31 @@ ghost use Rattle.push_judging.specs.Judged.{IsJudgement};
 use crate::judging::{Again, CommandOutcomes, Judged};
 use base_types::NoMemory;
 use conf_lex::UserName;
-use git_object::ObjectList;
-use hub_state::Pin;
-use ref_store::CommandList;
+use hub_state::{Pin, PushRequest};
 use std::alloc::Global;
 use wild_perms::{PermsAnswer, RoleEntry, Wild};
 
 impl Judged {
-    /// Judges the push by the conf at its opening once more, and by this creator and these roles, and keeps what its commands are told by them in place
-    /// of what it kept before. It costs what `at_push` does.
+    /// Judges the push by the conf at its opening once more, and by this creator and these roles, and keeps
+    /// what its commands are told by them in place of what it kept before. It costs what `at_push` does.
     pub fn judge_again(
         &mut self,
         alloc: Global,
         pin: &Pin,
-        pack: &ObjectList,
-        commands: &CommandList,
+        request: &PushRequest,
         wild: Wild,
     ) -> Result<(), NoMemory>
-        requires { IsJudgement pin.now.pinned pack.now commands.now self.old }
-        ensures judged { IsJudgement pin.now.pinned pack.now commands.now self.new }
+        requires { IsJudgement pin.now.pinned request.now.pack request.now.commands self.old }
+        ensures judged { IsJudgement pin.now.pinned request.now.pack request.now.commands self.new }
         ensures kept { OnOk result (IsJudgedBy self.new wild) }
     {
-        let told = self.at_push(alloc, pin, pack, commands, pin.conf(), &wild)?;
+        let told = self.at_push(alloc, pin, request, pin.conf(), &wild)?;
         self.again = Some(Again { wild, told });
         Ok(())
     }
 
-    /// Whether the push was judged again by this creator and these roles. Without a creator, whose repository has no roles that could change, it is told
-    /// that it wasn't. It costs the roles of both.
+    /// Whether the push was judged again by this creator and these roles. Without a creator, whose repository
+    /// has no roles that could change, it is told that it wasn't. It costs the roles of both.
     pub fn is_judged_by(&self, wild: &Wild) -> Result<bool, NoMemory>
         ensures is { IfOk result (λ is. is ≡ true → IsJudgedBy self.now wild.now) }
         ensures not { IfOk result (λ is. is ≡ false → IsJudgedBy self.now wild.now → wild.now.creator ≡ None) }
@@ -44,7 +42,8 @@ impl Judged {
         }
     }
 
-    /// What the commands are told, if the push was judged again by this creator and these roles; it isn't kept any longer then.
+    /// What the commands are told, if the push was judged again by this creator and these roles; it isn't
+    /// kept any longer then.
     pub fn take_again(&mut self, wild: &Wild) -> Result<Option<CommandOutcomes>, NoMemory>
         ensures told { IfOk result (λ found. IfSome found (TellsAgain self.old wild.now)) }
         ensures before { self.new.before ≡ self.old.before }

@@ -4,6 +4,7 @@ ghost use Rattle.std.specs.FinMap as map;
 ghost use Rattle.std.specs.Option.{option_map_or};
 ghost use Rattle.ancestry.specs.Closures.{AreClosures};
 ghost use Rattle.ancestry.specs.Known.{AreFound, AreKnown};
+ghost use Rattle.ref_store.specs.Objects.{with_pack};
 ghost use Rattle.ref_store.specs.Refs.{Name};
 ghost use Rattle.rule_compile.specs.Patterns.{AreTrue, Patterns};
 ghost use Rattle.vref.specs.Facts.{AreFacts};
@@ -32,14 +33,16 @@ const MANY: usize = 4;
 // The branch that `HEAD` names.
 const HEAD: &[u8] = b"refs/heads/master";
 
-/// What each command of a push is told before the refs are asked, if anything, and the conf that each would put in force, if it would.
+/// What each command of a push is told before the refs are asked, if anything, and the conf that each would
+/// put in force, if it would.
 #[derive(Drop)]
 pub struct CommandOutcomes {
     pub outcomes: Vec<Option<Outcome>>,
     pub confs: Vec<Option<ConfInForce>>,
 }
 
-/// What each command of a push is told by its opening, the pack and the commands alone; the facts of each change; and what was found out of the pack on the way.
+/// What each command of a push is told by its opening, the pack and the commands alone; the facts of each
+/// change; and what was found out of the pack on the way.
 #[derive(Drop)]
 pub struct Judged {
     told: CommandOutcomes,
@@ -108,9 +111,16 @@ impl Judged {
 
 /// Judges each command of a push. The hub isn't looked at, so nothing needs to be held meanwhile.
 ///
-/// It costs the pack, and the objects that new values lead to before they come to what an earlier push found to be whole. Each of those objects is visited once, whatever the number of commands and whatever they are told; only where links lead in a circle does each command walk by itself, along all that it meets. The facts of all changes cost what `vref::facts_of_all` does, and what the rules say of one costs what `UpdateCheck::refusal` does. A command for the conf's branch costs the conf at its new value.
+/// It costs the pack, and the objects that new values lead to before they come to what an earlier push found
+/// to be whole. Each of those objects is visited once, whatever the number of commands and whatever they are
+/// told; only where links lead in a circle does each command walk by itself, along all that it meets. The
+/// facts of all changes cost what `vref::facts_of_all` does, and what the rules say of one costs what
+/// `UpdateCheck::refusal` does. A command for the conf's branch costs the conf at its new value.
 ///
-/// Where a command may still be done, it also makes what will be put in place then: the segments with the pack's objects, and a join of what was found out with what is known. A push that is refused makes neither, unless it brings no objects, whose findings are kept. `atomic` tells that the commands are done together or not at all; nothing that is told depends on it.
+/// Where a command may still be done, it also makes what will be put in place then: the segments with the
+/// pack's objects, and a join of what was found out with what is known. A push that is refused makes neither,
+/// unless it brings no objects, whose findings are kept. `atomic` tells that the commands are done together
+/// or not at all; nothing that is told depends on it.
 pub fn judge(
     alloc: Global,
     pin: &Pin,
@@ -281,7 +291,51 @@ fn prepared_pack(
     let closures = closures_of_tips(alloc, &repo, pin.closures(), commands, outcomes)?;
     let known = known_behind(alloc, pin, pack, &findings, pending)?;
     let fresh = fresh_in(&repo, &lens, pack, pending)?;
-    Ok(PreparedPack::new(repo, lens, findings, known, closures, fresh))
+    let grown_closures = closures_of_import(alloc, &repo, &fresh, &lens, pack, commands, outcomes)?;
+    Ok(PreparedPack::new(repo, lens, findings, known, closures, grown_closures, fresh))
+}
+
+// What the new values lead to of those refs that may still be moved, where a pack brings as many objects as
+// there were: so a clone behind an import finds them, and all imports together cost what they bring.
+fn closures_of_import(
+    alloc: Global,
+    repo: &Repo,
+    fresh: &Option<FreshObjects>,
+    lens: &Lens,
+    pack: &ObjectList,
+    commands: &[Command],
+    outcomes: &[Option<Outcome>],
+) -> Result<Closures, NoMemory>
+    requires lens { lens.now ≡ repo.now.objects ++ pack.now }
+    requires fresh { IsPrepared repo.now.objects lens.now fresh.now }
+    ensures { IfOk result (AreClosures (with_pack repo.now.objects pack.now)) }
+{
+    let Some(fresh) = fresh else {
+        return Ok(Closures::none(alloc));
+    };
+    let Some(grown) = repo.grown_by(fresh)? else {
+        return Ok(Closures::none(alloc));
+    };
+    if grown.count() / 2 < repo.count() {
+        return Ok(Closures::none(alloc));
+    }
+    let tips = new_values(alloc, commands, outcomes)?;
+    closures_of(alloc, &grown, &Closures::none(alloc), &tips)
+}
+
+// The new values of at most so many refs that may still be moved.
+fn new_values(
+    alloc: Global,
+    commands: &[Command],
+    outcomes: &[Option<Outcome>],
+) -> Result<Vec<ObjectId>, NoMemory> {
+    let mut tips = Vec::new(alloc);
+    for k in 0..commands.len().min(outcomes.len()) {
+        if tips.len() < MANY && outcomes[k].is_none() {
+            tips.push(commands[k].new)?;
+        }
+    }
+    Ok(tips)
 }
 
 // What the values lead to of those refs that may still be moved, and of `HEAD`, on which topics build.
@@ -359,7 +413,8 @@ fn known_with(alloc: Global, pin: &Pin, pack: &ObjectList) -> Result<Known, NoMe
     pin.known().grown(alloc)
 }
 
-// The same, with what walks found out, where it will be kept: a command may be done, or the push brings no objects.
+// The same, with what walks found out, where it will be kept: a command may be done, or the push brings no
+// objects.
 fn known_behind(
     alloc: Global,
     pin: &Pin,
@@ -377,7 +432,8 @@ fn known_behind(
     known.with(alloc, findings)
 }
 
-// The refs that several commands are for. Where each name is behind the one before, as git sends them, there are none.
+// The refs that several commands are for. Where each name is behind the one before, as git sends them, there
+// are none.
 fn names_of(alloc: Global, commands: &[Command]) -> Result<NameMap<bool>, NoMemory>
     ensures { IfOk result (λ names. TellsOfSeveral names commands.now) }
 {

@@ -10,28 +10,29 @@ use crate::rows::{Told, by_rules_now};
 use ancestry::Facts;
 use base_types::NoMemory;
 use git_object::ObjectList;
-use hub_state::{ConfInForce, Outcome, Pin};
-use ref_store::{Command, CommandList};
+use hub_state::{ConfInForce, Outcome, Pin, PushRequest};
+use ref_store::Command;
 use rule_compile::some_patterns_are_true;
 use std::alloc::Global;
 use update_check::UpdateCheck;
 use wild_perms::Wild;
 
 impl Judged {
-    /// Judges the commands of which the opening tells nothing by the conf that is in force just before the push, and by the creator and the roles that the repository has then. What the opening tells stays.
+    /// Judges the commands of which the opening tells nothing by the conf that is in force just before the
+    /// push, and by the creator and the roles that the repository has then. What the opening tells stays.
     ///
-    /// It costs what `UpdateCheck::refusal` does for each such command, and copies of what the opening tells. The facts are those that are known already.
+    /// It costs what `UpdateCheck::refusal` does for each such command, and copies of what the opening tells.
+    /// The facts are those that are known already.
     pub fn at_push(
         &self,
         alloc: Global,
         pin: &Pin,
-        pack: &ObjectList,
-        commands: &CommandList,
+        request: &PushRequest,
         conf: &ConfInForce,
         wild: &Wild,
     ) -> Result<CommandOutcomes, NoMemory>
-        requires { IsJudgement pin.now.pinned pack.now commands.now self.now }
-        ensures { IfOk result (λ told. AreTold (record { conf = conf.now; wild = wild.now }) pin.now.pinned pack.now commands.now told.outcomes.items told.confs.items) }
+        requires { IsJudgement pin.now.pinned request.now.pack request.now.commands self.now }
+        ensures { IfOk result (λ told. AreTold (record { conf = conf.now; wild = wild.now }) pin.now.pinned request.now.pack request.now.commands told.outcomes.items told.confs.items) }
     {
         let mut check = UpdateCheck::new(
             alloc,
@@ -41,8 +42,17 @@ impl Judged {
             pin.user(),
             self.lens(),
         );
-        let commands = commands.as_slice();
-        tell_each_now(alloc, pin, pack, commands, self, conf, wild, &mut check)
+        let commands = request.commands.as_slice();
+        tell_each_now(
+            alloc,
+            pin,
+            &request.pack,
+            commands,
+            self,
+            conf,
+            wild,
+            &mut check,
+        )
     }
 }
 

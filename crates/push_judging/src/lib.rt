@@ -1,4 +1,5 @@
-//! Judging a push by its opening, before its turn: what the opening, the pack and the commands alone decide. And judging it by the rules just before it.
+//! Judging a push by its opening, before its turn: what the opening, the pack and the commands alone decide.
+//! And judging it by the rules just before it.
 //!
 //! - `rows`: what the command itself, its new value, the rules and the conf say of one command;
 //! - `judging`: all commands of a push, by the opening;

@@ -25,7 +25,8 @@ const CONF_REPO: &[u8] = b"gitolite-admin";
 
 const CONF_BRANCH: &[u8] = b"refs/heads/master";
 
-/// What one command is told before the refs are asked, if anything, and the conf that it would put in force, if it would.
+/// What one command is told before the refs are asked, if anything, and the conf that it would put in force,
+/// if it would.
 #[derive(Drop)]
 pub struct Told {
     pub outcome: Option<Outcome>,

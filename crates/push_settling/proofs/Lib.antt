@@ -2,3 +2,4 @@ mod ListLemmas
 mod CollisionLemmas
 mod PushLemmas
 mod RunningLemmas
+mod BasisLemmas

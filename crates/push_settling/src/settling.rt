@@ -1,115 +1,82 @@
-// The outcomes of a push by what is there just before it, and the repository that it leaves.
-ghost use Rattle.std.specs.Prelude.{◌≡◌, ◌+◌, ◌++◌, ◌<◌, ◌≤◌, ◌^◌, [], IfOk, IfSome, length, List, map, None, not, OnOk, Some, true};
+// The outcomes of a push by what is there just before it, and what it leaves of its repository.
+ghost use Rattle.std.specs.Prelude.{◌≡◌, ◌+◌, ◌++◌, ◌<◌, ◌≤◌, ◌^◌, [], IfOk, IfSome, length, map, None, not, OnOk, Some, true};
 ghost use Rattle.std.specs.List.{list_any, position};
 ghost use Rattle.ref_store.specs.RefName.{is_ref_name};
 ghost use Rattle.ref_store.specs.Objects.{HasNamesOnce, with_pack};
-ghost use Rattle.ancestry.specs.Closures.{AreClosures, Begins};
-ghost use Rattle.ancestry.specs.Known.{AreKnown, Extends};
-ghost use Rattle.git_object.specs.Content.{Content};
+ghost use Rattle.ancestry.specs.Known.{Extends};
 ghost use Rattle.hub_history.specs.Collision.{collision};
 ghost use Rattle.hub_history.specs.Push.{beside, by_refs, in_order, is_done, repository_left, repository_left_with, outcomes_in, refs_after, refs_left, together};
-ghost use Rattle.push_settling.specs.Running.{FitCommands, FitsCommand, IsReadyFor};
-ghost use Rattle.ref_store.specs.Store.{TellsOfComparing};
+ghost use Rattle.push_settling.specs.Basis.{AreLeft, StandsOn, changed_to, same_in};
+ghost use Rattle.push_settling.specs.Running.{FitCommands, FitsCommand};
+ghost use Rattle.push_settling.specs.declared.settling.Left.TheVariants as left;
 
-use ancestry::{Closures, Known};
+use crate::basis::{Basis, Standing};
 use base_types::NoMemory;
 use git_object::ObjectList;
-use hub_state::{HostedRepo, Outcome, OutcomeList, PreparedPack};
+use hub_state::{HostedRepo, Outcome, OutcomeList, PreparedPack, PushRequest};
 use ref_store::{Applied, Command, CommandList, Compared, FreshObjects, RefName, Repo};
 use std::alloc::Global;
 
-/// The outcomes of a push, and the repository that it leaves where a command is done. Where none is, and what was found out on the way is right
-/// for the repository as it is, that one with more known of it.
+/// What a push leaves of its repository.
+#[derive(Drop)]
+pub enum Left {
+    /// A command is done: this is put in its place.
+    Changed(HostedRepo),
+    /// None is: it stays, and this is the same with more known of it, where something was found out on the
+    /// way that is right for it as it is.
+    Same(Option<HostedRepo>),
+}
+
+/// The outcomes of a push, and what it leaves of its repository.
 #[derive(Drop)]
 pub struct Settled {
     pub outcomes: OutcomeList,
-    pub next: Option<HostedRepo>,
-    pub same: Option<HostedRepo>,
+    pub left: Left,
 }
 
-/// Settles a push into a repository as it is just before. It costs the commands and, once a ref moves, the repository's refs; and where objects came
-/// since the push was judged, it compares the pack again, and adds what it lacks where a command is done.
+/// Settles a push into a repository as it is just before. It costs the commands and, once a ref moves, the
+/// repository's refs; and where objects came since the push was judged, it compares the pack again, and adds
+/// what it lacks where a command is done.
 ///
-/// Where no command is done no segment is built. What was found out on the way is kept where a command is done, and where the push brings no objects
-/// and none came since it was judged. It was joined with what was known then; where objects came since, it is put beside what is known now.
-///
-/// `same` tells that the objects are those of the opening.
+/// Where no command is done no segment is built. What was found out on the way is kept where a command is
+/// done, and where the push brings no objects and none came since it was judged. It was joined with what was
+/// known then; where objects came since, it is put beside what is known now.
 pub fn settle(
     alloc: Global,
     now: &HostedRepo,
     judged: &[Option<Outcome>],
-    mut prepared: PreparedPack,
-    pack: &ObjectList,
-    commands: &CommandList,
-    atomic: bool,
-    same: bool,
+    mut basis: Basis,
+    request: &PushRequest,
 ) -> Result<Settled, NoMemory>
-    requires alike { length judged.now ≡ length commands.now }
-    requires few { length commands.now ≤ 10000 }
-    requires fit { FitCommands commands.now judged.now }
-    requires among { collision now.now.objects pack.now ≡ None → Extends prepared.objects (with_pack now.now.objects pack.now) }
-    requires behind { prepared.objects ≡ prepared.before ++ pack.now }
-    requires grew { Begins prepared.before now.now.objects }
-    requires same { same ≡ true → prepared.before ≡ now.now.objects }
-    ensures outcomes { IfOk result (λ d. d.outcomes ≡ outcomes_in now.now pack.now commands.now atomic judged.now) }
-    ensures next { IfOk result (λ d. d.next ≡ repository_left now.now pack.now commands.now d.outcomes) }
-    ensures same { IfOk result (λ d. IfSome d.same (λ same. same ≡ now.now)) }
+    requires alike { length judged.now ≡ length request.now.commands }
+    requires few { length request.now.commands ≤ 10000 }
+    requires fit { FitCommands request.now.commands judged.now }
+    requires among { collision now.now.objects request.now.pack ≡ None → Extends basis.prepared.objects (with_pack now.now.objects request.now.pack) }
+    requires behind { basis.prepared.objects ≡ basis.prepared.before ++ request.now.pack }
+    requires stands { StandsOn now.now.objects basis }
+    ensures outcomes { IfOk result (λ d. d.outcomes ≡ outcomes_in now.now request.now.pack request.now.commands request.now.atomic judged.now) }
+    ensures next { IfOk result (λ d. changed_to d.left ≡ repository_left now.now request.now.pack request.now.commands d.outcomes) }
+    ensures same { IfOk result (λ d. IfSome (same_in d.left) (λ same. same ≡ now.now)) }
 {
     // `count` is called for its clause that no two objects have one name, which the proof cites.
     let _count = now.repo().count();
-    let unchanged = is_unchanged(same, pack);
-    match compared(now, &mut prepared, pack, same) {
-        Compared::Fresh(fresh) => settle_with(
-            alloc, now, judged, prepared, fresh, commands, atomic, same, unchanged,
-        ),
+    let commands = &request.commands;
+    match basis.compared(now, &request.pack) {
+        Compared::Fresh(fresh) => settle_with(alloc, now, judged, basis, fresh, request),
         Compared::Collision { id, .. } => refuse_all(alloc, commands, &Outcome::Collided(id)),
         Compared::Full(count) => refuse_all(alloc, commands, &Outcome::Full(count)),
         Compared::NoMemory => Err(NoMemory),
     }
 }
 
-// Whether a push brings no objects, and none came since its opening.
-fn is_unchanged(same: bool, pack: &ObjectList) -> bool
-    ensures { result ≡ true → (same ≡ true) × (pack.now ≡ []) }
-{
-    if !same {
-        return false;
-    }
-    pack.is_empty()
-}
-
-// The pack beside the repository: as it was compared when the push was judged, where the objects are still the same and that is at hand.
-fn compared(
-    now: &HostedRepo,
-    prepared: &mut PreparedPack,
-    pack: &ObjectList,
-    same: bool,
-) -> Compared
-    requires behind { prepared.old.objects ≡ prepared.old.before ++ pack.now }
-    requires same { same ≡ true → prepared.old.before ≡ now.now.objects }
-    ensures told { TellsOfComparing now.now.objects pack.now result }
-    ensures ready { IsReadyFor now.now.objects result }
-    ensures prepared { prepared.new ≡ prepared.old }
-{
-    if !same {
-        return now.repo().compare(pack);
-    }
-    match prepared.take_fresh() {
-        Some(fresh) => Compared::Fresh(fresh),
-        None => now.repo().compare(pack),
-    }
-}
-
 // Every command of a push has this outcome.
 fn refuse_all(alloc: Global, commands: &CommandList, outcome: &Outcome) -> Result<Settled, NoMemory>
     ensures outcomes { IfOk result (λ d. d.outcomes ≡ map (λ c. outcome.now) commands.now) }
-    ensures next { IfOk result (λ d. d.next ≡ None) }
-    ensures same { IfOk result (λ d. d.same ≡ None) }
+    ensures left { IfOk result (λ d. d.left ≡ left.Same None) }
 {
     Ok(Settled {
         outcomes: alike(alloc, commands, outcome)?,
-        next: None,
-        same: None,
+        left: Left::Same(None),
     })
 }
 
@@ -118,31 +85,69 @@ fn settle_with(
     alloc: Global,
     now: &HostedRepo,
     judged: &[Option<Outcome>],
-    prepared: PreparedPack,
+    basis: Basis,
     fresh: FreshObjects,
-    commands: &CommandList,
-    atomic: bool,
-    same: bool,
-    unchanged: bool,
+    request: &PushRequest,
 ) -> Result<Settled, NoMemory>
-    requires alike { length judged.now ≡ length commands.now }
-    requires few { length commands.now ≤ 10000 }
-    requires fit { FitCommands commands.now judged.now }
+    requires alike { length judged.now ≡ length request.now.commands }
+    requires few { length request.now.commands ≤ 10000 }
+    requires fit { FitCommands request.now.commands judged.now }
     requires names { HasNamesOnce (now.now.objects ++ fresh.objects) }
     requires room { length now.now.objects + length fresh.objects ≤ 4294967295 }
     requires ready { IfSome fresh.before (λ before. before ≡ now.now.objects) }
-    requires among { Extends prepared.objects (now.now.objects ++ fresh.objects) }
-    requires grew { Begins prepared.before now.now.objects }
-    requires unchanged { unchanged ≡ true → prepared.objects ≡ now.now.objects }
-    ensures outcomes { IfOk result (λ d. d.outcomes ≡ together atomic (in_order now.now.refs commands.now judged.now)) }
-    ensures next { IfOk result (λ d. d.next ≡ repository_left_with now.now (now.now.objects ++ fresh.objects) commands.now d.outcomes) }
-    ensures same { IfOk result (λ d. IfSome d.same (λ same. same ≡ now.now)) }
+    requires behind { basis.prepared.objects ≡ basis.prepared.before ++ request.now.pack }
+    requires stands { StandsOn now.now.objects basis }
+    requires left { AreLeft now.now.objects basis (now.now.objects ++ fresh.objects) }
+    ensures outcomes { IfOk result (λ d. d.outcomes ≡ together request.now.atomic (in_order now.now.refs request.now.commands judged.now)) }
+    ensures next { IfOk result (λ d. changed_to d.left ≡ repository_left_with now.now (now.now.objects ++ fresh.objects) request.now.commands d.outcomes) }
+    ensures same { IfOk result (λ d. IfSome (same_in d.left) (λ same. same ≡ now.now)) }
 {
-    let ran = run_all(alloc, now, judged, commands, atomic)?;
+    let ran = run_all(alloc, now, judged, &request.commands, request.atomic)?;
     if any_done(&ran.outcomes) {
-        return settle_done(alloc, now, ran.outcomes, ran.repo, fresh, prepared, same);
+        return settle_done(alloc, now, ran.outcomes, ran.repo, fresh, basis);
     }
-    settle_undone(alloc, now, ran.outcomes, prepared, unchanged)
+    settle_undone(alloc, now, ran.outcomes, basis, &request.pack)
+}
+
+// A push of which a command is done leaves this repository, with the fresh objects added.
+fn settle_done(
+    alloc: Global,
+    now: &HostedRepo,
+    outcomes: OutcomeList,
+    repo: Repo,
+    fresh: FreshObjects,
+    basis: Basis,
+) -> Result<Settled, NoMemory>
+    requires objects { repo.objects ≡ now.now.objects }
+    requires names { HasNamesOnce (now.now.objects ++ fresh.objects) }
+    requires room { length now.now.objects + length fresh.objects ≤ 4294967295 }
+    requires ready { IfSome fresh.before (λ before. before ≡ now.now.objects) }
+    requires stands { StandsOn now.now.objects basis }
+    requires left { AreLeft now.now.objects basis (now.now.objects ++ fresh.objects) }
+    ensures outcomes { IfOk result (λ d. d.outcomes ≡ outcomes) }
+    ensures next { IfOk result (λ d. changed_to d.left ≡ Some (record { objects = now.now.objects ++ fresh.objects; refs = repo.refs; creator = now.now.creator; roles = now.now.roles })) }
+    ensures same { IfOk result (λ d. same_in d.left ≡ None) }
+{
+    let left = Left::Changed(land(alloc, now, repo, fresh, basis)?);
+    Ok(Settled { outcomes, left })
+}
+
+// A push of which no command is done leaves the repository as it is.
+fn settle_undone(
+    alloc: Global,
+    now: &HostedRepo,
+    outcomes: OutcomeList,
+    basis: Basis,
+    pack: &ObjectList,
+) -> Result<Settled, NoMemory>
+    requires behind { basis.prepared.objects ≡ basis.prepared.before ++ pack.now }
+    requires stands { StandsOn now.now.objects basis }
+    ensures outcomes { IfOk result (λ d. d.outcomes ≡ outcomes) }
+    ensures next { IfOk result (λ d. changed_to d.left ≡ None) }
+    ensures same { IfOk result (λ d. IfSome (same_in d.left) (λ same. same ≡ now.now)) }
+{
+    let left = Left::Same(remember(alloc, now, basis, pack)?);
+    Ok(Settled { outcomes, left })
 }
 
 // The outcomes of the commands of a push, and the repository with the refs that those leave which are done.
@@ -172,72 +177,47 @@ fn run_all(
     Ok(Ran { outcomes, repo })
 }
 
-// A push of which a command is done leaves this repository, with the fresh objects added.
-fn settle_done(
-    alloc: Global,
-    now: &HostedRepo,
-    outcomes: OutcomeList,
-    repo: Repo,
-    fresh: FreshObjects,
-    prepared: PreparedPack,
-    same: bool,
-) -> Result<Settled, NoMemory>
-    requires objects { repo.objects ≡ now.now.objects }
-    requires names { HasNamesOnce (now.now.objects ++ fresh.objects) }
-    requires room { length now.now.objects + length fresh.objects ≤ 4294967295 }
-    requires ready { IfSome fresh.before (λ before. before ≡ now.now.objects) }
-    requires among { Extends prepared.objects (now.now.objects ++ fresh.objects) }
-    requires grew { Begins prepared.before now.now.objects }
-    ensures outcomes { IfOk result (λ d. d.outcomes ≡ outcomes) }
-    ensures next { IfOk result (λ d. d.next ≡ Some (record { objects = now.now.objects ++ fresh.objects; refs = repo.refs; creator = now.now.creator; roles = now.now.roles })) }
-    ensures same { IfOk result (λ d. d.same ≡ None) }
-{
-    let next = Some(land(alloc, now, repo, fresh, prepared, same)?);
-    Ok(Settled {
-        outcomes,
-        next,
-        same: None,
-    })
-}
-
-// A push of which no command is done leaves the repository as it is.
-fn settle_undone(
-    alloc: Global,
-    now: &HostedRepo,
-    outcomes: OutcomeList,
-    prepared: PreparedPack,
-    unchanged: bool,
-) -> Result<Settled, NoMemory>
-    requires { unchanged ≡ true → prepared.objects ≡ now.now.objects }
-    ensures outcomes { IfOk result (λ d. d.outcomes ≡ outcomes) }
-    ensures next { IfOk result (λ d. d.next ≡ None) }
-    ensures same { IfOk result (λ d. IfSome d.same (λ same. same ≡ now.now)) }
-{
-    let next = None;
-    let same = remember(alloc, now, prepared, unchanged)?;
-    Ok(Settled {
-        outcomes,
-        next,
-        same,
-    })
-}
-
-// The repository as it is, with what a push found out that was judged by its objects alone.
+// The repository as it is, with what a push found out that was judged by its objects alone: it brings none,
+// and none came since.
 fn remember(
     alloc: Global,
     now: &HostedRepo,
-    prepared: PreparedPack,
-    unchanged: bool,
+    basis: Basis,
+    pack: &ObjectList,
 ) -> Result<Option<HostedRepo>, NoMemory>
-    requires { unchanged ≡ true → prepared.objects ≡ now.now.objects }
+    requires behind { basis.prepared.objects ≡ basis.prepared.before ++ pack.now }
+    requires stands { StandsOn now.now.objects basis }
     ensures { IfOk result (λ same. IfSome same (λ same. same ≡ now.now)) }
 {
-    if !unchanged {
+    match basis.standing {
+        Standing::Unmoved => with_known(alloc, now, basis.prepared, pack),
+        Standing::Moved => Ok(None),
+    }
+}
+
+// The same, where none came since.
+fn with_known(
+    alloc: Global,
+    now: &HostedRepo,
+    prepared: PreparedPack,
+    pack: &ObjectList,
+) -> Result<Option<HostedRepo>, NoMemory>
+    requires behind { prepared.objects ≡ prepared.before ++ pack.now }
+    requires same { prepared.before ≡ now.now.objects }
+    ensures { IfOk result (λ same. IfSome same (λ same. same ≡ now.now)) }
+{
+    if !brings_none(pack) {
         return Ok(None);
     }
     let repo = now.repo().copy()?;
     let closures = now.closures().clone()?;
     Ok(Some(now.with_repo(alloc, repo, prepared.into_known(), closures)?))
+}
+
+fn brings_none(pack: &ObjectList) -> bool
+    ensures { result ≡ true → pack.now ≡ [] }
+{
+    pack.is_empty()
 }
 
 // The commands in order, over the refs as the earlier ones left them.
@@ -347,51 +327,20 @@ fn land(
     now: &HostedRepo,
     mut repo: Repo,
     fresh: FreshObjects,
-    prepared: PreparedPack,
-    same: bool,
+    basis: Basis,
 ) -> Result<HostedRepo, NoMemory>
     requires objects { repo.objects ≡ now.now.objects }
     requires names { HasNamesOnce (now.now.objects ++ fresh.objects) }
     requires room { length now.now.objects + length fresh.objects ≤ 4294967295 }
     requires ready { IfSome fresh.before (λ before. before ≡ now.now.objects) }
-    requires among { Extends prepared.objects (now.now.objects ++ fresh.objects) }
-    requires grew { Begins prepared.before now.now.objects }
+    requires stands { StandsOn now.now.objects basis }
+    requires left { AreLeft now.now.objects basis (now.now.objects ++ fresh.objects) }
     ensures { IfOk result (λ next. next ≡ record { objects = now.now.objects ++ fresh.objects; refs = repo.refs; creator = now.now.creator; roles = now.now.roles }) }
 {
     repo.add(fresh)?;
-    let closures = closures_with(alloc, now, &prepared, repo.count())?;
-    let known = known_with(alloc, now, prepared, same)?;
+    let closures = basis.closures_with(alloc, now, repo.count())?;
+    let known = basis.known_with(alloc, now)?;
     now.with_repo(alloc, repo, known, closures)
-}
-
-// What some objects lead to, the old values of the refs that the push moves among them, where there are so
-// many objects.
-fn closures_with(
-    alloc: Global,
-    now: &HostedRepo,
-    prepared: &PreparedPack,
-    count: usize,
-) -> Result<Closures, NoMemory>
-    ensures { (more : List Content) → Begins now.now.objects more → Begins prepared.now.before more → IfOk result (AreClosures more) }
-{
-    now.closures().with(alloc, prepared.closures(), count)
-}
-
-// What is known once the fresh objects are added: as it was joined when the push was judged, where no objects came since, and else what is known now with
-// what was found out then beside it. Nothing is joined here.
-fn known_with(
-    alloc: Global,
-    now: &HostedRepo,
-    prepared: PreparedPack,
-    same: bool,
-) -> Result<Known, NoMemory>
-    ensures { (more : List Content) → Extends now.now.objects more → Extends prepared.objects more → IfOk result (AreKnown more) }
-{
-    if same {
-        let known = prepared.into_known();
-        return known.grown(alloc);
-    }
-    now.known().grown_with(alloc, prepared.findings())
 }
 
 fn any_done(outcomes: &OutcomeList) -> bool

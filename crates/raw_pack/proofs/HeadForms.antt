@@ -4,7 +4,8 @@ use Rattle.std.proofs.lemmas.Bool.{cases_lt, lt-ltb, le-ltb}
 use Rattle.git_object.specs.declared.kind.Kind.{Kind}
 use Rattle.raw_pack.specs.Grammar.{kind_bits, spelled_head}
 
--- These bytes spell this number, seven bits a byte, the lowest first; all but the last have bit 7, and the last isn't 0.
+-- These bytes spell this number, seven bits a byte, the lowest first; all but the last have bit 7, and the
+-- last isn't 0.
 abbrev pub SpellsSize : List ℕ → ℕ → Type 0
 SpellsSize [] n = ⊥
 SpellsSize (last ∷ []) n = (last ≡ n) × (0 < n) × (n < 128)

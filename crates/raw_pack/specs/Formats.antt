@@ -1,4 +1,5 @@
--- Formats of bytes that are decided as the bytes come: at each place either a value or a fault stands, or so many bytes are wanted.
+-- Formats of bytes that are decided as the bytes come: at each place either a value or a fault stands, or so
+-- many bytes are wanted.
 use Rattle.std.specs.Prelude.{ℕ, ◌+◌, nat_lt, if◌then◌else◌, List, length, take, drop}
 use Rattle.base_types.specs.Fronts.{Front, Whole, Broken, Partial}
 

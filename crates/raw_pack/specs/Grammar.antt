@@ -22,7 +22,8 @@ kind_bits Tag = 4
 abbrev pub kind_and_low : Kind → ℕ → ℕ
 kind_and_low kind size = 16 * kind_bits kind + size % 16
 
--- The head of a kind and a size, as short as it can be: each byte behind the first has seven bits more of the size, the lowest first, and bit 7 of a byte says that another follows.
+-- The head of a kind and a size, as short as it can be: each byte behind the first has seven bits more of the
+-- size, the lowest first, and bit 7 of a byte says that another follows.
 unfoldable pub spelled_head : Kind → ℕ → List ℕ
 spelled_head kind size =
     if nat_lt size 16 then kind_and_low kind size ∷ []

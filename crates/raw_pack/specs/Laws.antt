@@ -18,12 +18,14 @@ pub record BeginsWith (bytes : List ℕ) (n : ℕ) (contents : List Content) : T
   pub limits : FitOnePack contents
 
 pub record PackLaws : Type 0 where
-  -- A pack stands whole at the front of an input exactly where the input begins with a pack by the grammar, within the limits.
+  -- A pack stands whole at the front of an input exactly where the input begins with a pack by the grammar,
+  -- within the limits.
   pub grammar : (bytes : List ℕ) (n : ℕ) (contents : List Content) → AreBytes bytes → (pack_front bytes ≡ Whole n contents) ↔ BeginsWith bytes n contents
   -- What is known of a beginning stays so, whatever follows it.
   pub whole_stays : (bytes more : List ℕ) (n : ℕ) (contents : List Content) → pack_front bytes ≡ Whole n contents → pack_front (bytes ++ more) ≡ Whole n contents
   pub broken_stays : (bytes more : List ℕ) (n : ℕ) (fault : PackFault) → pack_front bytes ≡ Broken n fault → pack_front (bytes ++ more) ≡ Broken n fault
   -- What is written is read as these objects, whatever follows it.
   pub written_is_read : (contents : List Content) (more : List ℕ) → ArePackable contents → FitOnePack contents → pack_front (spelled_pack contents ++ more) ≡ Whole (length (spelled_pack contents)) contents
-  -- No pack begins another, and no bytes are the packs of two lists of objects. This holds of the grammar, beyond a reader's limits too.
+  -- No pack begins another, and no bytes are the packs of two lists of objects. This holds of the grammar,
+  -- beyond a reader's limits too.
   pub begins_no_other : (bytes more : List ℕ) (one other : List Content) → IsPack bytes one → IsPack (bytes ++ more) other → (more ≡ []) × (one ≡ other)

@@ -1,5 +1,5 @@
--- Raw packs, and the first fault in the order of the bytes: Git's pack-format, version 2, with each body as it is where that
--- format has a zlib stream, and without deltas.
+-- Raw packs, and the first fault in the order of the bytes: Git's pack-format, version 2, with each body as
+-- it is where that format has a zlib stream, and without deltas.
 use Rattle.std.specs.Prelude.{ℕ, zero, suc, ◌+◌, ◌*◌, ◌/◌, ◌%◌, ◌==◌, nat_lt, ◌||◌, if◌then◌else◌, List, [], ◌∷◌, ◌++◌, length, take, drop, Option, None, Some, codes, slice_index, Bool}
 use Rattle.std.specs.Int.{w32, from_be_bytes}
 use Rattle.std.specs.Str.{bytes_eq}
@@ -59,7 +59,8 @@ byte entry = do
   one ← bytes 1 (Truncated entry)
   gives (slice_index one 0)
 
--- whether a body of this size is longer than a pack has, or, behind bodies of so many bytes, more than the reader takes
+-- whether a body of this size is longer than a pack has, or, behind bodies of so many bytes, more than the
+-- reader takes
 abbrev pub is_too_large : ℕ → ℕ → Bool
 is_too_large sum size = nat_lt largest_body size || nat_lt largest_sum (sum + size)
 
@@ -67,8 +68,8 @@ is_too_large sum size = nat_lt largest_body size || nat_lt largest_sum (sum + si
 abbrev pub sized : ℕ → ℕ → Kind → ℕ → Format Head PackFault
 sized entry sum kind size = if is_too_large sum size then fails (TooLarge entry) else gives (record { kind = kind; size = size })
 
--- The bytes of a head behind its first: seven bits each, the lowest first, and a set bit 7 where another follows, at most so many.
--- The size so far, and what the next byte is worth.
+-- The bytes of a head behind its first: seven bits each, the lowest first, and a set bit 7 where another
+-- follows, at most so many. The size so far, and what the next byte is worth.
 unfoldable pub more_size : ℕ → ℕ → ℕ → Kind → ℕ → ℕ → Format Head PackFault
 more_size zero entry sum kind size unit = fails (TooLarge entry)
 more_size (suc left) entry sum kind size unit = do
@@ -86,7 +87,8 @@ kind_of_bits bits =
     else if bits == 4 then Some Tag
     else None
 
--- A head's first byte: bit 7 where another byte follows, three bits of kind, and the four lowest bits of the size.
+-- A head's first byte: bit 7 where another byte follows, three bits of kind, and the four lowest bits of the
+-- size.
 abbrev pub head_by_kind : ℕ → ℕ → ℕ → Option Kind → Format Head PackFault
 head_by_kind entry sum first None = if nat_lt 5 (first / 16 % 8) then fails (Delta entry) else fails (BadHead entry)
 head_by_kind entry sum first (Some kind) =

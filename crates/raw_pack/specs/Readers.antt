@@ -58,7 +58,8 @@ abbrev pub Begins : LinkState → LinkState → Result ReaderState PackFault →
 Begins old new (Ok reader) = Stands old new reader []
 Begins old new (Err fault) = ReadsFront pack_front old new (Err fault)
 
--- What stands at the front of the source as it was at the beginning: one object more, or the whole pack, or a fault.
+-- What stands at the front of the source as it was at the beginning: one object more, or the whole pack, or a
+-- fault.
 abbrev pub Advances : LinkState → LinkState → ReaderState → List Content → Result (Option Content) PackFault → Type 0
 Advances start now reader contents (Ok (Some content)) = Stands start now reader (contents ++ content ∷ [])
 Advances start now reader contents (Ok None) = ReadsFront pack_front start now (Ok contents) × (reader.end ≡ Some (Ok tt))
@@ -72,7 +73,8 @@ GoesOn old new before after answer = (start : LinkState) (contents : List Conten
 unfoldable pub Repeats : {S : Type 0} → S → S → ReaderState → ReaderState → Result (Option Content) PackFault → Type 0
 Repeats old new before after answer = (end : Result (Unit {0}) PackFault) → before.end ≡ Some end → (answer ≡ end_answer end) × (new ≡ old) × (after ≡ before)
 
--- A failed read is told only where one failed in this call and the source may fail, or by a reader that ended with one.
+-- A failed read is told only where one failed in this call and the source may fail, or by a reader that ended
+-- with one.
 abbrev pub HasCause : {V : Type 0} → LinkState → LinkState → ReaderState → Result V PackFault → Type 0
 HasCause old new before (Err ReadFault) = (HasRisen old.read_faults new.read_faults × IsTrue old.may_fail) ⊎ (before.end ≡ Some (Err ReadFault))
 HasCause old new before answer = ⊤

@@ -15,7 +15,8 @@ use Rattle.git_object.specs.declared.fault.ObjFault.{ObjFault}
 abbrev pub IsPartial : {V : Type 0} → Front V PackFault → Type 0
 IsPartial at = (fault : PackFault) × (at ≡ Partial fault)
 
--- This fault stands at the front of what was taken, and what was taken shows it; or the input ended before more was known.
+-- This fault stands at the front of what was taken, and what was taken shows it; or the input ended before
+-- more was known.
 abbrev pub ShowsFault : {V : Type 0} → Front V PackFault → ℕ → LinkState → PackFault → Type 0
 ShowsFault at taken new fault = (at ≡ Broken taken fault) ⊎ ((at ≡ Partial fault) × IsAtEnd new.left)
 
@@ -25,7 +26,8 @@ IsNoMore (Whole n v) taken = taken ≤ n
 IsNoMore (Broken n fault) taken = taken ≤ n
 IsNoMore (Partial fault) taken = ⊤
 
--- What was taken decides the answer. Where memory lacks, no more was taken than decides what stands at the front.
+-- What was taken decides the answer. Where memory lacks, no more was taken than decides what stands at the
+-- front.
 abbrev pub DecidesFault : {V : Type 0} → Front V PackFault → ℕ → LinkState → LinkState → PackFault → Type 0
 DecidesFault at taken old new ReadFault = IsPartial at × HasRisen old.read_faults new.read_faults × IsTrue old.may_fail
 DecidesFault at taken old new NoMemory = IsNoMore at taken

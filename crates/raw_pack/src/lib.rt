@@ -8,8 +8,8 @@
 //! - `writing`: the pack of a repository's objects, written to a sink;
 //! - `laws`: what holds of the format itself.
 //!
-//! `specs/Formats.antt` and `specs/Packs.antt` say what stands at the front of an input, `specs/Grammar.antt` which bytes
-//! the pack of a list of objects has; `docs/PACKS.md` tells the rules.
+//! `specs/Formats.antt` and `specs/Packs.antt` say what stands at the front of an input, `specs/Grammar.antt`
+//! which bytes the pack of a list of objects has; `docs/PACKS.md` tells the rules.
 #![tactic(auto)]
 
 mod entry;

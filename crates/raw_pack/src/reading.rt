@@ -97,7 +97,8 @@ pub fn read_trailer<S: Source>(
     Err(PackFault::TrailerDiffers { read, computed })
 }
 
-/// The objects of the pack that stands at the front of the source, in order. Nothing behind the trailer is taken.
+/// The objects of the pack that stands at the front of the source, in order. Nothing behind the trailer is
+/// taken.
 pub fn read_pack<S: Source>(alloc: Global, source: &mut S) -> Result<ObjectList, PackFault>
     ensures reads { ReadsFront pack_front (S.state source.old) (S.state source.new) result }
     ensures fit { IfOk result FitOnePack }

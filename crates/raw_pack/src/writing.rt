@@ -11,8 +11,9 @@ use pktline_core::{Sink, WriteFault, write_all};
 use ref_store::Repo;
 use sha1::Sha1;
 
-/// Writes the pack of a repository's objects at these places, in this order. It takes no memory itself, and copies no
-/// body: each goes to the sink as it is. Where a write fails, a proper beginning of the pack was written.
+/// Writes the pack of a repository's objects at these places, in this order. It takes no memory itself, and
+/// copies no body: each goes to the sink as it is. Where a write fails, a proper beginning of the pack was
+/// written.
 pub fn write_pack<S: Sink>(sink: &mut S, repo: &Repo, places: &[u32]) -> Result<(), WriteFault>
     requires within { All (λ place. place < length repo.now.objects) places.now }
     requires few { length places.now < 4294967296 }

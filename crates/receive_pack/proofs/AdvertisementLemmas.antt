@@ -9,7 +9,8 @@ use Rattle.ref_store.specs.Refs.{Name, Refs, zero_id}
 use Rattle.session_core.specs.Packets.{packet}
 use Rattle.receive_pack.specs.Texts.{advertisement, advertised, advertised_lines, first_line, more_line}
 
--- what is still to be written of an advertisement, with these refs left: the first line bears the capabilities
+-- what is still to be written of an advertisement, with these refs left: the first line bears the
+-- capabilities
 pub rest_text : Bool → List (Name × ObjectId) → List ℕ
 rest_text true refs = flat_map packet (advertised_lines (advertised refs)) ++ spelling Flush
 rest_text false refs = flat_map packet (map more_line refs) ++ spelling Flush

@@ -90,7 +90,7 @@ order_commanded book opening offset (packets.Line payload) behind =
     let first : Option Command = first_command line in
     order_then false (or_malformed offset first) _ ReadLast _ (order_or_malformed offset first) (λ w c last. rw last (order_push book opening (first_capabilities line) c behind))
 
-order_commanding : (book : Rulebook) (wrote : Bool) (opening : Opening) (offset : ℕ) → EntriesFirst wrote (commanding book opening offset) (λ w a. ⊤)
+pub order_commanding : (book : Rulebook) (wrote : Bool) (opening : Opening) (offset : ℕ) → EntriesFirst wrote (commanding book opening offset) (λ w a. ⊤)
 unfolding commanding ReadLast
 order_commanding book wrote opening offset = order_then wrote (next_packet offset) _ ReadLast _ (order_next wrote offset) (λ w next last. rw last (order_commanded book opening offset next.0 next.1))
 

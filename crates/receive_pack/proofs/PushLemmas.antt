@@ -28,8 +28,9 @@ use Rattle.receive_pack.specs.declared.reports.ReportedPush.{ReportedPush}
 use Rattle.receive_pack.specs.Texts.{report}
 use Rattle.receive_pack.specs.Receiving.{pushing, recorded_outcomes, reported, reported_push}
 
--- The report may be of a copy of what is pushed. It tells the denials by the rules of the pin's conf, which are those that were in force at the opening, and
--- the later ones by those of the conf that the answer has, which are those just before the push.
+-- The report may be of a copy of what is pushed. It tells the denials by the rules of the pin's conf, which
+-- are those that were in force at the opening, and the later ones by those of the conf that the answer has,
+-- which are those just before the push.
 pub pushed_then : OneAnswer → PinsAreOfOpenings → (a c : LinkState) (d e : DeskView) (pin : Opening) (caps : Capabilities) (pack : List Content) (commands : List Command) (told : ReportedPush) (outcomes : List Outcome) (made : List Name) (conf : Conf) (rules later : Flat)
     (out : Result (Unit {0}) (Halt SessionEnd)) → Stands pin d.admin d.seen → ((patterns : Patterns) → AreTrue patterns → AreInForce patterns pin.pinned.conf rules) → ((patterns : Patterns) → AreTrue patterns → AreInForce patterns conf later) → told ≡ reported_push pin commands
     → Pushes d e pin pack commands caps.atomic (Settled outcomes made conf) → Runs a c e e (write (reported caps (report rules.rules later.rules told outcomes))) out → RunsByRulebook a c d e (λ book. pushing book pin caps commands pack) out

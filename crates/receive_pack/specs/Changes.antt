@@ -1,5 +1,5 @@
--- The commands of a push, as Git's pack-protocol has them under "Reference Update Request": `OLD NEW REF`, and behind the first one a zero byte and
--- words for what the client can do and asks for.
+-- The commands of a push, as Git's pack-protocol has them under "Reference Update Request": `OLD NEW REF`,
+-- and behind the first one a zero byte and words for what the client can do and asks for.
 use Rattle.std.specs.Prelude.{ℕ, ◌≤◌, nat_le, length, Bool, not, ◌&&◌, ◌==◌, List, [], Option, Some, codes}
 use Rattle.std.specs.Option.{option_map, unwrap_or}
 use Rattle.std.specs.List.{list_all, list_any, slice_split, AllByRecursion}

@@ -1,3 +1,4 @@
 pub mod Changes
 pub mod Texts
 pub mod Receiving
+pub mod Laws

@@ -114,7 +114,8 @@ recorded_outcomes (Looked user) = []
 abbrev pub reported_push : Opening → List Command → ReportedPush
 reported_push opening commands = record { user = opening.pinned.user; repo = opening.pinned.repo; commands = commands }
 
--- the push, and the report of the outcomes that its entry records, by the rules that were in force at the opening, and by those just before the entry
+-- the push, and the report of the outcomes that its entry records, by the rules that were in force at the
+-- opening, and by those just before the entry
 unfoldable pub pushing : Rulebook → Opening → Capabilities → List Command → List Content → Interaction SessionEnd (Unit {0})
 pushing book opening capabilities commands pack = do
   own ← ask (Push opening.place pack commands capabilities.atomic)
@@ -129,7 +130,8 @@ taking_push book opening capabilities first offset = do
 
 -- IV. The whole of it
 
--- the packet behind the advertisement, at this offset, and the offset behind it: a flush in place of commands ends the session
+-- the packet behind the advertisement, at this offset, and the offset behind it: a flush in place of commands
+-- ends the session
 abbrev pub commanded : Rulebook → Opening → ℕ → packets.Packet → ℕ → Interaction SessionEnd (Unit {0})
 commanded book opening offset packets.Flush behind = gives tt
 commanded book opening offset (packets.Line payload) behind = do
@@ -146,3 +148,7 @@ unfoldable pub receiving : Rulebook → Opening → ℕ → Interaction SessionE
 receiving book opening offset = do
   advertised ← write (advertisement opening.pinned.repository.refs)
   commanding book opening offset
+
+-- a push that is done ends its session so
+abbrev pub pushed_end : Unit {0} → SessionEnd
+pushed_end done = end.Served

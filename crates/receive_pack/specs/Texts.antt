@@ -53,7 +53,8 @@ advertisement refs = flat_map packet (advertised_lines (advertised (entries refs
 abbrev pub ref_at : List Command → ℕ → List ℕ
 ref_at commands place = option_map_or (λ (c : Command). c.name) (slice_get commands place) []
 
--- why a command isn't done, by the rules that were in force at the push's opening, and by those just before it
+-- why a command isn't done, by the rules that were in force at the push's opening, and by those just before
+-- it
 abbrev pub reason : List Rule → List Rule → ReportedPush → Outcome → List ℕ
 reason rules later push Done = []
 reason rules later push BadName = codes "bad ref name"

@@ -4,8 +4,9 @@ ghost use Rattle.pktline_core.specs.Reading.{packet_of};
 ghost use Rattle.hub.specs.Desk.{DeskView};
 ghost use Rattle.hub_history.specs.Push.{AreWithinLimits};
 ghost use Rattle.interaction_tree.specs.Runs.{Runs};
-ghost use Rattle.session_core.specs.End.{TellsLink, outcome_at, outcome_of};
+ghost use Rattle.session_core.specs.End.{TellsLink, outcome_of};
 ghost use Rattle.session_core.specs.Packets.{or_malformed};
+ghost use Rattle.session_core.specs.Parts.{RunsLink, RunsLinkAt};
 ghost use Rattle.session_core.specs.Readers.{IsReady};
 ghost use Rattle.receive_pack.specs.Changes.{HasShortName, change, first_command};
 ghost use Rattle.receive_pack.specs.Receiving.{further_in, no_commands, no_more, taking_commands, taking_further};
@@ -29,7 +30,7 @@ pub fn first_in<L: Link>(
     offset: u64,
     line: &[u8],
 ) -> Result<Command, SessionEnd>
-    ensures runs { (desk : DeskView) → Runs (L.state link.old) (L.state link.new) desk desk (or_malformed offset (first_command line.now)) (outcome_of result) }
+    ensures runs { RunsLink (L.state link.old) (L.state link.new) (or_malformed offset (first_command line.now)) result }
     ensures tells { TellsLink (L.state link.old) (L.state link.new) result }
     ensures same { OnOk result (L.state link.new ≡ L.state link.old) }
     ensures short { IfOk result HasShortName }
@@ -48,7 +49,7 @@ fn change_in<L: Link>(
     offset: u64,
     line: &[u8],
 ) -> Result<Command, SessionEnd>
-    ensures runs { (desk : DeskView) → Runs (L.state link.old) (L.state link.new) desk desk (or_malformed offset (change line.now)) (outcome_of result) }
+    ensures runs { RunsLink (L.state link.old) (L.state link.new) (or_malformed offset (change line.now)) result }
     ensures tells { TellsLink (L.state link.old) (L.state link.new) result }
     ensures same { OnOk result (L.state link.new ≡ L.state link.old) }
     ensures short { IfOk result HasShortName }
@@ -67,7 +68,7 @@ fn further_in<L: Link>(
     offset: u64,
     packet: Pkt<'_>,
 ) -> Result<Option<Command>, SessionEnd>
-    ensures runs { (desk : DeskView) → Runs (L.state link.old) (L.state link.new) desk desk (further_in offset (packet_of packet.entry)) (outcome_of result) }
+    ensures runs { RunsLink (L.state link.old) (L.state link.new) (further_in offset (packet_of packet.entry)) result }
     ensures tells { TellsLink (L.state link.old) (L.state link.new) result }
     ensures same { OnOk result (L.state link.new ≡ L.state link.old) }
     ensures short { IfOk result (λ o. IfSome o HasShortName) }
@@ -88,7 +89,7 @@ fn take_further<L: Link>(
     reader: &mut PktReader,
 ) -> Result<Option<Command>, SessionEnd>
     requires ready { IsReady reader.old (L.state link.old) }
-    ensures runs { (desk : DeskView) → Runs (L.state link.old) (L.state link.new) desk desk (taking_further reader.old.offset) (outcome_at result reader.new.offset) }
+    ensures runs { RunsLinkAt (L.state link.old) (L.state link.new) (taking_further reader.old.offset) result reader.new.offset }
     ensures tells { TellsLink (L.state link.old) (L.state link.new) result }
     ensures ready { OnOk result (IsReady reader.new (L.state link.new)) }
     ensures short { IfOk result (λ o. IfSome o HasShortName) }
@@ -124,7 +125,7 @@ pub fn take_commands<L: Link>(
 ) -> Result<CommandList, SessionEnd>
     requires ready { IsReady reader.old (L.state link.old) }
     requires short { HasShortName first }
-    ensures runs { (desk : DeskView) → Runs (L.state link.old) (L.state link.new) desk desk (taking_commands first reader.old.offset) (outcome_of result) }
+    ensures runs { RunsLink (L.state link.old) (L.state link.new) (taking_commands first reader.old.offset) result }
     ensures tells { TellsLink (L.state link.old) (L.state link.new) result }
     ensures within { IfOk result AreWithinLimits }
 {

@@ -7,16 +7,19 @@ ghost use Rattle.hub_history.specs.State.{HasShortNames};
 ghost use Rattle.hub_history.specs.History.{Stands};
 ghost use Rattle.git_object.specs.Object.{FitOnePack};
 ghost use Rattle.hub_history.specs.Push.{AreWithinLimits};
-ghost use Rattle.hub.specs.Desk.{DeskView};
 ghost use Rattle.interaction_tree.specs.Interaction.{write};
-ghost use Rattle.interaction_tree.specs.Runs.{Runs};
-ghost use Rattle.session_core.specs.End.{TellsLink, outcome_of};
+ghost use Rattle.interaction_tree.specs.Endings.{TakesTurn};
+ghost use Rattle.interaction_tree.specs.Growth.{own_since};
+ghost use Rattle.session_core.specs.End.{TellsLink, halt_of, outcome_of};
+ghost use Rattle.session_core.specs.Gate.{LetsIn};
+ghost use Rattle.session_core.specs.Opening.{StandsSomewhere};
 ghost use Rattle.session_core.specs.Packets.{packet};
+ghost use Rattle.session_core.specs.Parts.{RunsLink, end_of, ending_so};
 ghost use Rattle.session_core.specs.Readers.{IsReady};
-ghost use Rattle.session_core.specs.Rulebook.{RunsByRulebook};
+ghost use Rattle.session_core.specs.Rulebook.{ByRulebook, RunsByRulebook};
 ghost use Rattle.receive_pack.specs.Changes.{HasShortName, HaveShortNames};
 ghost use Rattle.receive_pack.specs.Texts.{advertisement, first_line, more_line};
-ghost use Rattle.receive_pack.specs.Receiving.{commanding, pushing, reading_pack, receiving, reported_push, taking_pack, taking_push};
+ghost use Rattle.receive_pack.specs.Receiving.{commanding, pushing, reading_pack, pushed_end, receiving, reported_push, taking_pack, taking_push};
 
 use crate::changes::{Capabilities, all_delete, first_capabilities};
 use crate::commands::{first_in, take_commands};
@@ -40,7 +43,7 @@ fn take_pack<L: Link>(
     commands: &CommandList,
 ) -> Result<ObjectList, SessionEnd>
     requires short { HaveShortNames commands.now }
-    ensures runs { (desk : DeskView) → Runs (L.state link.old) (L.state link.new) desk desk (taking_pack capabilities commands.now) (outcome_of result) }
+    ensures runs { RunsLink (L.state link.old) (L.state link.new) (taking_pack capabilities commands.now) result }
     ensures fit { IfOk result FitOnePack }
     ensures tells { TellsLink (L.state link.old) (L.state link.new) result }
 {
@@ -57,7 +60,7 @@ fn take_whole_pack<L: Link>(
     commands: &CommandList,
 ) -> Result<ObjectList, SessionEnd>
     requires short { HaveShortNames commands.now }
-    ensures runs { (desk : DeskView) → Runs (L.state link.old) (L.state link.new) desk desk (reading_pack capabilities commands.now) (outcome_of result) }
+    ensures runs { RunsLink (L.state link.old) (L.state link.new) (reading_pack capabilities commands.now) result }
     ensures fit { IfOk result FitOnePack }
     ensures tells { TellsLink (L.state link.old) (L.state link.new) result }
 {
@@ -88,6 +91,7 @@ fn push<L: Link, K: Desk>(
     ensures runs { RunsByRulebook (L.state link.old) (L.state link.new) (K.view desk.old) (K.view desk.new) (λ book. pushing book pin capabilities commands pack) (outcome_of result) }
     ensures tells { TellsLink (L.state link.old) (L.state link.new) result }
     ensures goes { K.goes_on desk.old desk.new }
+    ensures lets_in { LetsIn (K.view desk.old) (K.view desk.new) [] }
 {
     // called for its clauses on what a pin is of, and that there is one list of rules in force
     hold_laws();
@@ -160,6 +164,7 @@ fn take_push<L: Link, K: Desk>(
     ensures runs { RunsByRulebook (L.state link.old) (L.state link.new) (K.view desk.old) (K.view desk.new) (λ book. taking_push book pin capabilities first reader.old.offset) (outcome_of result) }
     ensures tells { TellsLink (L.state link.old) (L.state link.new) result }
     ensures goes { K.goes_on desk.old desk.new }
+    ensures lets_in { LetsIn (K.view desk.old) (K.view desk.new) [] }
 {
     let commands = take_commands(alloc, link, reader, first)?;
     let pack = take_pack(alloc, link, capabilities, &commands)?;
@@ -180,6 +185,7 @@ pub fn receive_commands<L: Link, K: Desk>(
     ensures runs { RunsByRulebook (L.state link.old) (L.state link.new) (K.view desk.old) (K.view desk.new) (λ book. commanding book pin reader.old.offset) (outcome_of result) }
     ensures tells { TellsLink (L.state link.old) (L.state link.new) result }
     ensures goes { K.goes_on desk.old desk.new }
+    ensures lets_in { LetsIn (K.view desk.old) (K.view desk.new) [] }
 {
     let offset = reader.offset();
     match reader.next(link) {
@@ -205,10 +211,33 @@ pub fn receive<L: Link, K: Desk>(
     requires ready { IsReady reader.old (L.state link.old) }
     requires stands { Stands pin (K.view desk.old).admin (K.view desk.old).seen }
     requires write { pin.pinned.want ≡ Want.Write }
-    requires names { HasShortNames pin.pinned.repository.refs }
+    ensures runs { RunsByRulebook (L.state link.old) (L.state link.new) (K.view desk.old) (K.view desk.new) (λ book. receiving book pin reader.old.offset) (outcome_of result) }
+    ensures turn { ByRulebook (K.view desk.old).admin (K.view desk.new).seen (λ book. TakesTurn (L.state link.old) (L.state link.new) (own_since (K.view desk.old) (K.view desk.new)) (ending_so pushed_end (receiving book pin reader.old.offset)) (halt_of (end_of pushed_end result))) }
+    ensures tells { TellsLink (L.state link.old) (L.state link.new) result }
+    ensures goes { K.goes_on desk.old desk.new }
+    ensures lets_in { LetsIn (K.view desk.old) (K.view desk.new) [] }
+{
+    // called for its clause that what was seen is legal
+    desk.sound();
+    receive_both(alloc, link, desk, reader, pin)
+}
+
+// The two parts.
+fn receive_both<L: Link, K: Desk>(
+    alloc: Global,
+    link: &mut L,
+    desk: &mut K,
+    reader: &mut PktReader,
+    pin: Pin,
+) -> Result<(), SessionEnd>
+    requires ready { IsReady reader.old (L.state link.old) }
+    requires stands { Stands pin (K.view desk.old).admin (K.view desk.old).seen }
+    requires write { pin.pinned.want ≡ Want.Write }
+    requires somewhere { StandsSomewhere pin }
     ensures runs { RunsByRulebook (L.state link.old) (L.state link.new) (K.view desk.old) (K.view desk.new) (λ book. receiving book pin reader.old.offset) (outcome_of result) }
     ensures tells { TellsLink (L.state link.old) (L.state link.new) result }
     ensures goes { K.goes_on desk.old desk.new }
+    ensures lets_in { LetsIn (K.view desk.old) (K.view desk.new) [] }
 {
     advertise_receive(alloc, link, &pin)?;
     receive_commands(alloc, link, desk, reader, pin)
@@ -216,17 +245,19 @@ pub fn receive<L: Link, K: Desk>(
 
 /// The first part: the refs of the repository as it was at the opening, in the byte order of their names.
 pub fn advertise_receive<L: Link>(alloc: Global, link: &mut L, pin: &Pin) -> Result<(), SessionEnd>
-    requires names { HasShortNames pin.now.pinned.repository.refs }
-    ensures runs { (desk : DeskView) → Runs (L.state link.old) (L.state link.new) desk desk (write (advertisement pin.now.pinned.repository.refs)) (outcome_of result) }
+    requires stands { StandsSomewhere pin.now }
+    ensures runs { RunsLink (L.state link.old) (L.state link.new) (write (advertisement pin.now.pinned.repository.refs)) result }
     ensures tells { TellsLink (L.state link.old) (L.state link.new) result }
     ensures reading { KeepsReading (L.state link.old) (L.state link.new) }
 {
+    // called for its clause that the names of refs stay short
+    hold_laws();
     advertise(alloc, link, pin.repo())
 }
 
 fn advertise<L: Link>(alloc: Global, link: &mut L, repo: &Repo) -> Result<(), SessionEnd>
     requires names { HasShortNames repo.now.refs }
-    ensures runs { (desk : DeskView) → Runs (L.state link.old) (L.state link.new) desk desk (write (advertisement repo.now.refs)) (outcome_of result) }
+    ensures runs { RunsLink (L.state link.old) (L.state link.new) (write (advertisement repo.now.refs)) result }
     ensures tells { TellsLink (L.state link.old) (L.state link.new) result }
     ensures reading { KeepsReading (L.state link.old) (L.state link.new) }
 {
@@ -247,7 +278,7 @@ fn advertise_ref<L: Link>(
     first: bool,
 ) -> Result<(), SessionEnd>
     requires short { length name.now ≤ 1024 }
-    ensures runs { (desk : DeskView) → Runs (L.state link.old) (L.state link.new) desk desk (write (packet (if first then first_line (name.now, id) else more_line (name.now, id)))) (outcome_of result) }
+    ensures runs { RunsLink (L.state link.old) (L.state link.new) (write (packet (if first then first_line (name.now, id) else more_line (name.now, id)))) result }
     ensures tells { TellsLink (L.state link.old) (L.state link.new) result }
     ensures reading { KeepsReading (L.state link.old) (L.state link.new) }
 {
@@ -257,7 +288,7 @@ fn advertise_ref<L: Link>(
 
 // The line that bears the capabilities where there is no ref, and the flush.
 fn end_advertisement<L: Link>(alloc: Global, link: &mut L, none: bool) -> Result<(), SessionEnd>
-    ensures runs { (desk : DeskView) → Runs (L.state link.old) (L.state link.new) desk desk (write ((if none then packet (first_line (codes "capabilities^{}", zero_id)) else []) ++ spelling Flush)) (outcome_of result) }
+    ensures runs { RunsLink (L.state link.old) (L.state link.new) (write ((if none then packet (first_line (codes "capabilities^{}", zero_id)) else []) ++ spelling Flush)) result }
     ensures tells { TellsLink (L.state link.old) (L.state link.new) result }
     ensures reading { KeepsReading (L.state link.old) (L.state link.new) }
 {

@@ -2,11 +2,10 @@
 ghost use Rattle.std.specs.Prelude.{◌≡◌, map};
 ghost use Rattle.std.specs.List.{flat_map};
 ghost use Rattle.pktline_core.specs.Links.{KeepsReading};
-ghost use Rattle.hub.specs.Desk.{DeskView};
 ghost use Rattle.interaction_tree.specs.Interaction.{write};
-ghost use Rattle.interaction_tree.specs.Runs.{Runs};
-ghost use Rattle.session_core.specs.End.{TellsEnd, TellsLink, halt_of, outcome_of};
+ghost use Rattle.session_core.specs.End.{TellsEnd, TellsLink};
 ghost use Rattle.session_core.specs.Packets.{packet};
+ghost use Rattle.session_core.specs.Parts.{EndsLink, RunsLink};
 ghost use Rattle.receive_pack.specs.Changes.{HasShortName, HaveShortNames};
 ghost use Rattle.receive_pack.specs.Receiving.{refusing_pack, reported};
 ghost use Rattle.receive_pack.specs.Texts.{bad_report, report, status_lines, status_text, unpack_text, unpacker_error};
@@ -30,7 +29,8 @@ pub struct ReportedPush {
     pub commands: CommandList,
 }
 
-/// The report of a push, where the client asked for one, by the rules that were in force at its opening and by those just before it.
+/// The report of a push, where the client asked for one, by the rules that were in force at its opening and
+/// by those just before it.
 pub fn tell<L: Link>(
     alloc: Global,
     link: &mut L,
@@ -41,7 +41,7 @@ pub fn tell<L: Link>(
     outcomes: &OutcomeList,
 ) -> Result<(), SessionEnd>
     requires short { HaveShortNames push.now.commands }
-    ensures runs { (desk : DeskView) → Runs (L.state link.old) (L.state link.new) desk desk (write (reported capabilities (report policy.now.rules later.now.rules push.now outcomes.now))) (outcome_of result) }
+    ensures runs { RunsLink (L.state link.old) (L.state link.new) (write (reported capabilities (report policy.now.rules later.now.rules push.now outcomes.now))) result }
     ensures tells { TellsLink (L.state link.old) (L.state link.new) result }
 {
     if capabilities.report_status {
@@ -59,7 +59,7 @@ fn report<L: Link>(
     outcomes: &OutcomeList,
 ) -> Result<(), SessionEnd>
     requires short { HaveShortNames push.now.commands }
-    ensures runs { (desk : DeskView) → Runs (L.state link.old) (L.state link.new) desk desk (write (report policy.now.rules later.now.rules push.now outcomes.now)) (outcome_of result) }
+    ensures runs { RunsLink (L.state link.old) (L.state link.new) (write (report policy.now.rules later.now.rules push.now outcomes.now)) result }
     ensures tells { TellsLink (L.state link.old) (L.state link.new) result }
 {
     say(link, b"unpack ok\n")?;
@@ -77,7 +77,7 @@ fn report_all<L: Link>(
     outcomes: &OutcomeList,
 ) -> Result<(), SessionEnd>
     requires short { HaveShortNames push.now.commands }
-    ensures runs { (desk : DeskView) → Runs (L.state link.old) (L.state link.new) desk desk (write (flat_map packet (status_lines policy.now.rules later.now.rules push.now push.now.commands outcomes.now))) (outcome_of result) }
+    ensures runs { RunsLink (L.state link.old) (L.state link.new) (write (flat_map packet (status_lines policy.now.rules later.now.rules push.now push.now.commands outcomes.now))) result }
     ensures tells { TellsLink (L.state link.old) (L.state link.new) result }
 {
     let mut told = outcomes.as_slice().iter();
@@ -101,7 +101,7 @@ fn report_one<L: Link>(
 ) -> Result<(), SessionEnd>
     requires short { HaveShortNames push.now.commands }
     requires one { HasShortName command.now }
-    ensures runs { (desk : DeskView) → Runs (L.state link.old) (L.state link.new) desk desk (write (packet (status_text policy.now.rules later.now.rules push.now command.now.name outcome.now))) (outcome_of result) }
+    ensures runs { RunsLink (L.state link.old) (L.state link.new) (write (packet (status_text policy.now.rules later.now.rules push.now command.now.name outcome.now))) result }
     ensures tells { TellsLink (L.state link.old) (L.state link.new) result }
 {
     let line = status_line(alloc, policy, later, push, command, outcome)?;
@@ -117,7 +117,7 @@ pub fn refuse_pack<L: Link>(
     fault: PackFault,
 ) -> SessionEnd
     requires short { HaveShortNames commands.now }
-    ensures runs { (desk : DeskView) → Runs (L.state link.old) (L.state link.new) desk desk (refusing_pack capabilities commands.now fault) (Err (halt_of result)) }
+    ensures runs { EndsLink (L.state link.old) (L.state link.new) (refusing_pack capabilities commands.now fault) result }
     ensures tells { TellsEnd (L.state link.old) (L.state link.new) result }
     ensures reading { KeepsReading (L.state link.old) (L.state link.new) }
 {
@@ -135,7 +135,7 @@ fn tell_fault<L: Link>(
     fault: PackFault,
 ) -> Result<(), SessionEnd>
     requires short { HaveShortNames commands.now }
-    ensures runs { (desk : DeskView) → Runs (L.state link.old) (L.state link.new) desk desk (write (reported capabilities (bad_report commands.now fault))) (outcome_of result) }
+    ensures runs { RunsLink (L.state link.old) (L.state link.new) (write (reported capabilities (bad_report commands.now fault))) result }
     ensures tells { TellsLink (L.state link.old) (L.state link.new) result }
     ensures reading { KeepsReading (L.state link.old) (L.state link.new) }
 {
@@ -152,7 +152,7 @@ fn report_fault<L: Link>(
     fault: PackFault,
 ) -> Result<(), SessionEnd>
     requires short { HaveShortNames commands.now }
-    ensures runs { (desk : DeskView) → Runs (L.state link.old) (L.state link.new) desk desk (write (bad_report commands.now fault)) (outcome_of result) }
+    ensures runs { RunsLink (L.state link.old) (L.state link.new) (write (bad_report commands.now fault)) result }
     ensures tells { TellsLink (L.state link.old) (L.state link.new) result }
     ensures reading { KeepsReading (L.state link.old) (L.state link.new) }
 {
@@ -162,7 +162,7 @@ fn report_fault<L: Link>(
 }
 
 fn say_fault<L: Link>(alloc: Global, link: &mut L, fault: PackFault) -> Result<(), SessionEnd>
-    ensures runs { (desk : DeskView) → Runs (L.state link.old) (L.state link.new) desk desk (write (packet (unpack_text fault))) (outcome_of result) }
+    ensures runs { RunsLink (L.state link.old) (L.state link.new) (write (packet (unpack_text fault))) result }
     ensures tells { TellsLink (L.state link.old) (L.state link.new) result }
     ensures reading { KeepsReading (L.state link.old) (L.state link.new) }
 {
@@ -177,7 +177,7 @@ fn report_errors<L: Link>(
     commands: &CommandList,
 ) -> Result<(), SessionEnd>
     requires short { HaveShortNames commands.now }
-    ensures runs { (desk : DeskView) → Runs (L.state link.old) (L.state link.new) desk desk (write (flat_map packet (map unpacker_error commands.now))) (outcome_of result) }
+    ensures runs { RunsLink (L.state link.old) (L.state link.new) (write (flat_map packet (map unpacker_error commands.now))) result }
     ensures tells { TellsLink (L.state link.old) (L.state link.new) result }
     ensures reading { KeepsReading (L.state link.old) (L.state link.new) }
 {
@@ -189,7 +189,7 @@ fn report_errors<L: Link>(
 
 fn report_error<L: Link>(alloc: Global, link: &mut L, command: &Command) -> Result<(), SessionEnd>
     requires short { HasShortName command.now }
-    ensures runs { (desk : DeskView) → Runs (L.state link.old) (L.state link.new) desk desk (write (packet (unpacker_error command.now))) (outcome_of result) }
+    ensures runs { RunsLink (L.state link.old) (L.state link.new) (write (packet (unpacker_error command.now))) result }
     ensures tells { TellsLink (L.state link.old) (L.state link.new) result }
     ensures reading { KeepsReading (L.state link.old) (L.state link.new) }
 {

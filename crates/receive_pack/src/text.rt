@@ -20,7 +20,8 @@ use rule_compile::PolicyFault;
 use session_core::{push_denial, shown};
 use std::alloc::{AllocError, Global};
 
-// What the line of a ref in an advertisement has at most beside the ref's name: its value, and the capabilities.
+// What the line of a ref in an advertisement has at most beside the ref's name: its value, and the
+// capabilities.
 const MOST_BESIDE: usize = 100;
 
 // What most lines of a report have at most beside the ref's name.
@@ -70,7 +71,8 @@ pub fn ref_line(
     Ok(text)
 }
 
-/// What is reported of a command of a push, by the rules that were in force at its opening and by those just before it.
+/// What is reported of a command of a push, by the rules that were in force at its opening and by those just
+/// before it.
 pub fn status_line(
     alloc: Global,
     policy: &Policy,

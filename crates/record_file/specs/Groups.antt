@@ -13,7 +13,8 @@ abbrev pub bodies_in : List ℕ → List ℕ → List (List ℕ)
 bodies_in [] bytes = []
 bodies_in (size ∷ sizes) bytes = take size (drop 9 bytes) ∷ bodies_in sizes (drop (9 + size) bytes)
 
--- The buffer has whole records with bodies of these lengths, an open gate at `start`, and eight bytes for a length.
+-- The buffer has whole records with bodies of these lengths, an open gate at `start`, and eight bytes for a
+-- length.
 pub record IsBuilt (bytes : List ℕ) (sizes : List ℕ) (start : ℕ) : Type 0 where
   pub long : start + 9 ≤ length bytes
   pub whole : take start bytes ≡ open_records (bodies_in sizes bytes)

@@ -75,7 +75,8 @@ pub record HasAnotherName (magic name file : List ℕ) : Type 0 where
   pub goes_on : 0 < length rest
   pub other : its ≢ name
 
--- Whole records lead to a gate at this offset that isn't zero, behind which no whole record with a byte behind it follows.
+-- Whole records lead to a gate at this offset that isn't zero, behind which no whole record with a byte
+-- behind it follows.
 pub record IsBadAt (head file : List ℕ) (offset : ℕ) : Type 0 where
   pub bodies : List (List ℕ)
   pub gate : ℕ

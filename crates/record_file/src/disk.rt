@@ -20,8 +20,8 @@ impl fmt::Display for DiskFault {
 
 impl Error for DiskFault {}
 
-/// A disk with one file. A disk in memory tells what the file holds and what a crash may leave of it; a real one tells
-/// its length and its failed calls alone.
+/// A disk with one file. A disk in memory tells what the file holds and what a crash may leave of it; a real
+/// one tells its length and its failed calls alone.
 pub trait Disk {
     /// Whether disks of this type tell the file.
     ghost is_modeled: { Bool };

@@ -6,7 +6,8 @@
 //! - `reading`, `reader`: what a file's bytes say, and reading them record after record;
 //! - `opening`: reading a file whole, from any file;
 //! - `laws`: what holds of the form of the file itself;
-//! - `overwriting`, `pending_data`, `history`, `memory_disk`: a disk over memory, which can be stopped after any call.
+//! - `overwriting`, `pending_data`, `history`, `memory_disk`: a disk over memory, which can be stopped after
+//!   any call.
 //!
 //! The disk's model and the file's form are in plain words in `docs/JOURNAL.md`.
 #![tactic(auto)]
@@ -66,7 +67,8 @@ mod tests {
         Ok(())
     }
 
-    // Two appends on an empty disk: a record, and a group of two. The disk fails at these calls. Opening makes five calls.
+    // Two appends on an empty disk: a record, and a group of two. The disk fails at these calls. Opening
+    // makes five calls.
     fn two_appends(alloc: Global, failing: Vec<u64>) -> Result<MemoryDisk, NoMemory> {
         let mut disk = MemoryDisk::new(alloc, Vec::new(alloc), 64, failing)?;
         match RecordWriter::open(alloc, &mut disk, &MAGIC, &NAME) {

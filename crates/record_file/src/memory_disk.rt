@@ -13,8 +13,8 @@ use std::alloc::Global;
 // The length of a file stays below this.
 const MOST: u64 = 1 << 63;
 
-/// A disk over memory, for tests and for programs that keep nothing. It keeps what each call did, so that it can be
-/// stopped after any.
+/// A disk over memory, for tests and for programs that keep nothing. It keeps what each call did, so that it
+/// can be stopped after any.
 #[derive(Drop)]
 pub struct MemoryDisk {
     alloc: Global,
@@ -34,9 +34,9 @@ pub struct MemoryDisk {
 impl MemoryDisk {
     ghost use Rattle.record_file.specs.MemoryViews.{memory_of};
 
-    /// A disk with these bytes, of which nothing is pending. It takes the memory for `room` calls and `room` written
-    /// bytes; no call takes more. It fails at the calls whose numbers, from 0, are listed, after the first `room` calls,
-    /// and at a write with which more than `room` bytes were written.
+    /// A disk with these bytes, of which nothing is pending. It takes the memory for `room` calls and `room`
+    /// written bytes; no call takes more. It fails at the calls whose numbers, from 0, are listed, after the
+    /// first `room` calls, and at a write with which more than `room` bytes were written.
     pub fn new(
         alloc: Global,
         bytes: Vec<u8>,
@@ -67,8 +67,8 @@ impl MemoryDisk {
         &self.content
     }
 
-    /// A disk as a crash after so many calls may leave it: `filler` is in every byte that isn't fixed, and the file is as
-    /// long as can be. It has the same room, and no listed call.
+    /// A disk as a crash after so many calls may leave it: `filler` is in every byte that isn't fixed, and
+    /// the file is as long as can be. It has the same room, and no listed call.
     pub fn stopped(&self, calls: u64, filler: u8) -> Result<MemoryDisk, NoMemory>
         ensures left { IfOk result (λ disk. MayLeave (file_after (memory_of self.now).history.initial (take calls (memory_of self.now).history.changes)).pending (file_of (memory_of disk)).content) }
         ensures fresh { IfOk result (λ disk. memory_of disk ≡ new_memory (file_of (memory_of disk)).content (memory_of self.now).history.room []) }

@@ -11,8 +11,8 @@ use base_types::ItemList;
 use std::alloc::Global;
 
 impl RecordWriter {
-    /// Opens a file that a crash may have left: reads all its records, and cuts off what follows its first zero gate.
-    /// An empty file is made one of no records. It may be stopped at any moment and begun again.
+    /// Opens a file that a crash may have left: reads all its records, and cuts off what follows its first
+    /// zero gate. An empty file is made one of no records. It may be stopped at any moment and begun again.
     pub fn open<D: Disk>(
         alloc: Global,
         disk: &mut D,

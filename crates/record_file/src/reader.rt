@@ -14,8 +14,8 @@ use base_types::Text;
 use std::alloc::Global;
 use std::marker::Model;
 
-/// Reads a file that a crash may have left, record after record. The disk is passed to each call, and its file stays as
-/// it is until `finish`. A copy reads the same file again.
+/// Reads a file that a crash may have left, record after record. The disk is passed to each call, and its
+/// file stays as it is until `finish`. A copy reads the same file again.
 #[derive(Clone, Copy)]
 pub struct RecordReader {
     offset: u64,
@@ -33,8 +33,8 @@ impl Model for RecordReader {
 }
 
 impl RecordReader {
-    /// Begins to read a file whose head has these magic bytes and this name. It syncs first, so that nothing is
-    /// pending. An empty file is made one of no records.
+    /// Begins to read a file whose head has these magic bytes and this name. It syncs first, so that nothing
+    /// is pending. An empty file is made one of no records.
     pub fn start<D: Disk>(
         alloc: Global,
         disk: &mut D,
@@ -66,8 +66,8 @@ impl RecordReader {
         }
     }
 
-    /// The next record, or `None` at the zero gate. Its body takes the place of whatever the buffer has, so that
-    /// a caller who hands in that of the last record needs no other.
+    /// The next record, or `None` at the zero gate. Its body takes the place of whatever the buffer has, so
+    /// that a caller who hands in that of the last record needs no other.
     pub fn next_record<D: Disk>(
         &mut self,
         disk: &mut D,
@@ -83,8 +83,8 @@ impl RecordReader {
         self.next_within(disk, buffer, usize::MAX)
     }
 
-    /// The front of the next record, at most so many bytes of its body, or `None` at the zero gate. The reader is
-    /// behind the whole record then, of which no more was read.
+    /// The front of the next record, at most so many bytes of its body, or `None` at the zero gate. The
+    /// reader is behind the whole record then, of which no more was read.
     pub fn next_front<D: Disk>(
         &mut self,
         alloc: Global,
@@ -133,7 +133,8 @@ impl RecordReader {
         }
     }
 
-    /// Cuts off what follows the zero gate, where anything does. It is called once `next_record` has answered `None`.
+    /// Cuts off what follows the zero gate, where anything does. It is called once `next_record` has answered
+    /// `None`.
     pub fn finish<D: Disk>(self, disk: &mut D) -> Result<RecordWriter, DiskFault>
         requires { IsAtGate self (D.state disk.old).size }
         ensures counts { Counts result (D.state disk.old) (D.state disk.new) }

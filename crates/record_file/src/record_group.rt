@@ -11,8 +11,8 @@ use std::marker::Model;
 // A record's beginning: an open gate, and eight bytes for the length of its body.
 const LEAD: [u8; 9] = [1, 0, 0, 0, 0, 0, 0, 0, 0];
 
-/// Records that are stored at once: after a crash the file has all of them or none. There is at least one. Contracts
-/// see their bodies.
+/// Records that are stored at once: after a crash the file has all of them or none. There is at least one.
+/// Contracts see their bodies.
 #[derive(Drop)]
 pub struct RecordGroup {
     bytes: Vec<u8>,

@@ -39,7 +39,8 @@ impl RecordWriter {
         self.broken
     }
 
-    /// Appends a group of records as one. It takes no memory and makes four calls of the disk; once broken, none.
+    /// Appends a group of records as one. It takes no memory and makes four calls of the disk; once broken,
+    /// none.
     pub fn append<D: Disk>(&mut self, disk: &mut D, group: &RecordGroup)
         requires { EndsAtGate self.old (D.state disk.old).size }
         ensures at_gate { EndsAtGate self.new (D.state disk.new).size }

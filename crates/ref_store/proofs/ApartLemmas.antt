@@ -163,7 +163,8 @@ least_there refs name q apart greatest below slash some = first_directory refs n
         let end = ends_there refs name q (take j name) (drop (j + 1) name) apart greatest (ap is_some is) (at_slash name j (omega (arith, lt, below)) slash_j) in
         absurd (omega (arith, lt, end, length-take-le j name (omega (arith, lt, below))))
 
--- what is told of the place where a name and the nearest ref before it part, is told of all directories of the name
+-- what is told of the place where a name and the nearest ref before it part, is told of all directories of
+-- the name
 told_there : (refs : Refs) (name q : Name) (i : ℕ) → HasRefsApart refs → IsGreatestTo refs name (Some q) → i ≡ common q name → i < length name → (told : Option Name) → TellsOfPlace refs name i told → TellsOfDirectory refs name told
 told_there refs name q i apart greatest is below None none = none_there refs name q apart greatest (subst (λ (n : ℕ). get_or name n 0 ≡ 47 → get refs (take n name) ≡ None) is none)
 told_there refs name q i apart greatest is below (Some r) told =

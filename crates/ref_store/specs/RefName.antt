@@ -1,5 +1,5 @@
--- The names that a ref may have: those that git-check-ref-format(1) admits, below `refs/`, with three pieces at least and not too long.
--- The numbers are that page's.
+-- The names that a ref may have: those that git-check-ref-format(1) admits, below `refs/`, with three pieces
+-- at least and not too long. The numbers are that page's.
 use Rattle.std.specs.Prelude.{ℕ, Bool, false, ◌&&◌, ◌||◌, ◌==◌, not, nat_eq, nat_le, nat_lt, List, [], ◌∷◌, length, codes}
 use Rattle.std.specs.List.{list_all, list_any, slice_split, starts_with, ends_with}
 

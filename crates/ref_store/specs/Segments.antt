@@ -7,7 +7,8 @@ abbrev pub all_of : List (List Content) → List Content
 all_of [] = []
 all_of (s ∷ ss) = s ++ all_of ss
 
--- a segment before others: where there is one other, and the segment has fewer than twice as many objects as that, the two are joined
+-- a segment before others: where there is one other, and the segment has fewer than twice as many objects as
+-- that, the two are joined
 abbrev pub before : List Content → List (List Content) → List (List Content)
 before s (last ∷ []) = if nat_lt (length s) (2 * length last) then (s ++ last) ∷ [] else s ∷ last ∷ []
 before s more = s ∷ more

@@ -16,14 +16,16 @@ pub record Store : Type 0 where
   pub objects : List Content
   pub refs : Refs
 
--- what a repository keeps: no two objects of one name, only names that a ref may have, no ref at zero, and no ref a directory of another
+-- what a repository keeps: no two objects of one name, only names that a ref may have, no ref at zero, and no
+-- ref a directory of another
 pub record IsSound (store : Store) : Type 0 where
   pub names : HasNamesOnce store.objects
   pub refs : HasRefNames store.refs
   pub values : HasNoZero store.refs
   pub apart : HasRefsApart store.refs
 
--- what is told of a pack beside the objects that are there: where two objects of one name differ that is told; else, where there would be more than 4,294,967,295, how many there would be; else which ones to add
+-- what is told of a pack beside the objects that are there: where two objects of one name differ that is
+-- told; else, where there would be more than 4,294,967,295, how many there would be; else which ones to add
 abbrev pub TellsOfComparing : List Content → List Content → compared.Compared → Type 0
 TellsOfComparing objects pack (beside.Fresh fresh) = HasNoCollision (objects ++ pack) × (with_pack objects pack ≡ objects ++ fresh.objects) × HasNamesOnce (objects ++ fresh.objects) × (length objects + length fresh.objects ≤ 4294967295)
 TellsOfComparing objects pack (beside.Collision id kept given) = IsFirstCollision (objects ++ pack) id kept given
@@ -37,7 +39,8 @@ IsUnprepared (beside.Collision id kept given) = Unit {0}
 IsUnprepared (beside.Full count) = Unit {0}
 IsUnprepared beside.NoMemory = Unit {0}
 
--- what is told of adding a pack's objects: where two objects of one name differ that is told; else, where there would be more than 4,294,967,295, how many there would be
+-- what is told of adding a pack's objects: where two objects of one name differ that is told; else, where
+-- there would be more than 4,294,967,295, how many there would be
 abbrev pub TellsOfAdding : List Content → List Content → added.Added → Type 0
 TellsOfAdding objects pack told.Added = HasNoCollision (objects ++ pack) × (length (with_pack objects pack) ≤ 4294967295)
 TellsOfAdding objects pack (told.Collision id kept given) = IsFirstCollision (objects ++ pack) id kept given
@@ -49,7 +52,8 @@ abbrev pub left_by : Store → List Content → added.Added → Store
 left_by store pack told.Added = record store { objects = with_pack store.objects pack }
 left_by store pack _ = store
 
--- what is told of moving a ref: another value than the one that was thought of, or, of a create, the least ref that the name can't stand beside
+-- what is told of moving a ref: another value than the one that was thought of, or, of a create, the least
+-- ref that the name can't stand beside
 abbrev pub TellsOfMove : Refs → Name → ObjectId → applied.Applied → Type 0
 TellsOfMove refs name old moving.Moved = (value refs name ≡ old) × (old ≡ zero_id → HasNoneAtOdds refs name)
 TellsOfMove refs name old (moving.Stale is) = (is ≡ value refs name) × ¬ (is ≡ old)

@@ -8,8 +8,8 @@ use git_object::Object;
 use std::alloc::Global;
 use std::marker::Model;
 
-/// The objects of a pack that a repository lacks, in the order of the pack, each name once. Their bodies are shared with the pack. Segments may be
-/// prepared with them.
+/// The objects of a pack that a repository lacks, in the order of the pack, each name once. Their bodies are
+/// shared with the pack. Segments may be prepared with them.
 #[derive(Drop)]
 pub struct FreshObjects {
     objects: Vec<Object>,
@@ -65,6 +65,17 @@ impl FreshObjects {
             objects,
             prepared: Some(Prepared { before, grown }),
         })
+    }
+
+    // The segments with these objects behind them that were prepared, which are shared.
+    pub(crate) fn segments_for(&self, segments: &Segments) -> Result<Option<Segments>, NoMemory>
+        requires { IfSome self.now.before (λ before. before ≡ all_of segments.now) }
+        ensures { IfOk result (λ found. IfSome found (λ s. all_of s ≡ all_of segments.now ++ self.now.objects)) }
+    {
+        match &self.prepared {
+            Some(prepared) => Ok(Some(prepared.grown.copy()?)),
+            None => Ok(None),
+        }
     }
 
     // The segments with these objects behind them: those that were prepared, or new ones.

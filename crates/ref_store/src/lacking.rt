@@ -21,7 +21,8 @@ pub enum Lacking {
     },
 }
 
-/// Goes through a pack beside the objects that are there, each of its objects beside the first of its name. The lens shows both.
+/// Goes through a pack beside the objects that are there, each of its objects beside the first of its name.
+/// The lens shows both.
 pub fn find_lacking(
     alloc: Global,
     lens: &Lens,

@@ -13,7 +13,8 @@ use git_object::{Object, ObjectId, ObjectList};
 use std::alloc::Global;
 use std::marker::Model;
 
-/// The objects of a repository, and behind them those of a pack that isn't added. It shares them, so it sees nothing that comes later.
+/// The objects of a repository, and behind them those of a pack that isn't added. It shares them, so it sees
+/// nothing that comes later.
 #[derive(Drop)]
 pub struct Lens {
     kept: Segments,
@@ -32,7 +33,8 @@ impl Model for Lens {
 }
 
 impl Lens {
-    /// Holds handles of the pack's objects; their bodies are shared. It costs the pack, and the number of the segments.
+    /// Holds handles of the pack's objects; their bodies are shared. It costs the pack, and the number of the
+    /// segments.
     pub fn new(alloc: Global, repo: &Repo, pack: &ObjectList) -> Result<Lens, NoMemory>
         ensures { IfOk result (λ l. l ≡ repo.now.objects ++ pack.now) }
     {
@@ -42,7 +44,8 @@ impl Lens {
         Ok(Lens { kept, pack, salt })
     }
 
-    /// A salt for tables of these objects' names. All of them go into it, so none is known before all are chosen.
+    /// A salt for tables of these objects' names. All of them go into it, so none is known before all are
+    /// chosen.
     pub fn salt(&self) -> Salt {
         self.salt
     }

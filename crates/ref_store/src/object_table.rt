@@ -10,7 +10,8 @@ use indexmap::IndexMap;
 use std::alloc::Global;
 use std::marker::Model;
 
-/// Objects in order. Finding one by its name takes the same time however many there are, whoever chose the names.
+/// Objects in order. Finding one by its name takes the same time however many there are, whoever chose the
+/// names.
 #[derive(Drop)]
 pub struct ObjectTable {
     objects: Vec<Object>,

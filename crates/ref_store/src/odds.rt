@@ -9,7 +9,8 @@ use std::alloc::Global;
 
 const BLOCK: usize = 64;
 
-/// The least ref that is a directory of the name or stands below it. Either is next to the name in the order of names, so it costs a few look-ups.
+/// The least ref that is a directory of the name or stands below it. Either is next to the name in the order
+/// of names, so it costs a few look-ups.
 pub fn at_odds(alloc: Global, refs: &RefMap, name: &Text) -> Result<Option<Text>, NoMemory>
     requires { HasRefsApart refs.now }
     ensures { IfOk result (λ r. TellsOfOdds refs.now name.now r) }
@@ -20,8 +21,9 @@ pub fn at_odds(alloc: Global, refs: &RefMap, name: &Text) -> Result<Option<Text>
     }
 }
 
-// The ref that is a directory of the name. A directory of the name is a beginning of the greatest ref that isn't behind the name, but it is no
-// directory of that ref where refs stand apart: so it ends just where the two names part.
+// The ref that is a directory of the name. A directory of the name is a beginning of the greatest ref that
+// isn't behind the name, but it is no directory of that ref where refs stand apart: so it ends just where the
+// two names part.
 fn directory(alloc: Global, refs: &RefMap, name: &Text) -> Result<Option<Text>, NoMemory>
     requires { HasRefsApart refs.now }
     ensures { IfOk result (λ r. TellsOfDirectory refs.now name.now r) }

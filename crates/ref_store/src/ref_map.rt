@@ -11,7 +11,8 @@ use std::collections::BTreeMap;
 use std::collections::btree_map::Iter;
 use std::marker::Model;
 
-/// Refs in the byte order of their names. Beside the map of `base_types` it finds the nearest names on both sides of one.
+/// Refs in the byte order of their names. Beside the map of `base_types` it finds the nearest names on both
+/// sides of one.
 #[derive(Drop)]
 pub struct RefMap {
     entries: BTreeMap<Text, ObjectId>,
@@ -103,7 +104,8 @@ impl RefMap {
         }
     }
 
-    // The last name of all, if this one is behind it. It costs one comparison, and saves a look-up where names come in their order.
+    // The last name of all, if this one is behind it. It costs one comparison, and saves a look-up where
+    // names come in their order.
     fn last_before(&self, name: &Text) -> Option<&Text>
         ensures nearest { IfSome result (λ last. IsGreatestTo self.now name.now (Some last.now)) }
         ensures none_from { IfSome result (λ _. IsLeastFrom self.now name.now None) }

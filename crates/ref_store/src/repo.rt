@@ -37,7 +37,8 @@ pub struct Repo {
 pub enum Compared {
     /// No object differs from one of its name before it. These are the ones to add.
     Fresh(FreshObjects),
-    /// An object of the pack differs from one of its name before it. Places count the repository's objects and then the pack's.
+    /// An object of the pack differs from one of its name before it. Places count the repository's objects
+    /// and then the pack's.
     Collision { id: ObjectId, kept: u64, given: u64 },
     /// There would be this many objects.
     Full(u64),
@@ -48,7 +49,8 @@ pub enum Compared {
 #[derive(Clone, Copy, Debug, PartialEq, Eq)]
 pub enum Added {
     Added,
-    /// An object of the pack differs from one of its name before it. Places count the repository's objects and then the pack's.
+    /// An object of the pack differs from one of its name before it. Places count the repository's objects
+    /// and then the pack's.
     Collision { id: ObjectId, kept: u64, given: u64 },
     /// There would be this many objects.
     Full(u64),
@@ -93,7 +95,8 @@ impl Repo {
         })
     }
 
-    /// A copy with the same objects and refs, which it shares. It costs the number of the segments, of which there are 32 at most.
+    /// A copy with the same objects and refs, which it shares. It costs the number of the segments, of which
+    /// there are 32 at most.
     pub fn copy(&self) -> Result<Repo, NoMemory>
         ensures { IfOk result (λ r. r ≡ self.now) }
     {
@@ -184,7 +187,8 @@ impl Repo {
         self.refs.refs().len()
     }
 
-    /// Moves a ref from its old value to a new one; zero stands for no value. It costs a few look-ups, and where another repository shares the refs a copy of them.
+    /// Moves a ref from its old value to a new one; zero stands for no value. It costs a few look-ups, and
+    /// where another repository shares the refs a copy of them.
     pub fn apply(&mut self, name: &RefName, old: ObjectId, new: ObjectId) -> Applied
         ensures told { TellsOfMove self.old.refs name.now old result }
         ensures repo { self.new ≡ moved_by self.old name.now new result }
@@ -204,7 +208,8 @@ impl Repo {
         }
     }
 
-    // The least ref that can't stand beside a name, which has this value. All can stand beside a ref that is there.
+    // The least ref that can't stand beside a name, which has this value. All can stand beside a ref that is
+    // there.
     fn at_odds(&self, name: &RefName, old: ObjectId) -> Result<Option<RefName>, NoMemory>
         requires { value self.now.refs name.now ≡ old }
         ensures odds { IfOk result (TellsOfOdds self.now.refs name.now) }
@@ -236,7 +241,8 @@ impl Repo {
         Ok(())
     }
 
-    /// Compares a pack with the objects that are there, and changes nothing. It costs a table of the pack, and what `compare_in` costs.
+    /// Compares a pack with the objects that are there, and changes nothing. It costs a table of the pack,
+    /// and what `compare_in` costs.
     pub fn compare(&self, pack: &ObjectList) -> Compared
         ensures told { TellsOfComparing self.now.objects pack.now result }
         ensures unprepared { IsUnprepared result }
@@ -247,7 +253,8 @@ impl Repo {
         }
     }
 
-    /// The same, in a lens that shows the objects that are there and the pack's. It costs a look-up in each segment for each object of the pack.
+    /// The same, in a lens that shows the objects that are there and the pack's. It costs a look-up in each
+    /// segment for each object of the pack.
     pub fn compare_in(&self, lens: &Lens, pack: &ObjectList) -> Compared
         requires { lens.now ≡ self.now.objects ++ pack.now }
         ensures told { TellsOfComparing self.now.objects pack.now result }
@@ -271,8 +278,9 @@ impl Repo {
         Compared::Fresh(FreshObjects::unprepared(fresh))
     }
 
-    /// Makes the segments that this repository has once fresh objects are added, so that `add` has only to put them in place where the objects are
-    /// still the same. It costs what a join of segments costs, which may be all objects.
+    /// Makes the segments that this repository has once fresh objects are added, so that `add` has only to
+    /// put them in place where the objects are still the same. It costs what a join of segments costs, which
+    /// may be all objects.
     pub fn prepare(&self, fresh: FreshObjects) -> Result<FreshObjects, NoMemory>
         requires room { length self.now.objects + length fresh.objects ≤ 4294967295 }
         ensures { IfOk result (λ f. f ≡ record { objects = fresh.objects; before = Some self.now.objects }) }
@@ -280,7 +288,8 @@ impl Repo {
         fresh.prepared_for(self.alloc, &self.objects)
     }
 
-    /// Adds objects at the end. Whoever has a copy doesn't see them. Where they were prepared it costs nothing, and else what `prepare` costs.
+    /// Adds objects at the end. Whoever has a copy doesn't see them. Where they were prepared it costs
+    /// nothing, and else what `prepare` costs.
     pub fn add(&mut self, fresh: FreshObjects) -> Result<(), NoMemory>
         requires names { HasNamesOnce (self.old.objects ++ fresh.objects) }
         requires few { length self.old.objects + length fresh.objects ≤ 4294967295 }
@@ -293,7 +302,26 @@ impl Repo {
         Ok(())
     }
 
-    /// Adds the objects of a pack that are not there, as `compare` and `add` do. Whoever has a copy doesn't see them.
+    /// The repository as it is once fresh objects are added, which shares the segments that were prepared
+    /// with them; none where none were.
+    pub fn grown_by(&self, fresh: &FreshObjects) -> Result<Option<Repo>, NoMemory>
+        requires names { HasNamesOnce (self.now.objects ++ fresh.now.objects) }
+        requires prepared { IfSome fresh.now.before (λ before. before ≡ self.now.objects) }
+        ensures { IfOk result (λ found. IfSome found (λ grown. grown ≡ record self.now { objects = self.now.objects ++ fresh.now.objects })) }
+    {
+        let Some(objects) = fresh.segments_for(&self.objects)? else {
+            return Ok(None);
+        };
+        let refs = self.refs.clone()?;
+        Ok(Some(Repo {
+            alloc: self.alloc,
+            objects,
+            refs,
+        }))
+    }
+
+    /// Adds the objects of a pack that are not there, as `compare` and `add` do. Whoever has a copy doesn't
+    /// see them.
     pub fn add_objects(&mut self, pack: &ObjectList) -> Added
         ensures told { TellsOfAdding self.old.objects pack.now result }
         ensures repo { self.new ≡ left_by self.old pack.now result }

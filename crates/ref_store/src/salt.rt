@@ -3,8 +3,9 @@ use git_object::{Object, ObjectId};
 use sha1::Sha1;
 use std::hash::{BuildHasher, FoldHasher, Hasher};
 
-/// Where the hash of each name in an index begins. The salt of an index is made by SHA-1 of the names that are put in, so whoever chooses names
-/// knows the salt only once they are chosen: names that were found to fall together under one salt lie apart under the one that they bring about.
+/// Where the hash of each name in an index begins. The salt of an index is made by SHA-1 of the names that
+/// are put in, so whoever chooses names knows the salt only once they are chosen: names that were found to
+/// fall together under one salt lie apart under the one that they bring about.
 #[derive(Clone, Copy)]
 pub struct Salt {
     digest: [u8; 20],

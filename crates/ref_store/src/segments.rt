@@ -46,7 +46,8 @@ impl Segment {
     }
 }
 
-/// Objects in segments, the oldest first. Each segment has at least twice as many objects as the next, so there are few.
+/// Objects in segments, the oldest first. Each segment has at least twice as many objects as the next, so
+/// there are few.
 #[derive(Drop)]
 pub struct Segments {
     segments: Vec<Segment>,
@@ -85,7 +86,8 @@ impl Segments {
         })
     }
 
-    /// A salt of the names of all these objects, made of the segments' salts: the one segment's own, where there is one.
+    /// A salt of the names of all these objects, made of the segments' salts: the one segment's own, where
+    /// there is one.
     pub fn salt(&self) -> Salt {
         match self.segments.split_first() {
             Some((first, rest)) => joined_salt(first.table().salt(), rest),
@@ -167,7 +169,8 @@ impl Segments {
         None
     }
 
-    /// These segments and one of more objects, which is joined with those before it while they have fewer than twice as many.
+    /// These segments and one of more objects, which is joined with those before it while they have fewer
+    /// than twice as many.
     pub fn with(&self, alloc: Global, fresh: &[Object]) -> Result<Segments, NoMemory>
         requires { length (all_of self.now) + length fresh.now ≤ 4294967295 }
         ensures { IfOk result (λ s. s ≡ with_fresh self.now fresh.now) }

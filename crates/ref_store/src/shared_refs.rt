@@ -9,8 +9,8 @@ use std::alloc::{AllocError, Global};
 use std::marker::Model;
 use std::sync::Arc;
 
-/// Refs that clones share. The first change of a shared map copies it, which costs the number of the refs; a change of one that nobody else has
-/// costs the logarithm of that number.
+/// Refs that clones share. The first change of a shared map copies it, which costs the number of the refs; a
+/// change of one that nobody else has costs the logarithm of that number.
 #[derive(Drop)]
 pub struct SharedRefs {
     refs: Arc<RefMap>,

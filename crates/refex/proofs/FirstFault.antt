@@ -15,7 +15,8 @@ use Rattle.refex.specs.declared.items.Last.TheVariants as last
 use Rattle.refex.specs.declared.faults.Offence.{Offence}
 use Rattle.refex.specs.declared.faults.Offence.TheVariants.{Syntax, Unsupported}
 
--- the first offence, where groups are open and no offence stands before: if one of them isn't closed, the outermost comes first
+-- the first offence, where groups are open and no offence stands before: if one of them isn't closed, the
+-- outermost comes first
 unfoldable pub pending : ℕ → ℕ → Last → List Placed → Option Offence
 pending depth outermost before xs = if nat_lt (closes xs) depth then Some (Syntax outermost) else first_fault before depth xs
 

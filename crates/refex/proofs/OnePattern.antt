@@ -4,7 +4,8 @@ use Rattle.refex.specs.Pattern.{Pattern, Nothing, Then, Either, Repeat}
 use Rattle.refex.specs.Text.{Item, Atom, Open, Close, Bar, Repetition, Bad}
 use Rattle.refex.specs.Grammar.{Level, atom, piece, sequence, alternation, Reads, simple, group, plain, repeated, empty, joined, one, either}
 
--- a group that is open: the branches before the one that goes on, what is joined in it, and the piece behind that
+-- a group that is open: the branches before the one that goes on, what is joined in it, and the piece behind
+-- that
 data Frame : Type 0 where
   frame : Option Pattern → Pattern → Option Pattern → Frame
 

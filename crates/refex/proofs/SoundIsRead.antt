@@ -14,7 +14,8 @@ use Rattle.refex.specs.declared.faults.Offence.{Offence}
 use Rattle.refex.specs.declared.faults.Offence.TheVariants as offences
 use Rattle.refex.proofs.Reading.{open_atom, open_count, open_bar, open_group, open_close, all_of}
 
--- whatever has been read, the items go on from there to a pattern if they have no offence and close what is open
+-- whatever has been read, the items go on from there to a pattern if they have no offence and close what is
+-- open
 abbrev GoesOn : List Placed → Type 0
 GoesOn all = (groups : List Bool) (b : Bool) (l : Last) (xs : List Item) (stack : List Pattern) → IsOpen groups b l xs stack
     → first_fault l (length groups) all ≡ None → length groups ≤ closes all → (p : Pattern) × Reads alternation (xs ++ forms all) p

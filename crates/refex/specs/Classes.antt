@@ -3,7 +3,8 @@ use Rattle.std.specs.Prelude.{◌≡◌, ◌↔◌, ℕ, ◌≤◌, ◌==◌, Bo
 use Rattle.refex.specs.Pattern.{Bytes}
 use Rattle.refex.specs.Text.{Atom, Member, Byte, Kind, range, either_of, every_other, is_alphanumeric, kind, begins_with, bytes_of, item}
 
--- which bytes stand for themselves in a class: in first place any but the backslash; behind it any but the backslash, `]` and the dash
+-- which bytes stand for themselves in a class: in first place any but the backslash; behind it any but the
+-- backslash, `]` and the dash
 abbrev pub is_plain : Bool → ℕ → Bool
 is_plain true b = not (b == 92)
 is_plain false b = not (b == 92) && not (b == 93) && not (b == 45)

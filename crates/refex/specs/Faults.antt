@@ -32,14 +32,15 @@ depth_after depth (Open _) = suc depth
 depth_after depth Close = depth - 1
 depth_after depth _ = depth
 
--- what is wrong with a repetition: nothing before it that it may repeat, or a `?` or `+` right after a repetition
+-- what is wrong with a repetition: nothing before it that it may repeat, or a `?` or `+` right after a
+-- repetition
 abbrev pub repetition_fault : Last → Bool → ℕ → Option Offence
 repetition_fault last.Atom suffix at = None
 repetition_fault last.Counted true at = Some (Unsupported at)
 repetition_fault _ _ at = Some (Syntax at)
 
--- what is wrong at the item's place, by what comes before it, how many groups are open there, and how many groups
--- the items behind it close
+-- what is wrong at the item's place, by what comes before it, how many groups are open there, and how many
+-- groups the items behind it close
 abbrev pub item_fault : Last → ℕ → Item → ℕ → ℕ → Option Offence
 item_fault before depth (Bad f) at later = Some f
 item_fault before depth (Open false) at later = Some (Unsupported at)

@@ -13,8 +13,9 @@ abbrev pub place_of : Offence → ℕ
 place_of (Syntax at) = at
 place_of (Unsupported at) = at
 
--- one of the items is an offence: by itself and what comes before it (a bad item, a `)` that closes no group, a repetition
--- of nothing or of a repetition, or a `(?` that isn't known), or since it opens a group that isn't closed
+-- one of the items is an offence: by itself and what comes before it (a bad item, a `)` that closes no group,
+-- a repetition of nothing or of a repetition, or a `(?` that isn't known), or since it opens a group that
+-- isn't closed
 pub data HasOffence : Last → ℕ → List Placed → Offence → Type 0 where
   here : {before : Last} {depth : ℕ} {x : Placed} {xs : List Placed} {f : Offence} → fault_at before depth x 1 ≡ Some f → HasOffence before depth (x ∷ xs) f
   unclosed : {before : Last} {depth : ℕ} {x : Placed} {xs : List Placed} {f : Offence} → x.item ≡ Open true → closes xs ≡ 0 → f ≡ Syntax x.at

@@ -21,7 +21,8 @@ pub enum Hole {
 pub enum RefexFault {
     /// The text breaks the grammar at this place.
     Syntax(u64),
-    /// The pattern has this many positions, which is more than `MAX_POSITIONS`. 65,535 stands for more as well.
+    /// The pattern has this many positions, which is more than `MAX_POSITIONS`. 65,535 stands for more as
+    /// well.
     TooManyPositions(u16),
     /// Perl knows the form at this place, and this language doesn't.
     Unsupported(u64),

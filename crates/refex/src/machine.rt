@@ -1,6 +1,6 @@
-// Position automata, after Glushkov: a state of the automaton is a place of a byte, a class or an end mark in the
-// pattern, and no step goes without a letter. A set of states is a number with a bit for each, and a run keeps the set
-// of those that may take the next letter.
+// Position automata, after Glushkov: a state of the automaton is a place of a byte, a class or an end mark in
+// the pattern, and no step goes without a letter. A set of states is a number with a bit for each, and a run
+// keeps the set of those that may take the next letter.
 ghost use Rattle.std.specs.Prelude.{◌≡◌, ℕ, ◌+◌, ◌<◌, ◌≤◌, ◌↔◌, ◌⊎◌, ◌^◌, IsTrue, length, slice_index, vec_len};
 ghost use Rattle.refex.specs.Pattern.{Pattern, Starts, Whole};
 ghost use Rattle.refex.specs.Means.{Means};
@@ -34,8 +34,9 @@ pub struct Machine {
 struct State {
     // the live positions, from which the next letter may be taken, and perhaps the exit
     set: u128,
-    // Bit k: since a hole was entered the last k bytes were the first k of the name. A name is known only when a match
-    // is asked for, so a run walks along it beside the tables, and from its end it goes on behind the hole.
+    // Bit k: since a hole was entered the last k bytes were the first k of the name. A name is known only
+    // when a match is asked for, so a run walks along it beside the tables, and from its end it goes on
+    // behind the hole.
     parts: u128,
 }
 

@@ -7,7 +7,8 @@ ghost use Rattle.refex.specs.declared.items.Last.TheVariants.{Nothing};
 use crate::faults::Offence;
 use crate::items::{Item, Last, Token};
 
-/// What comes before a token: in its branch, how many groups are open, and where the outermost of them begins.
+/// What comes before a token: in its branch, how many groups are open, and where the outermost of them
+/// begins.
 #[derive(Clone, Copy)]
 struct Before {
     last: Last,

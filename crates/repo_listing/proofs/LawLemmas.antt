@@ -68,7 +68,8 @@ repos_listed patterns flat repos user name write = (forth, back)
 
 -- ---- patterns
 
--- whom a rule covers before a repository is there it covers where none is given: fewer words are declared as roles
+-- whom a rule covers before a repository is there it covers where none is given: fewer words are declared as
+-- roles
 either : (a b x y : Bool) → (a ≡ true → x ≡ true) → (b ≡ true → y ≡ true) → (a || b) ≡ true → (x || y) ≡ true
 either true b x y first second is = ap (λ (c : Bool). c || y) (first refl)
 either false b true y first second is = refl

@@ -33,14 +33,16 @@ is_allowed Fallthru = false
 abbrev pub may : Patterns → Flat → List ℕ → Repository → Want → Bool
 may patterns flat user r want = is_allowed (first_stage patterns flat (asked patterns flat r.wild r.name user) want)
 
--- A repository that the user may read has a line, which says whether the user may write it too. Every other has none.
+-- A repository that the user may read has a line, which says whether the user may write it too. Every other
+-- has none.
 abbrev pub repo_lines : Patterns → Flat → List ℕ → Repository → List LookLine
 repo_lines patterns flat user r = if may patterns flat user r Read then Repo r.name (may patterns flat user r Write) ∷ [] else []
 
 -- ---- patterns
 
--- A rule lets the user create repositories where it is a lone `C` for a pattern, and is for the user where no repository is given: the user counts
--- as the creator then, nobody holds a role, and only the two roles that every repository has are declared.
+-- A rule lets the user create repositories where it is a lone `C` for a pattern, and is for the user where no
+-- repository is given: the user counts as the creator then, nobody holds a role, and only the two roles that
+-- every repository has are declared.
 abbrev pub lets_create : List ℕ → Rule → Bool
 lets_create user rule = creates rule && covers_user (asked_anywhere user) rule.user
 

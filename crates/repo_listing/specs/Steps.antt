@@ -14,7 +14,8 @@ use Rattle.repo_listing.specs.declared.lines.LookLine.TheVariants.{Pattern}
 abbrev pub patterns_at : List Rule → List ℕ → ℕ → List (List ℕ)
 patterns_at rules user seq = option_map_or (patterns_by user) (numbered rules seq) []
 
--- A line for each of these patterns comes after the lines from before, and the map tells which patterns they are.
+-- A line for each of these patterns comes after the lines from before, and the map tells which patterns they
+-- are.
 pub record AreAppended (before : List LookLine) (texts : List (List ℕ)) (list : List LookLine) (seen : ByName Bool) : Type 0 where
   pub lines : list ≡ before ++ map Pattern texts
   pub told : Tells seen texts

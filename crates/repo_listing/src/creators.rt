@@ -8,8 +8,8 @@ use rule_compile::{Members, UserWord};
 
 const CREATOR: &[u8] = b"CREATOR";
 
-/// Whether a rule with this user word is for the user where no repository is given: the user counts as the creator, nobody holds a role, and only the two
-/// roles that every repository has are declared.
+/// Whether a rule with this user word is for the user where no repository is given: the user counts as the
+/// creator, nobody holds a role, and only the two roles that every repository has are declared.
 pub(crate) fn covers_creator(word: &UserWord, user: &UserName) -> bool
     ensures { result ≡ covers_user (asked_anywhere user.now) word.now }
 {

@@ -1,4 +1,5 @@
-//! What a user may see: the repositories that the user may read, and the patterns of those that the user may create.
+//! What a user may see: the repositories that the user may read, and the patterns of those that the user may
+//! create.
 //!
 //! - `lines`: a line of a listing, and its text;
 //! - `listing`: which lines a user gets;

@@ -13,7 +13,8 @@ use rule_compile::{Policy, RepoWord, Rule};
 use std::alloc::Global;
 use wild_perms::Wild;
 
-/// Appends the line of a repository that is there, if the user may read it. It costs what `first_stage` does, at most twice.
+/// Appends the line of a repository that is there, if the user may read it. It costs what `first_stage` does,
+/// at most twice.
 pub fn push_repo(
     list: &mut LookList,
     policy: &Policy,
@@ -42,10 +43,11 @@ fn may(policy: &Policy, wild: &Wild, name: &RepoName, user: &UserName, want: Wan
     }
 }
 
-/// Appends a line for each pattern by which the user may create repositories, in the order of the first rule of each.
+/// Appends a line for each pattern by which the user may create repositories, in the order of the first rule
+/// of each.
 ///
-/// It looks at the rules whose word is a pattern, and looks up the patterns of those that are for the user among the ones that it appended. It copies each
-/// of these twice.
+/// It looks at the rules whose word is a pattern, and looks up the patterns of those that are for the user
+/// among the ones that it appended. It copies each of these twice.
 pub fn push_patterns(
     alloc: Global,
     list: &mut LookList,

@@ -1,5 +1,6 @@
 pub mod FrontLemmas
 pub mod LawLemmas
 mod HeadLemmas
+pub mod LimitLemmas
 pub mod PieceLemmas
 pub mod ReadLemmas

@@ -1,4 +1,5 @@
--- There are true answers about texts: what the laws of refex give, and what is decided of the one pattern of a text.
+-- There are true answers about texts: what the laws of refex give, and what is decided of the one pattern of
+-- a text.
 use Rattle.std.proofs.Common.{◌≡◌, ℕ, ◌≤◌, ◌<◌, min, inl, inr, List, Option, Some, None, sym, ◌∙◌, refl, subst, arith}
 use Rattle.std.specs.Prelude.{IsTrue}
 use Rattle.refex.specs.Pattern.{Pattern, Starts, Whole, positions}

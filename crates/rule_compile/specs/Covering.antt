@@ -8,7 +8,8 @@ use Rattle.rule_compile.specs.declared.rule.RepoWord.{RepoWord}
 use Rattle.rule_compile.specs.declared.rule.RepoWord.TheVariants as repo
 use Rattle.rule_compile.specs.declared.rule.Rule.{Rule}
 
--- A pattern covers the names that it takes, `CREATOR` standing for the creator's name. One with `CREATOR` covers nothing that nobody created.
+-- A pattern covers the names that it takes, `CREATOR` standing for the creator's name. One with `CREATOR`
+-- covers nothing that nobody created.
 abbrev pub pattern_covers : Patterns → List ℕ → List ℕ → Option (List ℕ) → Bool
 pattern_covers patterns text name None = not (patterns.has_hole text) && patterns.takes text [] name
 pattern_covers patterns text name (Some creator) = patterns.takes text creator name

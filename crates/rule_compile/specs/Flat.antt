@@ -29,14 +29,16 @@ use Rattle.rule_compile.specs.declared.rule.Rule as declared
 use Rattle.rule_compile.specs.declared.rule.UserWord.{UserWord}
 use Rattle.rule_compile.specs.declared.warning.Warning.{Warning}
 
--- What a conf comes to: its rules in order, its warnings, its option lines, and the plain repositories that it names, each once, in order of first mention.
+-- What a conf comes to: its rules in order, its warnings, its option lines, and the plain repositories that
+-- it names, each once, in order of first mention.
 pub record Flat : Type 0 where
   pub rules : List declared.Rule
   pub warnings : List Warning
   pub options : List OptionLine
   pub plain : List (List ℕ)
 
--- What the lines so far come to: the repository words of the current block, if there is one; the flat list; and the texts of patterns, each once.
+-- What the lines so far come to: the repository words of the current block, if there is one; the flat list;
+-- and the texts of patterns, each once.
 pub record State : Type 0 where
   pub block : Option (List RepoWord)
   pub flat : Flat
@@ -247,7 +249,8 @@ abbrev pub and_then : Result State PolicyFault → (State → Result Flat Policy
 and_then (Ok s) next = next s
 and_then (Err e) next = Err e
 
--- What a conf comes to, or its first fault: by what the lines before a place come to, and the lines from there on.
+-- What a conf comes to, or its first fault: by what the lines before a place come to, and the lines from
+-- there on.
 abbrev pub compiled : Patterns → List Placed → ℕ → List Placed → State → Result Flat PolicyFault
 compiled patterns placed place [] s = Ok s.flat
 compiled patterns placed place (p ∷ rest) s = and_then (placed_step patterns placed place p s) (compiled patterns placed (place + 1) rest)

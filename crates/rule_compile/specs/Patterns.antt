@@ -10,7 +10,8 @@ use Rattle.refex.specs.declared.faults.RefexFault.{RefexFault}
 abbrev pub StartsName : List ℕ → List ℕ → List ℕ → Type 0
 StartsName text user name = (p : Pattern) × IsRefex User text p × Starts p user name
 
--- the text is a pattern for names of repositories, and it matches the whole of the name, the creator's name being in its hole
+-- the text is a pattern for names of repositories, and it matches the whole of the name, the creator's name
+-- being in its hole
 abbrev pub TakesName : List ℕ → List ℕ → List ℕ → Type 0
 TakesName text creator name = (p : Pattern) × IsRefex Creator text p × Whole p creator name
 
@@ -18,7 +19,9 @@ TakesName text creator name = (p : Pattern) × IsRefex Creator text p × Whole p
 abbrev pub HasHole : List ℕ → Type 0
 HasHole text = (p : Pattern) × IsRefex Creator text p × IsTrue (has_name p)
 
--- The answers to four questions on texts: why one is no pattern; whether a refex, for a user, starts the name of a ref; whether a pattern, with a creator's name, takes the name of a repository; and whether it has the hole for that name.
+-- The answers to four questions on texts: why one is no pattern; whether a refex, for a user, starts the name
+-- of a ref; whether a pattern, with a creator's name, takes the name of a repository; and whether it has the
+-- hole for that name.
 pub record Patterns : Type 0 where
   pub fault : Hole → List ℕ → Option RefexFault
   pub starts : List ℕ → List ℕ → List ℕ → Bool

@@ -29,7 +29,8 @@ pub record AreRoles (roles : RoleOptions) (lines : List OptionLine) : Type 0 whe
   pub kept : (word : List ℕ) → IsKept (kept_at roles.table word) (role_words lines word) (is_mentioned lines word)
   pub names : (word : List ℕ) → holds roles.names word ≡ is_mentioned lines word
 
--- the table has at one word what was kept of it, with the words of a line behind, and at each other word what it had
+-- the table has at one word what was kept of it, with the words of a line behind, and at each other word what
+-- it had
 pub record PutsAt (old new : RoleOptions) (at : List ℕ) (words : List OptionWord) (line : OptionLine) : Type 0 where
   pub more : OptionWords
   pub option : IsOption more (words ++ words_of_line line)

@@ -20,7 +20,8 @@ abbrev pub begins_with_uppercase : List ℕ → Bool
 begins_with_uppercase [] = false
 begins_with_uppercase (c ∷ cs) = is_ascii_uppercase c
 
--- What a role's name may be: 1 to 64 bytes (`MAX_ROLE_NAME`); upper-case letters, digits and `_`, a letter first; not `CREATOR`.
+-- What a role's name may be: 1 to 64 bytes (`MAX_ROLE_NAME`); upper-case letters, digits and `_`, a letter
+-- first; not `CREATOR`.
 abbrev pub is_role_name : List ℕ → Bool
 is_role_name word =
     nat_le (length word) MAX_ROLE_NAME
@@ -32,7 +33,8 @@ is_role_name word =
 abbrev pub role_key : List ℕ → List ℕ
 role_key word = codes "role." ++ word
 
--- A word is a role for a repository where it is one of the two, or a role's name whose option is in force there: the last line that sets it for the repository sets it to `1`.
+-- A word is a role for a repository where it is one of the two, or a role's name whose option is in force
+-- there: the last line that sets it for the repository sets it to `1`.
 abbrev pub declares : Patterns → List OptionLine → List ℕ → List ℕ → Option (List ℕ) → Bool
 declares patterns lines word name creator = is_common_role word || (is_role_name word && is_in_force patterns lines (role_key word) name creator)
 

@@ -1,4 +1,5 @@
--- What an index holds, and where one that goes through its numbers has come. It serves private functions alone.
+-- What an index holds, and where one that goes through its numbers has come. It serves private functions
+-- alone.
 use Rattle.std.specs.Prelude.{ℕ, suc, ◌≡◌, List, [], ◌∷◌, map, drop, Option, Some, None}
 use Rattle.rule_compile.specs.Covering.{is_all_word, is_pattern_word, is_plain_word, may_cover}
 use Rattle.rule_compile.specs.Index.{numbers, numbers_at, numbers_from, pattern_text}
@@ -23,7 +24,8 @@ pub record IsAt (cursor : Cursor) (words : List RepoWord) (name : List ℕ) (pla
 abbrev pub numbers_left : List RepoWord → List ℕ → ℕ → List ℕ
 numbers_left words name place = numbers_from (may_cover name) (suc place) (drop place words)
 
--- the next number, if there is one, is the first that is left, and the cursor has come to it; without one it stays
+-- the next number, if there is one, is the first that is left, and the cursor has come to it; without one it
+-- stays
 abbrev pub GoesOn : Cursor → List RepoWord → List ℕ → ℕ → Option ℕ → Type 0
 GoesOn new words name place None = (numbers_left words name place ≡ []) × IsAt new words name place
 GoesOn new words name place (Some n) = (numbers_left words name place ≡ n ∷ numbers_left words name n) × IsAt new words name n

@@ -76,7 +76,8 @@ repo_of word = if is_all word then repo.All else named (repo_word word)
 abbrev pub is_plain_pattern : List ℕ → Bool
 is_plain_pattern word = not (is_repo_name word) && not (occurs (codes "CREATOR") word)
 
--- a member of the group of a subconf's name lets it set access for the word: it is the word, or a pattern that matches the whole of it
+-- a member of the group of a subconf's name lets it set access for the word: it is the word, or a pattern
+-- that matches the whole of it
 abbrev pub lets : Patterns → List ℕ → List ℕ → Bool
 lets patterns word member = bytes_eq word member || (is_repo_name word && (is_plain_pattern member && patterns.takes member [] word))
 
@@ -84,7 +85,8 @@ abbrev pub some_lets : Patterns → List ℕ → List (List ℕ) → Bool
 some_lets patterns word [] = false
 some_lets patterns word (m ∷ ms) = lets patterns word (repo_word m) || some_lets patterns word ms
 
--- A subconf sets access for the repository of its name, and for what main lines made a member of the group of its name.
+-- A subconf sets access for the repository of its name, and for what main lines made a member of the group of
+-- its name.
 abbrev pub is_in : Patterns → List Placed → List ℕ → List ℕ → Bool
 is_in patterns placed name word =
     not (is_all word)

@@ -4,7 +4,8 @@ ghost use Rattle.rule_compile.specs.WordIndex.{GoesOn, IsAt};
 ghost use Rattle.rule_compile.specs.declared.rule.RepoWord.{RepoWord};
 ghost use Rattle.rule_compile.specs.Numbers.{after, first_of, left_of, least_of};
 
-/// What is left of three ascending lists of numbers: those of words that are the name, of `@all`, and of patterns.
+/// What is left of three ascending lists of numbers: those of words that are the name, of `@all`, and of
+/// patterns.
 #[derive(Clone, Copy)]
 pub(crate) struct Cursor<'a> {
     pub plain: &'a [u32],

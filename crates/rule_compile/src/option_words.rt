@@ -82,8 +82,8 @@ impl OptionWords {
         Ok(OptionWords { index, on: values })
     }
 
-    /// Whether the last of the words that covers a repository sets the option to `1`. It looks at the words that are the
-    /// repository's name, at `@all` and at patterns.
+    /// Whether the last of the words that covers a repository sets the option to `1`. It looks at the words
+    /// that are the repository's name, at `@all` and at patterns.
     pub(crate) fn is_in_force(&self, repo: &RepoName, creator: Option<&UserName>) -> bool
         ensures { (ps : Patterns) → AreTrue ps → (ds : List OptionWord) → IsOption self.now ds → result ≡ last_on ps repo.now (option_copied creator.entry) false ds }
     {

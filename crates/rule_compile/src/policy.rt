@@ -69,8 +69,9 @@ impl Model for Policy {
 }
 
 impl Policy {
-    /// The rules of a conf, or its first fault. Each distinct text of a pattern is read once, and the members of a group of users once for each scope. It
-    /// costs the lines and the rules, each of which owns copies of its texts.
+    /// The rules of a conf, or its first fault. Each distinct text of a pattern is read once, and the members
+    /// of a group of users once for each scope. It costs the lines and the rules, each of which owns copies
+    /// of its texts.
     pub fn compile(alloc: Global, files: &FileList) -> Result<Policy, PolicyFault>
         ensures { (ps : Patterns) → AreTrue ps → Gives result (flat ps files.now) }
     {
@@ -150,15 +151,16 @@ impl Policy {
         &self.warnings
     }
 
-    /// The rules whose word is the name of a repository, `@all` or a pattern, in the order of their numbers. No other rules
-    /// cost anything.
+    /// The rules whose word is the name of a repository, `@all` or a pattern, in the order of their numbers.
+    /// No other rules cost anything.
     pub fn rules_for<'a>(&'a self, repo: &'a RepoName) -> RulesFor<'a>
         ensures { result ≡ rules_for self.now.rules repo.now }
     {
         RulesFor::new(&self.rules, &self.index, repo)
     }
 
-    /// The numbers of the rules whose word is the name of a repository. A look-up takes the same time however many names there are.
+    /// The numbers of the rules whose word is the name of a repository. A look-up takes the same time however
+    /// many names there are.
     pub fn plain_numbers(&self, repo: &RepoName) -> &[u32]
         ensures { result.now ≡ numbers_of (is_plain_word repo.now) self.now.rules }
     {
@@ -191,8 +193,8 @@ impl Policy {
         }
     }
 
-    /// Whether a rule is for a repository that this user created, or nobody. Before it is there, whoever asks counts as the
-    /// creator.
+    /// Whether a rule is for a repository that this user created, or nobody. Before it is there, whoever asks
+    /// counts as the creator.
     pub fn covers_repo(&self, seq: u32, repo: &RepoName, creator: Option<&UserName>) -> bool
         requires { IsNumber self.now.rules seq }
         ensures { (ps : Patterns) → AreTrue ps → (rule : flat_rule.Rule) → numbered self.now.rules seq ≡ Some rule → result ≡ covers_repo ps rule.repo repo.now (option_copied creator.entry) }
@@ -204,23 +206,25 @@ impl Policy {
         }
     }
 
-    /// Whether the option `deny-rules` is in force for a repository. It looks at the lines that set it for the repository's
-    /// name, for `@all` and for patterns.
+    /// Whether the option `deny-rules` is in force for a repository. It looks at the lines that set it for
+    /// the repository's name, for `@all` and for patterns.
     pub fn deny_rules(&self, repo: &RepoName, creator: Option<&UserName>) -> bool
         ensures { (ps : Patterns) → AreTrue ps → result ≡ deny_rules ps self.now.options repo.now (option_copied creator.entry) }
     {
         self.deny.is_in_force(repo, creator)
     }
 
-    /// Whether a word is a role for a repository. A word that no option line mentions costs a look-up; for one that lines do it looks at those that set its
-    /// option for the repository's name, for `@all` and for patterns.
+    /// Whether a word is a role for a repository. A word that no option line mentions costs a look-up; for
+    /// one that lines do it looks at those that set its option for the repository's name, for `@all` and for
+    /// patterns.
     pub fn declares(&self, role: &[u8], repo: &RepoName, creator: Option<&UserName>) -> bool
         ensures { (ps : Patterns) → AreTrue ps → result ≡ declares ps self.now.options role.now repo.now (option_copied creator.entry) }
     {
         self.roles.declares(role, repo, creator)
     }
 
-    /// The names of roles that option lines mention, each once. Beside the two that every repository has, no other word is a role anywhere.
+    /// The names of roles that option lines mention, each once. Beside the two that every repository has, no
+    /// other word is a role anywhere.
     pub fn mentioned_roles(&self) -> &[Text]
         ensures { (word : List ℕ) → holds result.now word ≡ is_mentioned self.now.options word }
     {

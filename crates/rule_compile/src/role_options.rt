@@ -19,7 +19,8 @@ use conf_lex::{RepoName, TextList, UserName};
 use std::alloc::Global;
 use std::collections::BTreeMap;
 
-/// The roles' names that option lines mention, each once, and for each the words of the lines that set its option.
+/// The roles' names that option lines mention, each once, and for each the words of the lines that set its
+/// option.
 #[derive(Drop)]
 pub(crate) struct RoleOptions {
     pub salt: Salt,
@@ -97,8 +98,8 @@ impl RoleOptions {
         Ok(roles)
     }
 
-    /// Whether a word is a role for a repository. A word that no line mentions costs a look-up; for one that lines do it looks at their words that are the
-    /// repository's name, at `@all` and at patterns.
+    /// Whether a word is a role for a repository. A word that no line mentions costs a look-up; for one that
+    /// lines do it looks at their words that are the repository's name, at `@all` and at patterns.
     pub(crate) fn declares(&self, word: &[u8], repo: &RepoName, creator: Option<&UserName>) -> bool
         ensures { (ps : Patterns) → AreTrue ps → (lines : List option_line.OptionLine) → AreRoles self.now lines → result ≡ declares ps lines word.now repo.now (option_copied creator.entry) }
     {

@@ -11,8 +11,8 @@ use base_types::ItemList;
 use conf_lex::RepoName;
 use std::marker::Model;
 
-/// The rules whose word is the name of a repository, `@all` or a pattern, in the order of their numbers. It takes no
-/// memory, and looks at no other rules.
+/// The rules whose word is the name of a repository, `@all` or a pattern, in the order of their numbers. It
+/// takes no memory, and looks at no other rules.
 #[derive(Drop)]
 pub struct RulesFor<'a> {
     rules: &'a ItemList<Rule>,

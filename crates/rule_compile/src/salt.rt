@@ -3,8 +3,9 @@ use conf_lex::RepoName;
 use sha1::Sha1;
 use std::hash::{BuildHasher, FoldHasher, Hasher};
 
-/// Where the hash of each name in an index begins. It is made by SHA-1 of the names of a conf, so whoever chooses names knows it only once all are
-/// chosen: names that were found to fall together under one salt lie apart under the one that they bring about.
+/// Where the hash of each name in an index begins. It is made by SHA-1 of the names of a conf, so whoever
+/// chooses names knows it only once all are chosen: names that were found to fall together under one salt lie
+/// apart under the one that they bring about.
 #[derive(Clone, Copy)]
 pub(crate) struct Salt {
     initial: FoldHasher,

@@ -46,8 +46,8 @@ impl SharedMembers {
         }
     }
 
-    /// With what a statement of a conf asks for: the members of each group among the users of a rule, and of the group
-    /// that tells what a subconf may set access for.
+    /// With what a statement of a conf asks for: the members of each group among the users of a rule, and of
+    /// the group that tells what a subconf may set access for.
     pub(crate) fn with_placed(
         self,
         alloc: Global,

@@ -20,8 +20,9 @@ use conf_lex::{RepoName, UserName};
 use std::alloc::Global;
 use std::collections::HashMap;
 
-/// A list of repository words, which are numbered from 1: the numbers of those that are a plain name, by that name, of
-/// those that are `@all`, and of those that are patterns; and the pattern at each place where there is one.
+/// A list of repository words, which are numbered from 1: the numbers of those that are a plain name, by that
+/// name, of those that are `@all`, and of those that are patterns; and the pattern at each place where there
+/// is one.
 #[derive(Drop)]
 pub(crate) struct WordIndex {
     pub plain: HashMap<RepoName, ItemList<u32>, Salt>,
@@ -103,7 +104,8 @@ impl WordIndex {
         Ok(index)
     }
 
-    /// The numbers of the words that are this plain name. A look-up takes the same time however many names there are.
+    /// The numbers of the words that are this plain name. A look-up takes the same time however many names
+    /// there are.
     pub(crate) fn numbers_of_name(&self, name: &RepoName) -> &[u32]
         ensures { result.now ≡ numbers_at self.now.plain name.now }
     {

@@ -334,7 +334,8 @@ module _ (ps : Patterns) where
   then_ok (Ok s) next f e = (s, refl, e)
   then_ok (Err k) next f e = absurd (let bad : Err k ≡ Ok f = e in cc)
 
-  -- What holds of the places so far and of what they came to, and is kept by one place more, holds of all places.
+  -- What holds of the places so far and of what they came to, and is kept by one place more, holds of all
+  -- places.
   module _ (placed : List Placed) (Holds : List Placed → State → Type 0)
       (step : (lines : List Placed) (p : Placed) (rest : List Placed) (s t : State) → placed ≡ lines ++ p ∷ rest → Holds lines s → placed_step ps placed (length lines) p s ≡ Ok t → Holds (lines ++ p ∷ []) t) where
     pub by_places : (rest lines : List Placed) (s : State) (f : Flat) → placed ≡ lines ++ rest → Holds lines s → compiled ps placed (length lines) rest s ≡ Ok f

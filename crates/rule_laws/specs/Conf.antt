@@ -1,4 +1,5 @@
--- A conf in its own words: what a subconf may set access for, blocks of lines, the words of lines, and the rules of a line.
+-- A conf in its own words: what a subconf may set access for, blocks of lines, the words of lines, and the
+-- rules of a line.
 use Rattle.std.specs.Prelude.{ℕ, List, [], ◌∷◌, ◌++◌, ◌≡◌, ◌↔◌, ◌⊎◌, Bool, true, false, codes, Contains}
 use Rattle.std.specs.List.{list_all}
 use Rattle.conf_lex.specs.Names.{is_repo_name, occurs}
@@ -53,11 +54,13 @@ MaySet placed (Sub subconf) word = IsInside placed subconf word
 abbrev pub IsBehind : List Placed → List Placed → PlacedLine → Type 0
 IsBehind placed before line = (after : List Placed) × (placed ≡ before ++ at.Line line ∷ after)
 
--- the word of an `include` or a `subconf` line names the file: it is its name, or has `*` and fits the whole of it
+-- the word of an `include` or a `subconf` line names the file: it is its name, or has `*` and fits the whole
+-- of it
 abbrev pub Names : List ℕ → List ℕ → Type 0
 Names word file = ((has_star word ≡ false) × (file ≡ word)) ⊎ ((has_star word ≡ true) × (fits word file ≡ true))
 
--- what a line says splices the file, in the scope: an `include` in its own scope, a `subconf` of the main file in the file's scope
+-- what a line says splices the file, in the scope: an `include` in its own scope, a `subconf` of the main
+-- file in the file's scope
 abbrev pub Splices : Scope → Statement → List ℕ → Scope → Type 0
 Splices its (Include word) file scope = Names word file × (scope ≡ its)
 Splices its (Subconf word) file scope = Names word file × (scope ≡ Sub (scope_of file)) × (its ≡ Main)
@@ -98,11 +101,13 @@ StandsFor true lines scope word text = IsMember text lines word scope
 abbrev pub IsMeant : (List ℕ → Bool) → List Placed → Scope → List (List ℕ) → List ℕ → Type 0
 IsMeant is_group lines scope words text = (word : List ℕ) × Contains words word × StandsFor (is_group word) lines scope word text
 
--- One of the words of a `repo` line, for which the line's scope may set access. Groups are for their members by all lines.
+-- One of the words of a `repo` line, for which the line's scope may set access. Groups are for their members
+-- by all lines.
 abbrev pub HasWord : List Placed → Scope → List (List ℕ) → RepoWord → Type 0
 HasWord placed scope words word = (text : List ℕ) × IsMeant is_repo_group placed scope words text × (word ≡ repo_of text) × MaySet placed scope word
 
--- One of the refexes of a line, with its prefix. Groups are for their members by the lines before. A line without refexes is for all refs.
+-- One of the refexes of a line, with its prefix. Groups are for their members by the lines before. A line
+-- without refexes is for all refs.
 abbrev pub HasRefex : List Placed → Scope → List (List ℕ) → List ℕ → Type 0
 HasRefex before scope [] refex = refex ≡ codes "refs/.*"
 HasRefex before scope (word ∷ words) refex = (text : List ℕ) × IsMeant is_group before scope (word ∷ words) text × (refex ≡ with_prefix text)
@@ -117,7 +122,8 @@ HasUser placed scope words user = (word : List ℕ) × Contains words word × (u
 abbrev pub IsAt : declared.Rule → PlacedLine → Type 0
 IsAt rule line = (rule.file ≡ line.file) × (rule.line ≡ line.line)
 
--- The rule is one of the rule line behind these: for a repository word of its block, one of its refexes and one of its user words, with its permission and its place.
+-- The rule is one of the rule line behind these: for a repository word of its block, one of its refexes and
+-- one of its user words, with its permission and its place.
 pub record IsOfLine (placed before : List Placed) (line : PlacedLine) (rule : declared.Rule) : Type 0 where
   pub refexes : List (List ℕ)
   pub users : List (List ℕ)
@@ -139,7 +145,8 @@ abbrev pub is_option : Placed → Bool
 is_option at.EndOfBlock = false
 is_option (at.Line line) = says_option line.statement
 
--- The option is that of the option line behind these: for the repository words of its block. The line's scope may set access for each of them.
+-- The option is that of the option line behind these: for the repository words of its block. The line's scope
+-- may set access for each of them.
 pub record IsOption (placed before : List Placed) (line : PlacedLine) (option : OptionLine) : Type 0 where
   pub says : line.statement ≡ Opt option.key option.value
   pub block : Block before

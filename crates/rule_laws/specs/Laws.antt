@@ -18,7 +18,8 @@ use Rattle.rule_compile.specs.declared.rule.Rule.{Rule}
 use Rattle.rule_compile.specs.declared.warning.Warning.{Warning}
 use Rattle.rule_laws.specs.Conf.{Block, HasScope, HasWord, IsAt, IsBehind, IsInside, IsMeant, IsOfLine, IsOption, MaySet, is_option}
 
--- It holds of each conf that compiles: of its lines in their order, and of what they come to by true answers about patterns.
+-- It holds of each conf that compiles: of its lines in their order, and of what they come to by true answers
+-- about patterns.
 abbrev pub OfEachConf : (List Placed → Flat → Type 0) → Type 0
 OfEachConf holds =
     (patterns : Patterns) (files : List ConfFile) (placed : List Placed) (conf : Flat) → AreTrue patterns → spliced files ≡ Ok placed → flat patterns files ≡ Ok conf
@@ -41,7 +42,8 @@ LinesGiveRules = OfEachConf (λ placed conf.
 abbrev pub OptionsAreOfLines : Type 0
 OptionsAreOfLines = OfEachConf (λ placed conf. (option : OptionLine) → Contains conf.options option → (before : List Placed) × (line : PlacedLine) × IsBehind placed before line × IsOption placed before line option)
 
--- Each option line gives an option, in the order of lines: as many are before it as there are option lines before the line.
+-- Each option line gives an option, in the order of lines: as many are before it as there are option lines
+-- before the line.
 abbrev pub LinesGiveOptions : Type 0
 LinesGiveOptions = OfEachConf (λ placed conf.
     (before : List Placed) (line : PlacedLine) (key value : List ℕ) → IsBehind placed before line → line.statement ≡ Opt key value

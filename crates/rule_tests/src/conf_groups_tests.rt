@@ -1,10 +1,12 @@
-//! Confs of as many lines, bytes and files as a conf may have, and of more. Rows without such numbers are those of the program `access_rows`.
+//! Confs of as many lines, bytes and files as a conf may have, and of more. Rows without such numbers are
+//! those of the program `access_rows`.
 
 use conf_groups::{ConfFile, FileList, Text, expand, hold_laws};
 use std::alloc::Global;
 use std::test::Fail;
 
-// How many line feeds the main file begins with, and its end; how many `#` the file `b` has; and what comes of it.
+// How many line feeds the main file begins with, and its end; how many `#` the file `b` has; and what comes
+// of it.
 static LIMITS: [(usize, &str, usize, &str); 11] = [
     (65_536, "", 0, "65536"),
     (65_537, "", 0, "gitolite.conf line 65537: too long"),
@@ -29,8 +31,8 @@ static LIMITS: [(usize, &str, usize, &str); 11] = [
     (0, "", 67_108_865, "gitolite.conf line 0: too long"),
 ];
 
-// How many files there are beside the main file, whether that is there, how long the name of the first is, and what
-// comes of it where the main file includes all.
+// How many files there are beside the main file, whether that is there, how long the name of the first is,
+// and what comes of it where the main file includes all.
 static FILES: [(usize, bool, usize, &str); 6] = [
     (999, true, 3, "1000"),
     (1000, true, 3, "gitolite.conf line 0: too long"),

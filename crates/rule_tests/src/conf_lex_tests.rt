@@ -201,7 +201,8 @@ static PERMISSIONS: [(&str, &str); 41] = [
     ("RW+CDM ", ""),
 ];
 
-// What is left of a text from which parts are taken, one behind the other; none where a part isn't next in it.
+// What is left of a text from which parts are taken, one behind the other; none where a part isn't next in
+// it.
 #[derive(Clone, Copy)]
 struct Rest<'a> {
     left: Option<&'a [u8]>,
@@ -339,7 +340,8 @@ fn with_letters(alloc: Global, front: &str, count: usize) -> Result<Vec<u8>, All
     Ok(out)
 }
 
-// The beginning of a line, how many letters follow it, and the text of its fault; without one the line says itself.
+// The beginning of a line, how many letters follow it, and the text of its fault; without one the line says
+// itself.
 static LONG_WORDS: [(&str, usize, &str); 5] = [
     ("repo ", 1024, ""),
     ("repo ", 1025, "bad word at 5"),

@@ -1,4 +1,6 @@
-//! Tests of `refex`, `conf_lex`, `shell_words`, `conf_groups`, `wild_perms`, `rule_compile`, `conf_check`, `setup_conf`, `policy_swap` and `update_check`, by what is public there. They are one crate, since each crate of tests proves anew how values of the types that it uses are dropped.
+//! Tests of `refex`, `conf_lex`, `shell_words`, `conf_groups`, `wild_perms`, `rule_compile`, `conf_check`,
+//! `setup_conf`, `policy_swap` and `update_check`, by what is public there. They are one crate, since each
+//! crate of tests proves anew how values of the types that it uses are dropped.
 #![tactic(auto)]
 
 #[cfg(test)]

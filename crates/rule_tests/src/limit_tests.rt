@@ -5,7 +5,8 @@ use rule_compile::{ConfFile, FileList, Policy, PolicyFault, RuleFault, RuleKind,
 use std::alloc::Global;
 use std::test::Fail;
 
-// How many repositories, refexes and users one rule line has, and how many rules they come to, if not too many.
+// How many repositories, refexes and users one rule line has, and how many rules they come to, if not too
+// many.
 static LIMITS: [(u32, u32, u32, Option<usize>); 4] = [
     (100, 10, 100, Some(100_000)),
     (100, 10, 101, None),

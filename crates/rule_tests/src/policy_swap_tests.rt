@@ -1,4 +1,5 @@
-//! Confs at ids of every kind, as no push brings them too. Confs with each kind of entry, and at their limits, are pushed by `front/tests/conf_tree_tests.py`.
+//! Confs at ids of every kind, as no push brings them too. Confs with each kind of entry, and at their
+//! limits, are pushed by `front/tests/conf_tree_tests.py`.
 
 use git_object::{Kind, MAX_BODY, Object, ObjectList};
 use policy_swap::{
@@ -20,7 +21,8 @@ static OBJECTS: [(Kind, &[Part]); 33] = [
     (Kind::Blob, &[("repo wiki\n    RX = ann\n", 0)]),
     // 6: the empty tree
     (Kind::Tree, &[]),
-    // 7 to 10: a good main file, one with a fault at a line, one whose id names a tree, one whose id names nothing
+    // 7 to 10: a good main file, one with a fault at a line, one whose id names a tree, one whose id names
+    // nothing
     (Kind::Tree, &[("100644 gitolite.conf\0", 4)]),
     (Kind::Tree, &[("100644 gitolite.conf\0", 5)]),
     (Kind::Tree, &[("100644 gitolite.conf\0", 6)]),
@@ -46,7 +48,8 @@ static OBJECTS: [(Kind, &[Part]); 33] = [
         Kind::Tree,
         &[("40000 x\0", 12), ("40000 y\0", 12), ("40000 z\0", 2)],
     ),
-    // 15 to 23: the roots of commits; in the last three `conf` is a file, a link, and a folder that names no tree
+    // 15 to 23: the roots of commits; in the last three `conf` is a file, a link, and a folder that names no
+    // tree
     (Kind::Tree, &[("40000 conf\0", 7)]),
     (Kind::Tree, &[("40000 conf\0", 8)]),
     (Kind::Tree, &[("40000 conf\0", 9)]),

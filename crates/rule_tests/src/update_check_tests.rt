@@ -12,7 +12,8 @@ use update_check::{
 };
 use vref::facts_of;
 
-// Objects are numbered: 0 is zero, 1 and 2 are these blobs, then come trees, commits, two commits of deep trees, and a tag.
+// Objects are numbered: 0 is zero, 1 and 2 are these blobs, then come trees, commits, two commits of deep
+// trees, and a tag.
 static BLOBS: [&str; 2] = ["one", "two"];
 
 // The entries of trees: the tree, a mode, a name, and what it names. Tree 3 is empty.
@@ -355,7 +356,8 @@ fn is_told(
 // Who changes which ref, from which object to which.
 type Change = (&'static str, &'static str, usize, usize);
 
-// The conf, the repository, the change, and the text of the refusal that is due, which is empty where there is none.
+// The conf, the repository, the change, and the text of the refusal that is due, which is empty where there
+// is none.
 type Row = (&'static str, &'static str, Change, &'static str);
 
 fn command_of(rt: &impl Abort, alloc: Global, ids: &[ObjectId], change: Change) -> Command {
@@ -367,7 +369,8 @@ fn command_of(rt: &impl Abort, alloc: Global, ids: &[ObjectId], change: Change) 
     }
 }
 
-// Why a change isn't let be made, if it isn't, asked twice of one check: what is said of paths is kept for the second time.
+// Why a change isn't let be made, if it isn't, asked twice of one check: what is said of paths is kept for
+// the second time.
 fn refusals_of(
     rt: &impl Abort,
     alloc: Global,

@@ -5,8 +5,8 @@ use std::process::Abort;
 use std::test::Fail;
 use wild_perms::{PermsAnswer, RoleEntry, UserName, Wild};
 
-// Who asks; what is asked, as in a session, and of which role and user (of a listing neither counts); the answer's number; and what is listed, each entry a
-// role and a user with a space between and a comma behind.
+// Who asks; what is asked, as in a session, and of which role and user (of a listing neither counts); the
+// answer's number; and what is listed, each entry a role and a user with a space between and a comma behind.
 type Row = (
     &'static str,
     &'static str,

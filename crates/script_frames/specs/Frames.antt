@@ -33,7 +33,8 @@ AreBodies (body ∷ bodies) = (length body ≤ largest_body) × AreBodies bodies
 abbrev pub BeginsNoFrame : List ℕ → List ℕ → Type 0
 BeginsNoFrame word input = (body more : List ℕ) → length body ≤ largest_body → input ≡ frame_text word body ++ more → ⊥
 
--- An input as a script: the bodies of the frames that stand at its front, one after the other, and what follows them, which begins with no frame.
+-- An input as a script: the bodies of the frames that stand at its front, one after the other, and what
+-- follows them, which begins with no frame.
 pub record IsScript (word input : List ℕ) (bodies : List (List ℕ)) (rest : List ℕ) : Type 0 where
   pub frames : input ≡ flat_map (frame_text word) bodies ++ rest
   pub small : AreBodies bodies

@@ -18,7 +18,8 @@ pub record FailsAfter (old new : LinkState) (part : List ℕ) : Type 0 where
   pub risen : HasRisen old.read_faults new.read_faults
   pub may_fail : IsTrue old.may_fail
 
--- what follows in an input that a source tells to be left; where it doesn't tell, the input is taken to end here
+-- what follows in an input that a source tells to be left; where it doesn't tell, the input is taken to end
+-- here
 abbrev pub IsRest : Option (List ℕ) → List ℕ → Type 0
 IsRest None rest = rest ≡ []
 IsRest (Some left) rest = rest ≡ left
@@ -44,7 +45,8 @@ abbrev pub TakesLine : LinkState → LinkState → Option (List ℕ) → Type 0
 TakesLine old new (Some line) = Takes old new (line ++ 10 ∷ []) × HasNoFeed line × (length line ≤ 17)
 TakesLine old new None = Takes old new [] × IsAtEnd new.left
 
--- Bytes without a line feed: one more than the first line of a frame has, or as many at most and all that are left.
+-- Bytes without a line feed: one more than the first line of a frame has, or as many at most and all that are
+-- left.
 pub record TakesNoLine (old new : LinkState) : Type 0 where
   pub part : List ℕ
   pub takes : Takes old new part
@@ -115,8 +117,8 @@ pub record TakesFrame (word : List ℕ) (old new : LinkState) (taken : ℕ) (bod
 abbrev pub IsInBody : List ℕ → List ℕ → Type 0
 IsInBody word part = (size : ℕ) × (body : List ℕ) × (size ≤ largest_body) × (part ≡ head_text word size ++ 10 ∷ body) × (length body ≤ size)
 
--- More is wanted behind this part, which ends inside a frame: it is a line without its line feed that isn't too long for a first one, perhaps empty and
--- perhaps none of a frame; or it ends behind a good first line.
+-- More is wanted behind this part, which ends inside a frame: it is a line without its line feed that isn't
+-- too long for a first one, perhaps empty and perhaps none of a frame; or it ends behind a good first line.
 abbrev pub WantsMore : List ℕ → List ℕ → Type 0
 WantsMore word part = (HasNoFeed part × (length part ≤ 17)) ⊎ IsInBody word part
 

@@ -160,8 +160,9 @@ fn read_body<S: Source>(alloc: Global, source: &mut S, size: usize) -> Result<Ve
     Ok(body)
 }
 
-/// The frame of a word, which has its space, that stands at the front of the source, or `None` at the end of the input. No byte behind the frame's last
-/// line feed is taken, and the memory that is taken grows with the bytes that come.
+/// The frame of a word, which has its space, that stands at the front of the source, or `None` at the end of
+/// the input. No byte behind the frame's last line feed is taken, and the memory that is taken grows with the
+/// bytes that come.
 pub fn read_frame<S: Source>(
     alloc: Global,
     word: &[u8],

@@ -4,6 +4,8 @@ pub mod LinkLemmas
 pub mod StepLemmas
 pub mod LineLemmas
 pub mod RulebookLemmas
+pub mod GateLemmas
 pub mod OpeningLemmas
 pub mod OrderLemmas
 pub mod AskLemmas
+pub mod PartLemmas

@@ -1,6 +1,7 @@
 -- An opening's entry, and what it pins.
 use Rattle.std.proofs.Common.{◌≡◌, List, [], ◌∷◌, ◌++◌, length, Some, Result, Ok, codes, refl, sym, ◌∙◌, ap, subst}
 use Rattle.pktline_core.specs.LinkState.{LinkState}
+use Rattle.rule_compile.specs.declared.rule.Rule.{Rule}
 use Rattle.rule_compile.specs.Flat.{Flat}
 use Rattle.rule_compile.specs.Patterns.{AreTrue, Patterns}
 use Rattle.access_check.specs.Verdicts.{rule_of}
@@ -19,7 +20,7 @@ use Rattle.hub_history.specs.History.{IsLegal, Stands, history, opening_at, repl
 use Rattle.hub.specs.Answer.{kept}
 use Rattle.hub.specs.Desk.{DeskView, Enters, MakesEntry}
 use Rattle.hub_history.proofs.HistoryLemmas.{opening_at-place}
-use Rattle.interaction_tree.specs.Interaction.{Interaction, gives, ask}
+use Rattle.interaction_tree.specs.Interaction.{Interaction, gives, ask, ◌>>=◌}
 use Rattle.hub_history.specs.Requests.{Enter}
 use Rattle.interaction_tree.specs.Requests.{OwnEntry}
 use Rattle.interaction_tree.specs.Traces.{Halt}
@@ -28,7 +29,7 @@ use Rattle.interaction_tree.proofs.RunLemmas.{runs_gives}
 use Rattle.interaction_tree.proofs.StepLemmas.{runs_entered}
 use Rattle.session_core.specs.declared.end.SessionEnd.{SessionEnd}
 use Rattle.session_core.specs.Denials.{denial, open_text}
-use Rattle.session_core.specs.Opening.{by_answer, entering, opening_behind, recorded_answer}
+use Rattle.session_core.specs.Opening.{StandsSomewhere, entering, opened_by, opening, opening_behind, recorded_answer, unless_refused}
 use Rattle.session_core.specs.Packets.{refuse}
 use Rattle.session_core.specs.Rulebook.{IsRulebook, Rulebook, RunsByRulebook}
 use Rattle.session_core.proofs.RulebookLemmas.{bind_by, rules_here, runs_always, runs_told}
@@ -39,11 +40,15 @@ use Rattle.access_check.specs.declared.verdicts.Verdict.{Verdict}
 abbrev pub own_at : DeskView → List Entry → Name → Name → Want → EnterKept → OwnEntry
 own_at d before user repo want answer = record { before = before; entry = record { caller = d.caller; event = Entered user repo want answer } }
 
+-- what a session does by the answer of an opening
+abbrev pub by_answer : List Rule → Name → Name → Want → EnterKept → Opening → Interaction SessionEnd Opening
+by_answer rules user repo want answer opening = unless_refused user repo want (opened_by rules answer opening)
+
 -- an opening's entry, and the rest by its answer
 pub entered_then : (a c : LinkState) (d e : DeskView) (user repo : Name) (want : Want) (result : hub_entered.Entered) (answer : EnterKept) (out : Result Opening (Halt SessionEnd)) → kept result ≡ Some answer → (enters : Enters d e user repo want result)
     → RunsByRulebook a c e e (λ book. by_answer (book.rules (length enters.0)).rules user repo want answer (opening_behind d.admin (own_at d enters.0 user repo want answer) user repo want)) out
     → RunsByRulebook a c d e (λ book. entering book d.admin user repo want) out
-unfolding entering
+unfolding entering opening ask ◌>>=◌
 entered_then a c d e user repo want result answer out is enters rest =
     bind_by a a d e (λ book. ask (Enter user repo want))
     (λ book own. by_answer (book.rules (length own.before)).rules user repo want (recorded_answer own.entry.event) (opening_behind d.admin own user repo want)) c e (own_at d enters.0 user repo want answer) out
@@ -96,6 +101,10 @@ legal_after d e before entry makes = subst (λ (v : DeskView). IsLegal v.admin v
 pub short_after : NamesStayShort → (d e : DeskView) (before : List Entry) (entry : Entry) (pin : Opening) → MakesEntry d e before entry → Stands pin e.admin e.seen → HasShortNames pin.pinned.repository.refs
 short_after short d e before entry pin makes stands = (short e.admin e.seen (legal_after d e before entry makes)).1 pin stands
 
+-- the pin stands in a log which is legal
+pub stands_after : (d e : DeskView) (before : List Entry) (entry : Entry) (pin : Opening) → MakesEntry d e before entry → Stands pin e.admin e.seen → StandsSomewhere pin
+stands_after d e before entry pin makes stands = (e.admin, e.seen, legal_after d e before entry makes, stands)
+
 -- a desk's rulebook is that of the log up to the entry that it made
 pub rulebook_at : (d e : DeskView) (before : List Entry) (entry : Entry) (book : Rulebook) → MakesEntry d e before entry → IsRulebook e.admin e.seen book → IsRulebook d.admin (before ++ entry ∷ []) book
 rulebook_at d e before entry book makes of = subst (λ (v : DeskView). IsRulebook v.admin v.seen book) makes.new_is of
@@ -112,12 +121,12 @@ rules_before one d e before entry book conf rules makes is same force =
 pub granted_then : (a : LinkState) (d e : DeskView) (user repo : Name) (want : Want) (pin : Opening) → Enters d e user repo want (hub_entered.TheVariants.Granted pin) → RunsByRulebook a a d e (λ book. entering book d.admin user repo want) (Ok pin)
 granted_then a d e user repo want pin enters =
     entered_then a a d e user repo want (hub_entered.TheVariants.Granted pin) Granted (Ok pin) refl enters
-    (subst (λ (o : Opening). RunsByRulebook a a e e (λ book. gives o) (Ok pin)) (pin_granted d e user repo want pin enters) (runs_always a a e e (gives pin) (Ok pin) (runs_gives a e pin)))
+    (subst (λ (o : Opening). RunsByRulebook {E = SessionEnd} a a e e (λ book. gives o) (Ok pin)) (pin_granted d e user repo want pin enters) (runs_always a a e e (gives pin) (Ok pin) (runs_gives a e pin)))
 
 pub created_then : (a : LinkState) (d e : DeskView) (user repo : Name) (want : Want) (pin : Opening) → Enters d e user repo want (hub_entered.TheVariants.Created pin) → RunsByRulebook a a d e (λ book. entering book d.admin user repo want) (Ok pin)
 created_then a d e user repo want pin enters =
     entered_then a a d e user repo want (hub_entered.TheVariants.Created pin) Created (Ok pin) refl enters
-    (subst (λ (o : Opening). RunsByRulebook a a e e (λ book. gives o) (Ok pin)) (pin_created d e user repo want pin enters) (runs_always a a e e (gives pin) (Ok pin) (runs_gives a e pin)))
+    (subst (λ (o : Opening). RunsByRulebook {E = SessionEnd} a a e e (λ book. gives o) (Ok pin)) (pin_created d e user repo want pin enters) (runs_always a a e e (gives pin) (Ok pin) (runs_gives a e pin)))
 
 module _ (a c : LinkState) (d e : DeskView) (user repo : Name) (want : Want) (out : Result Opening (Halt SessionEnd)) where
   -- a denial is told by the rules in force, which are the conf's

@@ -1,13 +1,9 @@
 -- No entry is made between what is written and what is read next.
-use Rattle.std.proofs.Common.{◌≡◌, ℕ, Bool, false, List, length, Result, Ok, Err, refl}
+use Rattle.std.proofs.Common.{◌≡◌, ℕ, Bool, false, length, Result, Ok, Err, refl}
 use Rattle.pktline_core.specs.Packets as packets
 use Rattle.pktline_core.specs.declared.packets.PktFault.{PktFault}
-use Rattle.rule_compile.specs.declared.rule.Rule.{Rule}
 use Rattle.access_check.specs.declared.verdicts.Want.{Want}
-use Rattle.hub_history.specs.declared.entry.EnterKept.{EnterKept}
-use Rattle.hub_history.specs.declared.entry.EnterKept.TheVariants as answer
 use Rattle.ref_store.specs.Refs.{Name}
-use Rattle.hub_history.specs.Opening.{Opening}
 use Rattle.interaction_tree.specs.Interaction.{◌>>=◌, write, read, ask}
 use Rattle.interaction_tree.specs.Order.{EntriesFirst}
 use Rattle.interaction_tree.proofs.OrderLemmas.{order_then}
@@ -15,7 +11,7 @@ use Rattle.session_core.specs.declared.first_packet.FirstLine.{FirstLine}
 use Rattle.session_core.specs.declared.first_packet.FirstLine.TheVariants.{Asks, BadCommand, BadUser}
 use Rattle.session_core.specs.FirstPacket.{first_line, without_feed}
 use Rattle.session_core.specs.Asking.{asked_in, asked_in_line, asking, bad_command}
-use Rattle.session_core.specs.Opening.{by_answer, entering, opening_behind, recorded_answer}
+use Rattle.session_core.specs.Opening.{Opened, LetIn, Refused, Absent, entering, opened_by, opening, opening_behind, recorded_answer, unless_refused}
 use Rattle.session_core.specs.Rulebook.{Rulebook}
 use Rattle.session_core.specs.Packets.{malformed, next_packet, packet_in, refuse}
 
@@ -50,14 +46,13 @@ order_asking offset =
     order_then false (next_packet offset) _ ReadLast ReadLast (order_next false offset)
     (λ w next last. rw last (order_then false (asked_in next.0) _ ReadLast ReadLast (order_asked_in next.0) (λ w' asked last'. last')))
 
-order_by_answer : (rules : List Rule) (user repo : Name) (want : Want) (k : EnterKept) (opening : Opening) → EntriesFirst false (by_answer rules user repo want k opening) ReadLast
+order_unless_refused : (user repo : Name) (want : Want) (opened : Opened) → EntriesFirst false (unless_refused user repo want opened) ReadLast
 unfolding EntriesFirst ◌>>=◌ write refuse ReadLast
-order_by_answer rules user repo want answer.Granted opening = refl
-order_by_answer rules user repo want answer.Created opening = refl
-order_by_answer rules user repo want (answer.Denied verdict) opening = tt
-order_by_answer rules user repo want answer.NoRepo opening = tt
+order_unless_refused user repo want (LetIn opening) = refl
+order_unless_refused user repo want (Refused rule) = tt
+order_unless_refused user repo want Absent = tt
 
 pub order_entering : (book : Rulebook) (admin user repo : Name) (want : Want) → EntriesFirst false (entering book admin user repo want) ReadLast
-unfolding EntriesFirst ◌>>=◌ ask entering
+unfolding EntriesFirst ◌>>=◌ ask entering opening
 order_entering book admin user repo want =
-    (refl, λ own. order_by_answer (book.rules (length own.before)).rules user repo want (recorded_answer own.entry.event) (opening_behind admin own user repo want))
+    (refl, λ own. order_unless_refused user repo want (opened_by (book.rules (length own.before)).rules (recorded_answer own.entry.event) (opening_behind admin own user repo want)))

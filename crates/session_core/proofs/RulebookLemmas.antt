@@ -73,9 +73,9 @@ rulebook_before d e book grown is =
 -- ---- code that runs an interaction by the rules
 
 -- code that ran one which is, by each rulebook, the interaction
-pub runs_told : {A : Type 0} (a b : LinkState) (d e : DeskView) (s : Interaction SessionEnd A) (t : Rulebook → Interaction SessionEnd A) (out : Result A (Halt SessionEnd)) → Runs a b d e s out
+pub runs_told : {E A : Type 0} (a b : LinkState) (d e : DeskView) (s : Interaction E A) (t : Rulebook → Interaction E A) (out : Result A (Halt E)) → Runs a b d e s out
     → ((book : Rulebook) → IsRulebook e.admin e.seen book → s ≡ t book) → RunsByRulebook a b d e t out
-runs_told {A} a b d e s t out ran same = record {
+runs_told {E} {A} a b d e s t out ran same = record {
   read = ran.read;
   written = ran.written;
   own = ran.own;
@@ -83,17 +83,17 @@ runs_told {A} a b d e s t out ran same = record {
   counted = ran.counted;
   appended = ran.appended;
   made = ran.made;
-  trace = λ book of. subst (λ (u : Interaction SessionEnd A). IsTrace b.left out u ran.read ran.written ran.own) (same book of) ran.trace;
+  trace = λ book of. subst (λ (u : Interaction E A). IsTrace b.left out u ran.read ran.written ran.own) (same book of) ran.trace;
   later = ran.later;
   caused = ran.caused;
 }
 
 -- one that goes by no rules
-pub runs_always : {A : Type 0} (a b : LinkState) (d e : DeskView) (t : Interaction SessionEnd A) (out : Result A (Halt SessionEnd)) → Runs a b d e t out → RunsByRulebook a b d e (λ book. t) out
+pub runs_always : {E A : Type 0} (a b : LinkState) (d e : DeskView) (t : Interaction E A) (out : Result A (Halt E)) → Runs a b d e t out → RunsByRulebook a b d e (λ book. t) out
 runs_always a b d e t out ran = runs_told a b d e t (λ book. t) out ran (λ book of. refl)
 
 -- memory may lack anywhere
-pub memory_by : {A : Type 0} (a : LinkState) (d : DeskView) (t : Rulebook → Interaction SessionEnd A) → RunsByRulebook a a d d t (Err (Failed Memory))
+pub memory_by : {E A : Type 0} (a : LinkState) (d : DeskView) (t : Rulebook → Interaction E A) → RunsByRulebook a a d d t (Err (Failed Memory))
 memory_by a d t = record {
   read = [];
   written = [];
@@ -112,7 +112,7 @@ pub lacks_by : {A : Type 0} (a : LinkState) (d : DeskView) (t : Rulebook → Int
 lacks_by {A} a d t r is = told_as end.NoMemory (λ (r : Result A SessionEnd). RunsByRulebook a a d d t (outcome_of r)) (memory_by a d t) r is
 
 -- by one rulebook
-pub runs_by : {A : Type 0} (a b : LinkState) (d e : DeskView) (t : Rulebook → Interaction SessionEnd A) (out : Result A (Halt SessionEnd)) (book : Rulebook) → IsRulebook e.admin e.seen book → RunsByRulebook a b d e t out → Runs a b d e (t book) out
+pub runs_by : {E A : Type 0} (a b : LinkState) (d e : DeskView) (t : Rulebook → Interaction E A) (out : Result A (Halt E)) (book : Rulebook) → IsRulebook e.admin e.seen book → RunsByRulebook a b d e t out → Runs a b d e (t book) out
 runs_by a b d e t out book of ran = record {
   read = ran.read;
   written = ran.written;
@@ -126,26 +126,26 @@ runs_by a b d e t out book of ran = record {
   caused = ran.caused;
 }
 
-made_more : (a b c : DeskView) (xs ys : List OwnEntry) → MakesAll a b xs → MakesAll b c ys → MakesAll a c (xs ++ ys)
+pub made_more : (a b c : DeskView) (xs ys : List OwnEntry) → MakesAll a b xs → MakesAll b c ys → MakesAll a c (xs ++ ys)
 made_more a b c [] ys p q = rw (sym p) q
 made_more a b c (x ∷ xs) ys p q = (p.0, p.1, made_more p.0 b c xs ys p.2 q)
 
-caused_later : {A : Type 0} (a b c : LinkState) (out : Result A (Halt SessionEnd)) → IsLater a b → IsCaused b c out → IsCaused a c out
+caused_later : {E A : Type 0} (a b c : LinkState) (out : Result A (Halt E)) → IsLater a b → IsCaused b c out → IsCaused a c out
 caused_later a b c (Ok x) later h = tt
 caused_later a b c (Err (Ended e)) later h = tt
 caused_later a b c (Err (Failed Reading)) later h = (risen_later a.read_faults b.read_faults c.read_faults later.read_faults h.0, rw later.may_fail at h.1)
 caused_later a b c (Err (Failed Writing)) later h = (risen_later a.write_faults b.write_faults c.write_faults later.write_faults h.0, rw later.may_fail at h.1)
 caused_later a b c (Err (Failed Memory)) later h = tt
 
-caused_halt : (A B : Type 0) (a b : LinkState) (halt : Halt SessionEnd) → IsCaused {A = A} a b (Err halt) → IsCaused {A = B} a b (Err halt)
+caused_halt : {E : Type 0} (A B : Type 0) (a b : LinkState) (halt : Halt E) → IsCaused {A = A} a b (Err halt) → IsCaused {A = B} a b (Err halt)
 caused_halt A B a b (Ended e) h = tt
 caused_halt A B a b (Failed Reading) h = h
 caused_halt A B a b (Failed Writing) h = h
 caused_halt A B a b (Failed Memory) h = tt
 
-module _ {A B : Type 0} (a b : LinkState) (d e : DeskView) (t : Rulebook → Interaction SessionEnd A) (k : Rulebook → A → Interaction SessionEnd B) where
+module _ {E A B : Type 0} (a b : LinkState) (d e : DeskView) (t : Rulebook → Interaction E A) (k : Rulebook → A → Interaction E B) where
   -- one, and then another
-  pub bind_by : (c : LinkState) (f : DeskView) (x : A) (out : Result B (Halt SessionEnd)) → RunsByRulebook a b d e t (Ok x) → RunsByRulebook b c e f (λ book. k book x) out → RunsByRulebook a c d f (λ book. t book >>= k book) out
+  pub bind_by : (c : LinkState) (f : DeskView) (x : A) (out : Result B (Halt E)) → RunsByRulebook a b d e t (Ok x) → RunsByRulebook b c e f (λ book. k book x) out → RunsByRulebook a c d f (λ book. t book >>= k book) out
   bind_by c f x out p q = record {
     read = p.read ++ q.read;
     written = p.written ++ q.written;
@@ -161,7 +161,7 @@ module _ {A B : Type 0} (a b : LinkState) (d e : DeskView) (t : Rulebook → Int
   }
 
   -- one that is left without a value
-  pub halts_by : (halt : Halt SessionEnd) → RunsByRulebook a b d e t (Err halt) → RunsByRulebook a b d e (λ book. t book >>= k book) (Err halt)
+  pub halts_by : (halt : Halt E) → RunsByRulebook a b d e t (Err halt) → RunsByRulebook a b d e (λ book. t book >>= k book) (Err halt)
   halts_by halt p = record {
     read = p.read;
     written = p.written;
@@ -175,9 +175,11 @@ module _ {A B : Type 0} (a b : LinkState) (d e : DeskView) (t : Rulebook → Int
     caused = caused_halt A B a b halt p.caused;
   }
 
+-- and the same of a session, whose calls answer its ends
+module _ {A B : Type 0} (a b : LinkState) (d e : DeskView) (t : Rulebook → Interaction SessionEnd A) (k : Rulebook → A → Interaction SessionEnd B) where
   -- a call that ends the session, and with it what would have followed
   pub ends_by : (result : Result A SessionEnd) (end : SessionEnd) → result ≡ Err end → RunsByRulebook a b d e t (outcome_of result) → RunsByRulebook a b d e (λ book. t book >>= k book) (Err (halt_of end))
-  ends_by result end was ran = halts_by (halt_of end) (subst (λ (r : Result A SessionEnd). RunsByRulebook a b d e t (outcome_of r)) was ran)
+  ends_by result end was ran = halts_by a b d e t k (halt_of end) (subst (λ (r : Result A SessionEnd). RunsByRulebook a b d e t (outcome_of r)) was ran)
 
   -- the same where the end is answered on
   pub exits_by : (result : Result A SessionEnd) (r : Result B SessionEnd) (end y : SessionEnd) → result ≡ Err end → r ≡ Err y → y ≡ end → RunsByRulebook a b d e t (outcome_of result)
@@ -188,7 +190,7 @@ module _ {A B : Type 0} (a b : LinkState) (d e : DeskView) (t : Rulebook → Int
   -- a call, and the rest
   pub goes_by : (result : Result A SessionEnd) (c : LinkState) (f : DeskView) (x : A) (out : Result B (Halt SessionEnd)) → result ≡ Ok x → RunsByRulebook a b d e t (outcome_of result) → RunsByRulebook b c e f (λ book. k book x) out
       → RunsByRulebook a c d f (λ book. t book >>= k book) out
-  goes_by result c f x out was ran rest = bind_by c f x out (subst (λ (r : Result A SessionEnd). RunsByRulebook a b d e t (outcome_of r)) was ran) rest
+  goes_by result c f x out was ran rest = bind_by a b d e t k c f x out (subst (λ (r : Result A SessionEnd). RunsByRulebook a b d e t (outcome_of r)) was ran) rest
 
 -- a call that goes by no rules
 module _ {A B : Type 0} (a b : LinkState) (d : DeskView) (t : Interaction SessionEnd A) (k : Rulebook → A → Interaction SessionEnd B) (result : Result A SessionEnd) where

@@ -1,4 +1,5 @@
--- A session's first packet: a user's name, and what is asked of the server for that user. One space stands between words.
+-- A session's first packet: a user's name, and what is asked of the server for that user. One space stands
+-- between words.
 --
 --   USER git-receive-pack REPO
 --   USER git-upload-pack REPO
@@ -7,7 +8,8 @@
 --   USER perms REPO - ROLE USER
 --   USER perms -l REPO
 --
--- Round REPO there may be single quotes, before it a slash, and behind it `.git`. ROLE has letters, digits, `-` and `_`, and at most 65,516 bytes.
+-- Round REPO there may be single quotes, before it a slash, and behind it `.git`. ROLE has letters, digits,
+-- `-` and `_`, and at most 65,516 bytes.
 use Rattle.std.specs.Prelude.{ℕ, Bool, ◌&&◌, ◌||◌, ◌==◌, nat_le, not, List, [], ◌∷◌, length, take, drop, ◌-◌, Option, Some, None, codes, if◌then◌else◌}
 use Rattle.std.specs.Option.{option_map, unwrap_or}
 use Rattle.std.specs.List.{list_all}

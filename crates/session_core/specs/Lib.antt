@@ -7,3 +7,5 @@ pub mod Denials
 pub mod Rulebook
 pub mod Recorded
 pub mod Opening
+pub mod Gate
+pub mod Parts

@@ -17,7 +17,8 @@ pub record IsRecorded (admin : Name) (log : List Entry) (recorded : Recorded) : 
   pub agrees : Agrees recorded.answers log
   pub book : IsRulebook admin log recorded.book
 
--- what holds where a hub answers as a log records, and tells of its rules: it holds by all that the log records so
+-- what holds where a hub answers as a log records, and tells of its rules: it holds by all that the log
+-- records so
 abbrev pub AsRecorded : Name → List Entry → (Recorded → Type 0) → Type 0
 AsRecorded admin log holds = (recorded : Recorded) → IsRecorded admin log recorded → holds recorded
 

@@ -15,7 +15,6 @@ use Rattle.interaction_tree.specs.Requests.{OwnEntry}
 use Rattle.interaction_tree.specs.Interaction.{Interaction}
 use Rattle.interaction_tree.specs.Traces.{Halt, IsTrace}
 use Rattle.interaction_tree.specs.Runs.{IsCaused, MakesAll}
-use Rattle.session_core.specs.declared.end.SessionEnd.{SessionEnd}
 
 -- patterns: which names a pattern matches
 -- rules: the rules in force behind so many entries of a log
@@ -23,7 +22,8 @@ pub record Rulebook : Type 0 where
   pub patterns : Patterns
   pub rules : ℕ → Flat
 
--- A rulebook is a log's: what it says of patterns is true, and its rules are those that the conf in force comes to, behind each beginning of the log.
+-- A rulebook is a log's: what it says of patterns is true, and its rules are those that the conf in force
+-- comes to, behind each beginning of the log.
 pub record IsRulebook (admin : Name) (log : List Entry) (book : Rulebook) : Type 0 where
   pub matching : AreTrue book.patterns
   pub in_force : (place : ℕ) → place ≤ length log → AreInForce book.patterns (replay admin (take place log)).conf (book.rules place)
@@ -32,9 +32,9 @@ pub record IsRulebook (admin : Name) (log : List Entry) (book : Rulebook) : Type
 abbrev pub ByRulebook : Name → List Entry → (Rulebook → Type 0) → Type 0
 ByRulebook admin log holds = (book : Rulebook) → IsRulebook admin log book → holds book
 
--- As `Runs` of `interaction_tree`, of an interaction that goes by the rules in force: what was read, written and entered is that of the interaction by each
--- rulebook of the log, as the desk knows it afterwards.
-pub record RunsByRulebook {A : Type 0} (link link' : LinkState) (desk desk' : DeskView) (t : Rulebook → Interaction SessionEnd A) (out : Result A (Halt SessionEnd)) : Type 0 where
+-- As `Runs` of `interaction_tree`, of an interaction that goes by the rules in force: what was read, written
+-- and entered is that of the interaction by each rulebook of the log, as the desk knows it afterwards.
+pub record RunsByRulebook {E A : Type 0} (link link' : LinkState) (desk desk' : DeskView) (t : Rulebook → Interaction E A) (out : Result A (Halt E)) : Type 0 where
   pub read : List ℕ
   pub written : List ℕ
   pub own : List OwnEntry

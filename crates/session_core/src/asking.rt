@@ -1,11 +1,11 @@
 // What a session asks for.
 ghost use Rattle.std.specs.Prelude.{◌≡◌, IfOk, OnOk};
+ghost use Rattle.pktline_core.specs.Links.{KeepsWriting};
 ghost use Rattle.pktline_core.specs.Reading.{packet_of};
-ghost use Rattle.hub.specs.Desk.{DeskView};
-ghost use Rattle.interaction_tree.specs.Runs.{Runs};
 ghost use Rattle.session_core.specs.Asking.{asked_in, asked_in_line, asking, bad_command};
-ghost use Rattle.session_core.specs.End.{TellsEnd, TellsLink, halt_of, outcome_at, outcome_of};
+ghost use Rattle.session_core.specs.End.{TellsEnd, TellsLink};
 ghost use Rattle.session_core.specs.FirstPacket.{HasShortChange, first_line};
+ghost use Rattle.session_core.specs.Parts.{EndsLink, RunsLink, RunsLinkAt};
 ghost use Rattle.session_core.specs.Readers.{IsReady};
 
 use crate::end::SessionEnd;
@@ -16,7 +16,7 @@ use pktline_core::{Link, Pkt, PktReader};
 use std::alloc::Global;
 
 fn bad_command<L: Link>(link: &mut L) -> SessionEnd
-    ensures runs { (desk : DeskView) → Runs (L.state link.old) (L.state link.new) desk desk bad_command (Err (halt_of result)) }
+    ensures runs { EndsLink (L.state link.old) (L.state link.new) bad_command result }
     ensures tells { TellsEnd (L.state link.old) (L.state link.new) result }
 {
     refuse(link, b"ERR bad command", SessionEnd::BadCommand)
@@ -24,7 +24,7 @@ fn bad_command<L: Link>(link: &mut L) -> SessionEnd
 
 // What a first line asks for.
 fn asked_in_line<L: Link>(alloc: Global, link: &mut L, line: &[u8]) -> Result<Asked, SessionEnd>
-    ensures runs { (desk : DeskView) → Runs (L.state link.old) (L.state link.new) desk desk (asked_in_line (first_line line.now)) (outcome_of result) }
+    ensures runs { RunsLink (L.state link.old) (L.state link.new) (asked_in_line (first_line line.now)) result }
     ensures tells { TellsLink (L.state link.old) (L.state link.new) result }
     ensures same { OnOk result (L.state link.new ≡ L.state link.old) }
     ensures short { IfOk result (λ asked. HasShortChange asked.service) }
@@ -37,7 +37,7 @@ fn asked_in_line<L: Link>(alloc: Global, link: &mut L, line: &[u8]) -> Result<As
 }
 
 fn asked_in<L: Link>(alloc: Global, link: &mut L, packet: Pkt<'_>) -> Result<Asked, SessionEnd>
-    ensures runs { (desk : DeskView) → Runs (L.state link.old) (L.state link.new) desk desk (asked_in (packet_of packet.entry)) (outcome_of result) }
+    ensures runs { RunsLink (L.state link.old) (L.state link.new) (asked_in (packet_of packet.entry)) result }
     ensures tells { TellsLink (L.state link.old) (L.state link.new) result }
     ensures same { OnOk result (L.state link.new ≡ L.state link.old) }
     ensures short { IfOk result (λ asked. HasShortChange asked.service) }
@@ -55,9 +55,10 @@ pub fn ask<L: Link>(
     reader: &mut PktReader,
 ) -> Result<Asked, SessionEnd>
     requires ready { IsReady reader.old (L.state link.old) }
-    ensures runs { (desk : DeskView) → Runs (L.state link.old) (L.state link.new) desk desk (asking reader.old.offset) (outcome_at result reader.new.offset) }
+    ensures runs { RunsLinkAt (L.state link.old) (L.state link.new) (asking reader.old.offset) result reader.new.offset }
     ensures tells { TellsLink (L.state link.old) (L.state link.new) result }
     ensures ready { OnOk result (IsReady reader.new (L.state link.new)) }
+    ensures writing { OnOk result (KeepsWriting (L.state link.old) (L.state link.new)) }
     ensures short { IfOk result (λ asked. HasShortChange asked.service) }
 {
     let offset = reader.offset();

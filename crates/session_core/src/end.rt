@@ -1,18 +1,21 @@
 // How a session ends.
-ghost use Rattle.std.specs.Prelude.{◌≡◌};
-ghost use Rattle.session_core.specs.End.{end_number};
+ghost use Rattle.std.specs.Prelude.{◌≡◌, Some};
+ghost use Rattle.session_core.specs.End.{end_number, end_text};
 
 use base_types::NoMemory;
 use git_object::ObjectId;
 use pktline_core::WriteFault;
 use raw_pack::PackFault;
 use std::alloc::AllocError;
+use std::error::Error;
+use std::fmt;
 
 /// How a session ends.
 #[derive(Clone, Copy, Debug, PartialEq, Eq)]
 pub enum SessionEnd {
-    /// The input was read up to the flush that takes the place of commands or wants, up to the trailer of a push's pack or, where no pack is due, the
-    /// flush behind the commands, up to a fetch's `done`, or up to the end of the one packet of `perms` or `info`.
+    /// The input was read up to the flush that takes the place of commands or wants, up to the trailer of a
+    /// push's pack or, where no pack is due, the flush behind the commands, up to a fetch's `done`, or up to
+    /// the end of the one packet of `perms` or `info`.
     Served,
     /// The rules don't allow the opening.
     Denied,
@@ -26,7 +29,8 @@ pub enum SessionEnd {
     NotOurRef(ObjectId),
     /// The packet at this offset, from the session's first byte on, leaves the form.
     Malformed(u64),
-    /// There are more commands than a push may have, or more wants, or haves and flushes, than a fetch may; of them so many were counted.
+    /// There are more commands than a push may have, or more wants, or haves and flushes, than a fetch may;
+    /// of them so many were counted.
     TooLong(u64),
     /// The input ended before the session did.
     Truncated,
@@ -61,6 +65,30 @@ impl SessionEnd {
         }
     }
 }
+
+impl fmt::Display for SessionEnd {
+    ghost output = { λ end. Some (end_text end) };
+
+    fn fmt<W: fmt::Write>(&self, f: &mut fmt::Formatter<W>) -> fmt::Result {
+        match self {
+            SessionEnd::Served => write!(f, "served"),
+            SessionEnd::Denied => write!(f, "denied"),
+            SessionEnd::NoRepo => write!(f, "no such repository"),
+            SessionEnd::BadCommand => write!(f, "bad command"),
+            SessionEnd::BadUser => write!(f, "bad user"),
+            SessionEnd::NotOurRef(_) => write!(f, "not our ref"),
+            SessionEnd::Malformed(offset) => write!(f, "malformed packet at {offset}"),
+            SessionEnd::TooLong(count) => write!(f, "too many packets: {count}"),
+            SessionEnd::Truncated => write!(f, "the input ended"),
+            SessionEnd::ReadFault => write!(f, "read failed"),
+            SessionEnd::WriteFault => write!(f, "write failed"),
+            SessionEnd::NoMemory => write!(f, "out of memory"),
+            SessionEnd::BadPack(fault) => write!(f, "bad pack: {fault}"),
+        }
+    }
+}
+
+impl Error for SessionEnd {}
 
 impl From<NoMemory> for SessionEnd {
     ghost use Rattle.session_core.specs.declared.end.SessionEnd.TheVariants as end;

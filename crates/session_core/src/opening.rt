@@ -4,12 +4,12 @@ ghost use Rattle.std.specs.Option.{option_copied};
 ghost use Rattle.access_check.specs.Verdicts.{rule_of};
 ghost use Rattle.hub_history.specs.State.{HasShortNames};
 ghost use Rattle.hub_history.specs.History.{Stands};
-ghost use Rattle.hub.specs.Desk.{DeskView};
-ghost use Rattle.interaction_tree.specs.Runs.{Runs};
 ghost use Rattle.session_core.specs.Denials.{denial, open_text};
-ghost use Rattle.session_core.specs.End.{TellsEnd, TellsLink, halt_of, outcome_of};
-ghost use Rattle.session_core.specs.Opening.{entering};
+ghost use Rattle.session_core.specs.End.{TellsEnd, TellsLink, outcome_of};
+ghost use Rattle.session_core.specs.Gate.{LetsIn, place_entered};
+ghost use Rattle.session_core.specs.Opening.{StandsSomewhere, entering};
 ghost use Rattle.session_core.specs.Packets.{refuse};
+ghost use Rattle.session_core.specs.Parts.{EndsLink};
 ghost use Rattle.session_core.specs.Rulebook.{RunsByRulebook};
 
 use crate::denials::push_denial;
@@ -48,7 +48,7 @@ fn refuse_denied<L: Link>(
     verdict: Verdict,
     policy: &Policy,
 ) -> SessionEnd
-    ensures runs { (desk : DeskView) → Runs {A = Unit {0}} (L.state link.old) (L.state link.new) desk desk (refuse (codes "ERR " ++ denial (open_text want) repo.now user.now (rule_of policy.now.rules verdict)) SessionEnd.Denied) (Err (halt_of result)) }
+    ensures runs { EndsLink {A = Unit {0}} (L.state link.old) (L.state link.new) (refuse (codes "ERR " ++ denial (open_text want) repo.now user.now (rule_of policy.now.rules verdict)) SessionEnd.Denied) result }
     ensures tells { TellsEnd (L.state link.old) (L.state link.new) result }
 {
     match denied_text(alloc, repo, user, want, verdict.rule(policy)) {
@@ -72,6 +72,8 @@ pub fn enter<L: Link, K: Desk>(
     ensures stands { IfOk result (λ pin. Stands pin (K.view desk.new).admin (K.view desk.new).seen) }
     ensures want { IfOk result (λ pin. pin.pinned.want ≡ want) }
     ensures names { IfOk result (λ pin. HasShortNames pin.pinned.repository.refs) }
+    ensures somewhere { IfOk result (λ pin. StandsSomewhere pin) }
+    ensures lets_in { LetsIn (K.view desk.old) (K.view desk.new) (place_entered result) }
     ensures goes { K.goes_on desk.old desk.new }
 {
     // called for its clauses that the names of refs stay short, and that there is one list of rules in force

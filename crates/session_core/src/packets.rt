@@ -2,12 +2,11 @@
 ghost use Rattle.std.specs.Prelude.{◌≡◌, ◌≤◌, length};
 ghost use Rattle.pktline_core.specs.Links.{KeepsReading};
 ghost use Rattle.pktline_core.specs.Packets.{spelling, Flush};
-ghost use Rattle.hub.specs.Desk.{DeskView};
 ghost use Rattle.interaction_tree.specs.Interaction.{write};
 ghost use Rattle.interaction_tree.specs.Traces.{Ended};
-ghost use Rattle.interaction_tree.specs.Runs.{Runs};
-ghost use Rattle.session_core.specs.End.{TellsEnd, TellsLink, halt_of, outcome_of};
+ghost use Rattle.session_core.specs.End.{TellsEnd, TellsLink, halt_of};
 ghost use Rattle.session_core.specs.Packets.{EndsBy, malformed, packet, refuse};
+ghost use Rattle.session_core.specs.Parts.{EndsLink, RunsLink};
 
 use crate::end::SessionEnd;
 use pktline_core::{Link, PktFault, write_flush, write_pkt};
@@ -15,7 +14,7 @@ use pktline_core::{Link, PktFault, write_flush, write_pkt};
 /// Writes a packet of a line.
 pub fn say<L: Link>(link: &mut L, payload: &[u8]) -> Result<(), SessionEnd>
     requires { length payload.now ≤ 65516 }
-    ensures runs { (desk : DeskView) → Runs (L.state link.old) (L.state link.new) desk desk (write (packet payload.now)) (outcome_of result) }
+    ensures runs { RunsLink (L.state link.old) (L.state link.new) (write (packet payload.now)) result }
     ensures tells { TellsLink (L.state link.old) (L.state link.new) result }
     ensures reading { KeepsReading (L.state link.old) (L.state link.new) }
 {
@@ -25,7 +24,7 @@ pub fn say<L: Link>(link: &mut L, payload: &[u8]) -> Result<(), SessionEnd>
 
 /// Writes a flush.
 pub fn say_flush<L: Link>(link: &mut L) -> Result<(), SessionEnd>
-    ensures runs { (desk : DeskView) → Runs (L.state link.old) (L.state link.new) desk desk (write (spelling Flush)) (outcome_of result) }
+    ensures runs { RunsLink (L.state link.old) (L.state link.new) (write (spelling Flush)) result }
     ensures tells { TellsLink (L.state link.old) (L.state link.new) result }
     ensures reading { KeepsReading (L.state link.old) (L.state link.new) }
 {
@@ -37,7 +36,7 @@ pub fn say_flush<L: Link>(link: &mut L) -> Result<(), SessionEnd>
 pub fn refuse<L: Link>(link: &mut L, text: &[u8], end: SessionEnd) -> SessionEnd
     requires small { length text.now ≤ 65516 }
     requires of_form { halt_of end ≡ Ended end }
-    ensures runs { (desk : DeskView) → Runs {A = Unit {0}} (L.state link.old) (L.state link.new) desk desk (refuse text.now end) (Err (halt_of result)) }
+    ensures runs { EndsLink {A = Unit {0}} (L.state link.old) (L.state link.new) (refuse text.now end) result }
     ensures tells { TellsEnd (L.state link.old) (L.state link.new) result }
     ensures reading { KeepsReading (L.state link.old) (L.state link.new) }
 {
@@ -49,7 +48,7 @@ pub fn refuse<L: Link>(link: &mut L, text: &[u8], end: SessionEnd) -> SessionEnd
 
 /// Answers that the packet at this offset leaves the form.
 pub fn malformed<L: Link>(link: &mut L, offset: u64) -> SessionEnd
-    ensures runs { (desk : DeskView) → Runs {A = Unit {0}} (L.state link.old) (L.state link.new) desk desk (malformed offset) (Err (halt_of result)) }
+    ensures runs { EndsLink {A = Unit {0}} (L.state link.old) (L.state link.new) (malformed offset) result }
     ensures tells { TellsEnd (L.state link.old) (L.state link.new) result }
     ensures reading { KeepsReading (L.state link.old) (L.state link.new) }
 {

@@ -12,7 +12,7 @@ use Rattle.hub_history.specs.Requests.{Request, Enter, Push}
 use Rattle.hub_history.specs.declared.entry.EnterKept.{EnterKept}
 use Rattle.hub_history.specs.declared.entry.EnterKept.TheVariants.{Granted, Created}
 use Rattle.rule_compile.specs.declared.rule.Rule.{Rule}
-use Rattle.interaction_tree.specs.Interaction.{write, ask}
+use Rattle.interaction_tree.specs.Interaction.{◌>>=◌, write, ask}
 use Rattle.interaction_tree.specs.Requests.{OwnEntry}
 use Rattle.interaction_tree.specs.Turns.{Gave, Ended}
 use Rattle.session_core.specs.declared.end.SessionEnd.TheVariants as end
@@ -20,7 +20,8 @@ use Rattle.session_core.specs.declared.first_packet.Asked.{Asked}
 use Rattle.session_core.specs.declared.first_packet.Service.TheVariants.{Receive}
 use Rattle.session_core.specs.Asking.{asking}
 use Rattle.session_core.specs.FirstPacket.{without_feed}
-use Rattle.session_core.specs.Opening.{by_answer, entering, opening_behind, recorded_answer}
+use Rattle.session_core.specs.Opening.{entering, opening, opening_behind, recorded_answer}
+use Rattle.session_core.proofs.OpeningLemmas.{by_answer}
 use Rattle.session_core.specs.Packets.{next_packet, or_malformed}
 use Rattle.session_core.specs.Rulebook.{Rulebook}
 use Rattle.receive_pack.specs.Changes.{first_command}
@@ -43,7 +44,7 @@ answered_goes rules user repo want kept opening (inr is) = rw is (gives_goes ope
 
 pub entering_goes : (book : Rulebook) (admin user repo : Name) (want : Want) (own : OwnEntry) → IsLetIn own
     → Goes (entering book admin user repo want) [] (own ∷ []) (Enter user repo want ∷ []) [] (Gave (opening_behind admin own user repo want))
-unfolding entering
+unfolding entering opening ask ◌>>=◌
 entering_goes book admin user repo want own let_in =
     then_gives (ask (Enter user repo want)) _ [] (own ∷ []) (Enter user repo want ∷ []) [] own _ (ask_goes (Enter user repo want) own)
     (answered_goes (book.rules (length own.before)).rules user repo want (recorded_answer own.entry.event) (opening_behind admin own user repo want) let_in)

@@ -24,8 +24,8 @@ use Rattle.receive_pack.specs.Receiving.{pack_in, pack_unless, reading_pack, ref
 use Rattle.receive_pack.specs.declared.changes.Capabilities.{Capabilities}
 use Rattle.session_core.specs.Packets.{cut_short, next_packet, or_malformed, packet_in}
 
--- Over this input and these entries, whatever follows them, it reads all of the input, makes all of the entries, and
--- writes these bytes.
+-- Over this input and these entries, whatever follows them, it reads all of the input, makes all of the
+-- entries, and writes these bytes.
 pub record Goes {A : Type 0} (t : Interaction SessionEnd A) (input : List ℕ) (own : List OwnEntry) (requests : List Request) (bytes : List ℕ) (stop : Stop SessionEnd A) : Type 0 where
   pub as_many : length own ≡ length requests
   pub goes : (extent : Extent) (rest : List ℕ) (more : List OwnEntry) → turn_over extent t (input ++ rest) (own ++ more) ≡ record { used = input; requests = requests; bytes = bytes; stop = stop }

@@ -45,8 +45,8 @@ IsLetIn own = (recorded_answer own.entry.event ≡ Granted) ⊎ (recorded_answer
 abbrev pub opened_at : Name → OwnEntry → Name → Repository
 opened_at admin own repo = repository_at (replay admin (own.before ++ own.entry ∷ [])) repo
 
--- By this input, and with these own entries, a session reads the input and nothing that follows it, asks for these
--- entries, writes these bytes, and ends served.
+-- By this input, and with these own entries, a session reads the input and nothing that follows it, asks for
+-- these entries, writes these bytes, and ends served.
 abbrev pub Serves : Rulebook → Name → List ℕ → List OwnEntry → List Request → List ℕ → Type 0
 Serves book admin input own requests bytes =
     (extent : Extent) (more : List ℕ)
@@ -60,8 +60,8 @@ report_of book push opened pushed =
     push_texts.report (book.rules (length opened.before + 1)).rules (book.rules (length pushed.before)).rules
     (record { user = push.asking.user; repo = push.asking.repo; commands = commands_of push }) (recorded_outcomes pushed.entry.event)
 
--- A push that a client spells is served. It is made, all or nothing where `atomic` is among the client's words. The
--- advertisement is written and, where `report-status` is among the words, the report.
+-- A push that a client spells is served. It is made, all or nothing where `atomic` is among the client's
+-- words. The advertisement is written and, where `report-status` is among the words, the report.
 abbrev pub PushesAreServed : Type 0
 PushesAreServed =
     (book : Rulebook) (admin : Name) (push : Pushing) (opened pushed : OwnEntry) → IsPushing push → IsLetIn opened
@@ -86,8 +86,8 @@ replies objects common (one ∷ inquiries) = reply objects common one ++ replies
 abbrev pub fetched_pack : List Content → Fetching → List ℕ
 fetched_pack objects fetch = pack_bytes objects (wants_of fetch) (filter (has_object objects) (haves_of fetch.inquiries))
 
--- A fetch that a client spells, each of whose wants is advertised, is served. The advertisement, the replies and the
--- pack are written.
+-- A fetch that a client spells, each of whose wants is advertised, is served. The advertisement, the replies
+-- and the pack are written.
 abbrev pub FetchesAreServed : Type 0
 FetchesAreServed =
     (book : Rulebook) (admin : Name) (fetch : Fetching) (opened : OwnEntry) → IsFetching fetch → IsLetIn opened
@@ -107,8 +107,8 @@ nothing_common [] = []
 nothing_common (Have id ∷ inquiries) = nothing_common inquiries
 nothing_common (Flush ∷ inquiries) = packet (codes "NAK\n") ++ nothing_common inquiries
 
--- Of the objects that the client has, the first that the server has too is acknowledged. To each flush before it the
--- reply is that nothing is common, and behind it there are no replies.
+-- Of the objects that the client has, the first that the server has too is acknowledged. To each flush before
+-- it the reply is that nothing is common, and behind it there are no replies.
 abbrev pub FirstIsAcknowledged : Type 0
 FirstIsAcknowledged =
     (objects : List Content) (before inquiries : List Inquiry) (id : ObjectId) → AllByRecursion (HasNone objects) before → has_object objects id ≡ true

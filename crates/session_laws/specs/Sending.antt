@@ -61,8 +61,8 @@ asking_text service asking = line asking.feed (asking_for service asking)
 abbrev pub listing_text : List ℕ → Asking → List ℕ
 listing_text service asking = asking_text service asking ++ spelling Flush
 
--- Words of a client, by which it says what it can do and asks for. One may be empty, so that any number of spaces may
--- stand between two.
+-- Words of a client, by which it says what it can do and asks for. One may be empty, so that any number of
+-- spaces may stand between two.
 abbrev pub AreWords : List (List ℕ) → Type 0
 AreWords words = AllByRecursion (λ word. Lacks 32 word × Lacks 10 word) words
 

@@ -52,7 +52,8 @@ pub fn add_create(input: &mut Vec<u8>, size: &[u8], name: &[u8]) -> Result<(), N
     Ok(())
 }
 
-/// An opening, these creates, a flush, and a pack. A create has the four digits of its length, and the ref with the words behind it.
+/// An opening, these creates, a flush, and a pack. A create has the four digits of its length, and the ref
+/// with the words behind it.
 pub fn push_of(
     alloc: Global,
     creates: &[(&[u8], &[u8])],

@@ -1,4 +1,5 @@
-// Fetches up to their limits, and fetches that are cut off. The shipped script has the rows of what each is told.
+// Fetches up to their limits, and fetches that are cut off. The shipped script has the rows of what each is
+// told.
 use crate::git_session_tests::{new_desk, serve};
 use git_session::{SessionBuffer, session};
 use hub::{LoneDesk, NoMemory};
@@ -39,8 +40,9 @@ fn fetch_of(alloc: Global, wants: u32, flushes: u32, haves: u32) -> Result<Vec<u
 // The last bytes of the pack of the first push.
 const TRAILER: [u8; 4] = [0x82, 0x69, 0xdb, 0xdb];
 
-// How many wants, flushes and haves a fetch has, how it ends, and how many bytes are due: the advertisement of 147, a `NAK` of 8 for each flush behind
-// the first one and for `done`, and the pack of 191, or the refusal of 16.
+// How many wants, flushes and haves a fetch has, how it ends, and how many bytes are due: the advertisement
+// of 147, a `NAK` of 8 for each flush behind the first one and for `done`, and the pack of 191, or the
+// refusal of 16.
 const LIMITS: [(u32, u32, u32, SessionEnd, usize); 6] = [
     (10_000, 1, 0, SessionEnd::Served, 346),
     (10_001, 1, 0, SessionEnd::TooLong(10_001), 163),
@@ -76,9 +78,9 @@ fn pushed_desk(alloc: Global) -> Result<LoneDesk, NoMemory> {
     Ok(desk)
 }
 
-// How many bytes are due of a fetch of one want and two flushes, of which so many bytes were read: the first packet has
-// 35 and leads to the advertisement, of 147; the second flush, up to byte 93, to a `NAK`, of 8; and `done`, up to byte
-// 102, to another and the pack, of 191.
+// How many bytes are due of a fetch of one want and two flushes, of which so many bytes were read: the first
+// packet has 35 and leads to the advertisement, of 147; the second flush, up to byte 93, to a `NAK`, of 8;
+// and `done`, up to byte 102, to another and the pack, of 191.
 fn due_of(read: u64) -> usize {
     match read {
         0..35 => 0,
@@ -88,7 +90,8 @@ fn due_of(read: u64) -> usize {
     }
 }
 
-// The end of that fetch over a link that moves a byte a call and fails at these, and how many bytes were written.
+// The end of that fetch over a link that moves a byte a call and fails at these, and how many bytes were
+// written.
 fn fetch_failing(
     alloc: Global,
     desk: &mut LoneDesk,

@@ -2,7 +2,7 @@
 use conf_lex::UserName;
 use git_session::{SessionBuffer, session};
 use hub::{EnterKept, Hub, LoneDesk, NoMemory, Verdict};
-use pktline_core::MemoryLink;
+use pktline_core::{Link, MemoryLink};
 use session_core::{Gate, OpenGate, SessionEnd};
 use session_samples::{OPENING, first_push, is_answered};
 use std::alloc::Global;
@@ -43,14 +43,18 @@ struct LastPlace {
 }
 
 impl Gate for LastPlace {
-    fn between(&mut self, place: u64) {
+    ghost use Rattle.std.specs.Prelude.{None};
+
+    ghost calls = { λ _. None };
+
+    fn between<L: Link>(&mut self, place: u64, _link: &L) {
         self.calls = self.calls.saturating_add(1);
         self.place = Some(place);
     }
 }
 
-// The end of the first push over a link that moves a byte a call and fails at these, how many bytes were written, and
-// how many entries made.
+// The end of the first push over a link that moves a byte a call and fails at these, how many bytes were
+// written, and how many entries made.
 fn serve_failing(
     alloc: Global,
     takes: &[u64],

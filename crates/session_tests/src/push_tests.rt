@@ -1,4 +1,5 @@
-// Sessions that push several commands, or a pack that is refused. The shipped script has the rows of what each is told.
+// Sessions that push several commands, or a pack that is refused. The shipped script has the rows of what
+// each is told.
 ghost use Rattle.std.specs.Prelude.{◌≤◌};
 
 use crate::git_session_tests::{new_desk, serve};
@@ -9,7 +10,8 @@ use session_samples::{OPENING, add_create, first_pack, first_push};
 use std::alloc::Global;
 use std::test::Fail;
 
-// The first packet has 36 bytes, the commands up to their flush 121, and the two entries of the pack 170 and 1.
+// The first packet has 36 bytes, the commands up to their flush 121, and the two entries of the pack 170 and
+// 1.
 #[test]
 fn an_input_that_ends_early_has_its_end(rt: HostRuntime) -> Result<(), Fail> {
     let alloc = rt.alloc();

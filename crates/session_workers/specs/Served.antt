@@ -18,15 +18,16 @@ pub record ServedLink : Type 0 where
   pub back : LinkState
   pub end : SessionEnd
 
--- What was read and written of a link, and a caller's entries from a place of the log on, are those of a session with this end, by the rules that were in
--- force along the log; and the end has its cause.
+-- What was read and written of a link, and a caller's entries from a place of the log on, are those of a
+-- session with this end, by the rules that were in force along the log; and the end has its cause.
 pub record IsSession (admin : Name) (caller place : ℕ) (log : List Entry) (one : ServedLink) : Type 0 where
   pub turn : ByRulebook admin log (λ book. TakesTurn one.given one.back (own_in caller place log) (session book admin) (halt_of one.end))
   pub cause : HasCause one.given one.back one.end
   pub tells : TellsEnd one.given one.back one.end
   pub sure : IsSure one.given one.back one.end
 
--- the links, with the last one first: the last one's session has the caller's entries from some place on, and those before it are of the links before
+-- the links, with the last one first: the last one's session has the caller's entries from some place on, and
+-- those before it are of the links before
 abbrev pub ServedLatest : Name → ℕ → ℕ → List Entry → List ServedLink → Type 0
 ServedLatest admin caller start log [] = entries_of caller start log ≡ []
 ServedLatest admin caller start log (one ∷ earlier) =

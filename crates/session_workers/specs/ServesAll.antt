@@ -19,15 +19,16 @@ pub record PostTally (L : Type 0) : Type 0 where
 abbrev pub count_of : {L : Type 0} → PostTally L → ℕ
 count_of did = length did.visits
 
--- A post's links were given, served and given back, and the entries of its place past the start are those of their sessions. Then it had served as many as
--- it should, or its door was closed, or failed, or a hub that may stop may have done so, which leaves a session out of memory.
+-- A post's links were given, served and given back, and the entries of its place past the start are those of
+-- their sessions. Then it had served as many as it should, or its door was closed, or failed, or a hub that
+-- may stop may have done so, which leaves a session out of memory.
 pub record PostServed {L : Type 0} (state : L → LinkState) (may_stop : Bool) (admin : Name) (place start : ℕ) (log : List Entry) (each : ℕ) (old new : DoorState L) (did : PostTally L) : Type 0 where
   pub served : HasServed state admin place start log old new did.visits
   pub done : HasDone (may_stop && have_lacked did.visits) old new each (count_of did) did.failed
   pub most : count_of did ≤ each
 
--- The hub that comes back goes on from the one that was handed in, by entries that bear places of posts, and is legal; and each post was served, over the
--- log of the hub that comes back.
+-- The hub that comes back goes on from the one that was handed in, by entries that bear places of posts, and
+-- is legal; and each post was served, over the log of the hub that comes back.
 pub record ServesAll {L D G H : Type 0} (state : L → LinkState) (door : D → DoorState L) (may_stop : Bool) (hub after : HubView) (old new : List (Post D G H)) (each sessions : ℕ) (door_failed no_memory : Bool) : Type 0 where
   pub admin : after.admin ≡ hub.admin
   pub legal : IsLegal after.admin after.log

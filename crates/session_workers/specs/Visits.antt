@@ -51,7 +51,8 @@ GainsBack None new links = ⊤
 GainsBack (Some xs) None links = ⊥
 GainsBack (Some xs) (Some ys) links = ys ≡ xs ++ links
 
--- One link was given, served, and given back: its session's entries are those of the desk's caller from what the desk had seen on.
+-- One link was given, served, and given back: its session's entries are those of the desk's caller from what
+-- the desk had seen on.
 pub record ServesLink {L : Type 0} (state : L → LinkState) (old new : DoorState L) (desk desk' : DeskView) (visit : Visit L) : Type 0 where
   pub given : LosesFront old.left new.left (visit.link ∷ [])
   pub back : GainsBack old.served new.served (visit.back ∷ [])
@@ -73,14 +74,16 @@ ServesNext state old new desk desk' (next.Served end) = (visit : Visit _) × (vi
 ServesNext state old new desk desk' next.Closed = ServesNone old new desk desk' × (new.closed ≡ true) × (new.faults ≡ old.faults)
 ServesNext state old new desk desk' next.Failed = ServesNone old new desk desk' × HasRisen old.faults new.faults
 
--- Links were given and given back, in their order, and a caller's entries past a start are those of their sessions.
+-- Links were given and given back, in their order, and a caller's entries past a start are those of their
+-- sessions.
 pub record HasServed {L : Type 0} (state : L → LinkState) (admin : Name) (caller start : ℕ) (log : List Entry) (old new : DoorState L) (visits : List (Visit L)) : Type 0 where
   pub given : LosesFront old.left new.left (map link_of visits)
   pub back : GainsBack old.served new.served (map back_of visits)
   pub served : Served admin caller start log (map (served_link state) visits)
   pub faults : old.faults ≤ new.faults
 
--- the door failed; or it didn't, and as many were served as were asked for, or it is closed, or the hub may have stopped
+-- the door failed; or it didn't, and as many were served as were asked for, or it is closed, or the hub may
+-- have stopped
 abbrev pub HasDone : {L : Type 0} → Bool → DoorState L → DoorState L → ℕ → ℕ → Bool → Type 0
 HasDone stopped old new each count true = HasRisen old.faults new.faults
 HasDone stopped old new each count false = ((count ≡ each) ⊎ (new.closed ≡ true) ⊎ IsTrue stopped) × (new.faults ≡ old.faults)
@@ -90,7 +93,8 @@ pub record IsTally {L : Type 0} (visits : List (Visit L)) (tally : Tally) : Type
   pub sessions : tally.sessions ≡ length visits
   pub no_memory : tally.no_memory ≡ have_lacked visits
 
--- What a worker did: its visits, and whether it was done. A hub that may stop may have done so where a session ended out of memory
+-- What a worker did: its visits, and whether it was done. A hub that may stop may have done so where a
+-- session ended out of memory
 pub record HasWorked {L : Type 0} (state : L → LinkState) (may_stop : Bool) (admin : Name) (caller start : ℕ) (log : List Entry) (each : ℕ) (old new : DoorState L) (tally : Tally) : Type 0 where
   pub visits : List (Visit L)
   pub served : HasServed state admin caller start log old new visits

@@ -18,8 +18,8 @@ use std::thread::Threads;
 /// What all workers did.
 #[derive(Drop)]
 pub struct ServedAll<H> {
-    /// The hub, with what the sessions left of it. None only where there was no memory to share it, before any door was
-    /// asked.
+    /// The hub, with what the sessions left of it. None only where there was no memory to share it, before
+    /// any door was asked.
     pub hub: Option<H>,
     /// How many links were served and given back.
     pub sessions: u64,
@@ -63,13 +63,13 @@ fn without_memory<H>() -> ServedAll<H>
     }
 }
 
-/// Serves the links of all posts over one hub, each post by a worker, on a thread of its own where the system gives one
-/// (one of them runs on the caller's). A worker ends once it has served so many, its door is closed or its door fails,
-/// and behind a session that the stopped hub ended.
-/// Entries that a post's sessions log bear its place as their number.
+/// Serves the links of all posts over one hub, each post by a worker, on a thread of its own where the system
+/// gives one (one of them runs on the caller's). A worker ends once it has served so many, its door is closed
+/// or its door fails, and behind a session that the stopped hub ended. Entries that a post's sessions log
+/// bear its place as their number.
 ///
-/// A link's fault, or want of memory in a session, ends that session alone. The turn of the hub is taken once for each
-/// entry. Memory for the lock and the passes is taken first.
+/// A link's fault, or want of memory in a session, ends that session alone. The turn of the hub is taken once
+/// for each entry. Memory for the lock and the passes is taken first.
 pub fn serve_all<
     L: Link + Send,
     D: Door<L> + Send,

@@ -6,7 +6,8 @@
 //! - `all`: all posts;
 //! - `laws`: a law of what is served.
 //!
-//! A session is of the crate `git_session`, and a hub between threads of `shared_hub`. The rules are in `docs/SERVE.md`.
+//! A session is of the crate `git_session`, and a hub between threads of `shared_hub`. The rules are in
+//! `docs/SERVE.md`.
 #![tactic(auto)]
 
 mod all;

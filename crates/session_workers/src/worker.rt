@@ -84,7 +84,8 @@ fn has_stopped_by<R: Wait, H: EventHub>(desk: &mut SharedDesk<'_, R, H>, end: Se
     is_out_of_memory(end) && desk.has_stopped()
 }
 
-/// Serves the links of a door until so many are served, the door is closed or it failed, or the hub has stopped.
+/// Serves the links of a door until so many are served, the door is closed or it failed, or the hub has
+/// stopped.
 pub fn work<'a, L: Link, D: Door<L>, G: Gate, R: Wait, H: EventHub>(
     rt: &'a R,
     alloc: Global,

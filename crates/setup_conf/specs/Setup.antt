@@ -14,14 +14,16 @@ use Rattle.rule_compile.specs.declared.rule.UserWord.TheVariants as user
 abbrev pub Name : Type 0
 Name = List ℕ
 
--- the main file of a new hub: the admin may do everything in `gitolite-admin`, everybody everything in `testing`
+-- the main file of a new hub: the admin may do everything in `gitolite-admin`, everybody everything in
+-- `testing`
 abbrev pub setup_files : Name → List ConfFile
 setup_files admin = record {
   name = main_name;
   text = codes "repo gitolite-admin\n    RW+     =   " ++ (admin ++ codes "\n\nrepo testing\n    RW+     =   @all\n");
 } ∷ []
 
--- `RW+` for all refs of a repository, by its number, the repository's name, who it is for, and its line in the main file
+-- `RW+` for all refs of a repository, by its number, the repository's name, who it is for, and its line in
+-- the main file
 abbrev pub setup_rule : ℕ → List ℕ → UserWord → ℕ → Rule
 setup_rule seq repo user line = record {
   seq = seq;

@@ -11,7 +11,8 @@ use conf_lex::UserName;
 use rule_compile::{Policy, PolicyFault, some_patterns_are_true};
 use std::alloc::Global;
 
-/// The files of a new hub's conf: one, by which the admin may do everything in `gitolite-admin`, and everybody everything in `testing`.
+/// The files of a new hub's conf: one, by which the admin may do everything in `gitolite-admin`, and
+/// everybody everything in `testing`.
 pub fn setup_files(alloc: Global, admin: &UserName) -> Result<FileList, NoMemory>
     ensures { IfOk result (λ files. files ≡ setup_files admin.now) }
 {
@@ -31,7 +32,8 @@ fn compile_faultless(alloc: Global, files: &FileList) -> Result<Policy, NoMemory
     requires { (rules : Flat) × ComesTo files.now rules }
     ensures { (rules : Flat) → ComesTo files.now rules → IfOk result (λ policy. policy ≡ rules) }
 {
-    // This law is called for its clause that some answers about patterns are true, so that `compile` says something.
+    // This law is called for its clause that some answers about patterns are true, so that `compile` says
+    // something.
     some_patterns_are_true();
     match Policy::compile(alloc, files) {
         Ok(policy) => Ok(policy),

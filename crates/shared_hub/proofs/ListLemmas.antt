@@ -3,6 +3,7 @@ use Rattle.std.proofs.Common.{◌≡◌, ◌==◌, ℕ, Bool, true, false, cond,
 use Rattle.std.specs.List.{filter}
 use Rattle.std.proofs.Math.Seq.{drop-append_seam}
 use Rattle.std.proofs.lemmas.List.{map-append}
+use Rattle.conf_lex.specs.Names.{is_user_name}
 use Rattle.hub_history.specs.declared.entry.Entry.{Entry}
 use Rattle.hub_history.specs.declared.entry.Event.{Event}
 use Rattle.hub.specs.Hub.{HubView, logged}
@@ -28,6 +29,12 @@ pub admin_in-append : {H : Type 0} (xs ys : List (KeptEntry H)) → NamesAdmin x
 admin_in-append [] ys names = absurd names
 admin_in-append (First name was ∷ xs) ys names = refl
 admin_in-append (Logged e ∷ xs) ys names = absurd names
+
+-- the admin of such a list
+pub named_in : {H : Type 0} (xs : List (KeptEntry H)) → NamesAdmin xs → is_user_name (admin_in xs) ≡ true
+named_in [] names = absurd names
+named_in (First name was ∷ xs) names = names
+named_in (Logged e ∷ xs) names = absurd names
 
 pub NamesAdmin-append : {H : Type 0} (xs ys : List (KeptEntry H)) → NamesAdmin xs → NamesAdmin (xs ++ ys)
 NamesAdmin-append [] ys names = absurd names

@@ -1,6 +1,7 @@
 -- Passes of a shared hub.
-use Rattle.std.proofs.Common.{◌≡◌, ◌<◌, ℕ, List, [], ◌∷◌, sym, ◌∙◌, ap, subst, append-nil}
+use Rattle.std.proofs.Common.{◌≡◌, ◌<◌, ℕ, true, List, [], ◌∷◌, sym, ◌∙◌, ap, subst, append-nil}
 use Rattle.std.specs.Prelude.{All, Contains}
+use Rattle.conf_lex.specs.Names.{is_user_name}
 use Rattle.std.proofs.lemmas.List.Elements.{All-nil, All-cons, All-head, All-tail}
 use Rattle.atomic_table.specs.Seated.{TableId}
 use Rattle.turn_lock.specs.Lock.{AreOthers, GrowsByOthers, PassState, first_pass, kept, seen}
@@ -19,9 +20,9 @@ use Rattle.shared_hub.proofs.ListLemmas.{hub_in-listed, log_in-append, admin_in-
 pub first_knows : {H : Type 0} (lock : TableId) (first : H) (hub : HubView) (pass : PassState (KeptEntry H)) → pass ≡ first_pass lock (listed first hub) → known (desk_of pass) ≡ hub
 first_knows lock first hub pass is = ap (λ p. known (desk_of p)) is ∙ (ap (λ l. record { admin = hub.admin; log = log_in l }) (append-nil (listed first hub)) ∙ hub_in-listed first hub)
 
-pub first_of_hub : {H : Type 0} (lock : TableId) (first : H) (hub : HubView) (pass : PassState (KeptEntry H)) → IsLegal hub.admin hub.log → pass ≡ first_pass lock (listed first hub) → IsHubPass pass
-first_of_hub {H} lock first hub pass legal is = record {
-  admin = subst (λ (p : PassState (KeptEntry H)). NamesAdmin p.at_new) (sym is) tt;
+pub first_of_hub : {H : Type 0} (lock : TableId) (first : H) (hub : HubView) (pass : PassState (KeptEntry H)) → is_user_name hub.admin ≡ true → IsLegal hub.admin hub.log → pass ≡ first_pass lock (listed first hub) → IsHubPass pass
+first_of_hub {H} lock first hub pass named legal is = record {
+  admin = subst (λ (p : PassState (KeptEntry H)). NamesAdmin p.at_new) (sym is) named;
   legal = subst (λ (h : HubView). IsLegal h.admin h.log) (sym (first_knows lock first hub pass is)) legal;
 }
 

@@ -29,7 +29,7 @@ use Rattle.shared_hub.specs.declared.steps.PushTurn.TheVariants.{Settled, Again}
 use Rattle.shared_hub.specs.Steps.{Adds, RunsChange, RunsLook, RunsOpening, RunsPush, RunsPushTurn}
 use Rattle.shared_hub.specs.Desk.{EndsTurn, desk_of}
 use Rattle.shared_hub.specs.Shared.{IsHubPass, log_seen}
-use Rattle.shared_hub.proofs.ListLemmas.{NamesAdmin-append, admin_in-append, log_in-append, no_more}
+use Rattle.shared_hub.proofs.ListLemmas.{NamesAdmin-append, admin_in-append, log_in-append, named_in, no_more}
 
 -- entries that bear none of the numbers are of others than the caller of one of them
 of_others : {H : Type 0} (n : ℕ) (numbers : List ℕ) (items : List (KeptEntry H)) → Contains numbers n → AreOthers caller_of numbers items → AllByRecursion (IsOfAnother n) (log_in items)
@@ -54,9 +54,10 @@ pub looks_on : {H A : Type 0} (old new : PassState (KeptEntry H)) → Turned cal
 looks_on old new turn =
     ⊎_elim (λ left. left.1) (λ sees. absurd (no_more (seen old ++ turn.between) sees.entry (sym sees.added ∙ turn.related.0))) turn.left
 
--- what a pass of a hub has seen is legal, and its own entries begin within it
+-- what a pass of a hub has seen is legal from a user's setup, and its own entries begin within it
 pub sound : {H : Type 0} (pass : PassState (KeptEntry H)) → IsHubPass pass → IsSound (desk_of pass)
 sound pass of_hub = record {
+  named = named_in pass.at_new of_hub.admin;
   legal = of_hub.legal;
   within = omega (arith, ap length (log_in-append pass.at_new pass.since), length-append (log_in pass.at_new) (log_in pass.since));
 }
@@ -115,7 +116,7 @@ module _ {H : Type 0} (old new : PassState (KeptEntry H)) (between after : List 
   }
 
   pub turn_stays : IsLegal (admin_in old.at_new) (log_seen old) → (asked : Asked) (turn : PushTurn) → RunsPushTurn old.caller asked (seen old ++ between) after turn → Leaves → IsHubPass new
-  turn_stays legal asked (Settled result) runs leaves = stays_pass legal (settled asked.pin asked.pack asked.commands asked.atomic result) runs.0 leaves
+  turn_stays legal asked (Settled result) runs leaves = stays_pass legal (settled asked.pin asked.request.pack asked.request.commands asked.request.atomic result) runs.0 leaves
   turn_stays legal asked (Again back wild) runs leaves = stays_pass legal None runs.0 leaves
 
   pub keeps_pins : Contains old.numbers old.caller → AreOthers caller_of old.numbers between → (event : Option Event) → Adds old.caller (seen old ++ between) after event → Leaves → KeepsPins (desk_of old) (desk_of new)
@@ -140,12 +141,12 @@ module _ {H : Type 0} (old new : PassState (KeptEntry H)) (between after : List 
     pub enters : (user repo : Name) (want : Want) (result : Entered) → RunsOpening old.caller user repo want (seen old ++ between) after result → Leaves → Enters (desk_of old) (desk_of new) user repo want result
     enters user repo want result runs leaves = (found, called own others (opened user repo want (kept result)) runs.0 leaves, answered user repo want result runs leaves)
 
-    pub pushes : (asked : Asked) (result : Pushed) → RunsPush old.caller asked (seen old ++ between) after result → Leaves → Pushes (desk_of old) (desk_of new) asked.pin asked.pack asked.commands asked.atomic result
-    pushes asked result runs leaves = (found, called own others (settled asked.pin asked.pack asked.commands asked.atomic result) runs.0 leaves, subst (λ (h : HubView). AnswersPush h asked.pin result) found_hub runs.1)
+    pub pushes : (asked : Asked) (result : Pushed) → RunsPush old.caller asked (seen old ++ between) after result → Leaves → Pushes (desk_of old) (desk_of new) asked.pin asked.request.pack asked.request.commands asked.request.atomic result
+    pushes asked result runs leaves = (found, called own others (settled asked.pin asked.request.pack asked.request.commands asked.request.atomic result) runs.0 leaves, subst (λ (h : HubView). AnswersPush h asked.pin result) found_hub runs.1)
 
     -- a turn of a push
     pub pushed_turn : (asked : Asked) (turn : PushTurn) → RunsPushTurn old.caller asked (seen old ++ between) after turn → Leaves → EndsTurn old new asked turn
-    pushed_turn asked (Settled result) runs leaves = (pushes asked result runs leaves, keeps_pins own others (settled asked.pin asked.pack asked.commands asked.atomic result) runs.0 leaves)
+    pushed_turn asked (Settled result) runs leaves = (pushes asked result runs leaves, keeps_pins own others (settled asked.pin asked.request.pack asked.request.commands asked.request.atomic result) runs.0 leaves)
     pushed_turn asked (Again back wild) runs (inl left) = (left.1, runs.1)
     pushed_turn asked (Again back wild) runs (inr sees) = absurd (no_more (seen old ++ between) sees.entry (sym sees.added ∙ runs.0))
 

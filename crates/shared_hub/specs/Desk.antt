@@ -15,5 +15,5 @@ desk_of pass = record { admin = admin_in pass.at_new; caller = pass.caller; star
 
 -- what a turn of a push did: it was settled; or the pass is as it was, and the push came back
 abbrev pub EndsTurn : {H : Type 0} → PassState (KeptEntry H) → PassState (KeptEntry H) → Asked → PushTurn → Type 0
-EndsTurn old new asked (Settled pushed) = Pushes (desk_of old) (desk_of new) asked.pin asked.pack asked.commands asked.atomic pushed × KeepsPins (desk_of old) (desk_of new)
+EndsTurn old new asked (Settled pushed) = Pushes (desk_of old) (desk_of new) asked.pin asked.request.pack asked.request.commands asked.request.atomic pushed × KeepsPins (desk_of old) (desk_of new)
 EndsTurn old new asked (Again back wild) = (new ≡ old) × (back ≡ asked)

@@ -1,5 +1,6 @@
 -- The list that a hub under a lock stands for: its admin with the hub as it was shared, and then the log.
-use Rattle.std.specs.Prelude.{◌≡◌, ⊤, ℕ, List, [], ◌∷◌, map}
+use Rattle.std.specs.Prelude.{◌≡◌, ℕ, true, List, [], ◌∷◌, map}
+use Rattle.conf_lex.specs.Names.{is_user_name}
 use Rattle.ref_store.specs.Refs.{Name}
 use Rattle.hub_history.specs.declared.entry.Entry.{Entry}
 use Rattle.hub.specs.Hub.{HubView}
@@ -36,10 +37,10 @@ log_in (Logged entry ∷ items) = entry ∷ log_in items
 abbrev pub hub_in : {H : Type 0} → List (KeptEntry H) → HubView
 hub_in items = record { admin = admin_in items; log = log_in items }
 
--- the first item is an admin
+-- the first item is an admin, which is a user's name
 abbrev pub NamesAdmin : {H : Type 0} → List (KeptEntry H) → Type 0
 NamesAdmin [] = ⊥
-NamesAdmin (First name was ∷ items) = ⊤
+NamesAdmin (First name was ∷ items) = is_user_name name ≡ true
 NamesAdmin (Logged entry ∷ items) = ⊥
 
 -- the list is one of a hub that was shared as this one

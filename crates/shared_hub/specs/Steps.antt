@@ -35,7 +35,7 @@ RunsOpening caller user repo want before after result =
 -- a push, by the list that it found
 abbrev pub RunsPush : {H : Type 0} → ℕ → Asked → List (KeptEntry H) → List (KeptEntry H) → Pushed → Type 0
 RunsPush caller asked before after result =
-    Adds caller before after (settled asked.pin asked.pack asked.commands asked.atomic result) × AnswersPush (hub_in before) asked.pin result
+    Adds caller before after (settled asked.pin asked.request.pack asked.request.commands asked.request.atomic result) × AnswersPush (hub_in before) asked.pin result
 
 -- a turn of a push: it is settled; or the list is as it was, and the push comes back, to be judged again
 abbrev pub RunsPushTurn : {H : Type 0} → ℕ → Asked → List (KeptEntry H) → List (KeptEntry H) → PushTurn → Type 0
@@ -51,7 +51,8 @@ RunsChange caller user repo change before after result =
 abbrev pub RunsLook : {H : Type 0} → ℕ → Name → List (KeptEntry H) → List (KeptEntry H) → Looked → Type 0
 RunsLook caller user before after result = Adds caller before after (looked user result) × AnswersLook (hub_in before) user result
 
--- a step whose request is used up by its first run: each later one leaves the list as it was, without an answer
+-- a step whose request is used up by its first run: each later one leaves the list as it was, without an
+-- answer
 abbrev pub RunsOnce : {H A B : Type 0} → (A → List (KeptEntry H) → List (KeptEntry H) → B → Type 0) → Option A → List (KeptEntry H) → List (KeptEntry H) → Option B → Type 0
 RunsOnce runs None before after result = (after ≡ before) × (result ≡ None)
 RunsOnce runs (Some asked) before after None = ⊥
@@ -62,16 +63,17 @@ pub record MayPush {H : Type 0} (known : List (KeptEntry H)) (asked : Asked) : T
   pub admin : NamesAdmin known
   pub stands : Stands asked.pin (admin_in known) (log_in known)
   pub write : asked.pin.pinned.want ≡ Write
-  pub within : AreWithinLimits asked.commands
-  pub fit : FitOnePack asked.pack
-  pub judged : IsJudgement asked.pin.pinned asked.pack asked.commands asked.judged
+  pub within : AreWithinLimits asked.request.commands
+  pub fit : FitOnePack asked.request.pack
+  pub judged : IsJudgement asked.pin.pinned asked.request.pack asked.request.commands asked.judged
 
 -- a push is asked that may be made, or none any more
 abbrev pub MayPushAny : {H : Type 0} → List (KeptEntry H) → Option Asked → Type 0
 MayPushAny known None = ⊤
 MayPushAny known (Some asked) = MayPush known asked
 
--- a push as its step has it: the number of its caller, what the caller has seen, and what is asked until it is done
+-- a push as its step has it: the number of its caller, what the caller has seen, and what is asked until it
+-- is done
 pub record PushState (H : Type 0) : Type 0 where
   pub caller : ℕ
   pub known : List (KeptEntry H)

@@ -15,7 +15,8 @@ use crate::shared::{SharedHub, SharedPass};
 use crate::steps::{AskStopped, Asked, Enter, Look, Permit, Push, PushTurn};
 use git_object::{ObjectList, share};
 use hub::{
-    Desk, Entered, Judged, Looked, PermChange, Permitted, Pin, Pushed, RepoName, UserName, Want,
+    Desk, Entered, Judged, Looked, PermChange, Permitted, Pin, PushRequest, Pushed, RepoName,
+    UserName, Want,
 };
 use ref_store::CommandList;
 use std::alloc::Global;
@@ -84,9 +85,9 @@ impl<'a, R: Wait, H: EventHub> SharedDesk<'a, R, H> {
     fn push_in_turn(&mut self, alloc: Global, asked: Asked) -> PushTurn
         requires stands { Stands asked.pin (desk_of self.old).admin (desk_of self.old).seen }
         requires write { asked.pin.pinned.want ≡ want.Write }
-        requires within { AreWithinLimits asked.commands }
-        requires fit { FitOnePack asked.pack }
-        requires judged { IsJudgement asked.pin.pinned asked.pack asked.commands asked.judged }
+        requires within { AreWithinLimits asked.request.commands }
+        requires fit { FitOnePack asked.request.pack }
+        requires judged { IsJudgement asked.pin.pinned asked.request.pack asked.request.commands asked.judged }
         ensures turn { EndsTurn self.old self.new asked result }
         ensures goes { IsSamePass self.old self.new }
     {
@@ -130,11 +131,14 @@ impl<'a, R: Wait, H: EventHub> Desk for SharedDesk<'a, R, H> {
     ) -> Pushed {
         // Held until the turn is over: so the objects of a push that isn't done are freed behind it.
         let _objects = share(&pack);
-        let mut asked = Asked {
-            pin,
+        let request = PushRequest {
             pack,
             commands,
             atomic,
+        };
+        let mut asked = Asked {
+            pin,
+            request,
             judged,
         };
         let rt = self.rt;

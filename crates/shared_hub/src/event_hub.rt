@@ -1,5 +1,6 @@
 // A hub as a lock over it has it.
-ghost use Rattle.std.specs.Prelude.{◌≡◌, Bool, IsTrue, false};
+ghost use Rattle.std.specs.Prelude.{◌≡◌, Bool, IsTrue, false, true};
+ghost use Rattle.conf_lex.specs.Names.{is_user_name};
 ghost use Rattle.access_check.specs.declared.verdicts.Want.TheVariants as want;
 ghost use Rattle.git_object.specs.Object.{FitOnePack};
 ghost use Rattle.hub_history.specs.History.{HasShortRole, IsLegal, Stands};
@@ -10,11 +11,10 @@ ghost use Rattle.hub.specs.Answer.{AnswersChange, AnswersLook, AnswersOpening, A
 ghost use Rattle.hub.specs.Hub.{HubView, Logs};
 
 use base_types::NoMemory;
-use git_object::ObjectList;
 use hub::{
-    Entered, Hub, Judged, Looked, PermChange, Permitted, Pin, Pushed, RepoName, UserName, Want,
+    Entered, Hub, Judged, Looked, PermChange, Permitted, Pin, PushRequest, Pushed, RepoName,
+    UserName, Want,
 };
-use ref_store::CommandList;
 use std::alloc::Global;
 use wild_perms::Wild;
 
@@ -58,17 +58,15 @@ pub trait EventHub {
         alloc: Global,
         caller: u64,
         pin: Pin,
-        pack: ObjectList,
-        commands: CommandList,
-        atomic: bool,
+        request: PushRequest,
         judged: Judged,
     ) -> Pushed
         requires stands { Stands pin (view self.old).admin (view self.old).log }
         requires write { pin.pinned.want ≡ want.Write }
-        requires within { AreWithinLimits commands }
-        requires fit { FitOnePack pack }
-        requires judged { IsJudgement pin.pinned pack commands judged }
-        ensures logs { Logs (view self.old) (view self.new) caller (settled pin pack commands atomic result) }
+        requires within { AreWithinLimits request.commands }
+        requires fit { FitOnePack request.pack }
+        requires judged { IsJudgement pin.pinned request.pack request.commands judged }
+        ensures logs { Logs (view self.old) (view self.new) caller (settled pin request.pack request.commands request.atomic result) }
         ensures answers { AnswersPush (view self.old) pin result }
         ensures legal { IsLegal (view self.new).admin (view self.new).log }
         ensures goes { goes_on self.old self.new };
@@ -99,9 +97,11 @@ pub trait EventHub {
     fn has_stopped(&self) -> bool
         ensures { IsTrue result → IsTrue may_stop };
 
-    /// Tells that the log is legal. It does nothing, and is called for its clause.
+    /// Tells that the admin is a user's name, and that the log is legal. It does nothing, and is called for
+    /// its clauses.
     fn sound(&self)
-        ensures { IsLegal (view self.now).admin (view self.now).log };
+        ensures named { is_user_name (view self.now).admin ≡ true }
+        ensures legal { IsLegal (view self.now).admin (view self.now).log };
 
     ghost stays: { (hub : Self) → goes_on hub hub };
 
@@ -143,12 +143,10 @@ impl EventHub for Hub {
         alloc: Global,
         caller: u64,
         pin: Pin,
-        pack: ObjectList,
-        commands: CommandList,
-        atomic: bool,
+        request: PushRequest,
         judged: Judged,
     ) -> Pushed {
-        self.settle(alloc, caller, pin, pack, commands, atomic, judged)
+        self.settle(alloc, caller, pin, request, judged)
     }
 
     fn permit(
@@ -171,8 +169,9 @@ impl EventHub for Hub {
     }
 
     fn sound(&self) {
-        // called for its clause that the log is legal
+        // called for their clauses that the log is legal and that the admin is a user's name
         let _log = self.log();
+        let _name = self.conf().admin().bytes();
     }
 
     ghost stays = { λ hub. refl };

@@ -11,7 +11,8 @@ use turn_lock::Kept;
 /// An item of the lock's list.
 #[derive(Drop)]
 pub enum KeptEntry<H> {
-    /// The name from whose setup the log is legal, and the hub as it was shared. It is the first item, and no other.
+    /// The name from whose setup the log is legal, and the hub as it was shared. It is the first item, and no
+    /// other.
     First(UserName, Snapshot<H>),
     Logged(Entry),
 }

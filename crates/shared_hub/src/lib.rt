@@ -1,6 +1,7 @@
 //! A hub that callers on several threads share.
 //!
-//! Each caller has a pass of the lock, and its desk: the calls of `hub::Desk`, each of which takes the turn once.
+//! Each caller has a pass of the lock, and its desk: the calls of `hub::Desk`, each of which takes the turn
+//! once.
 //!
 //! - `event_hub`: what a lock over a hub asks of it, and the plain hub, which gives it;
 //! - `kept`: a hub as the lock keeps it, whose list is its admin and then its log;

@@ -10,9 +10,10 @@ use crate::event_hub::EventHub;
 use crate::kept::KeptHub;
 use crate::shared::SharedPass;
 use base_types::NoMemory;
-use git_object::ObjectList;
-use hub::{Entered, Judged, Looked, PermChange, Permitted, Pin, Pushed, RepoName, UserName, Want};
-use ref_store::CommandList;
+use hub::{
+    Entered, Judged, Looked, PermChange, Permitted, Pin, PushRequest, Pushed, RepoName, UserName,
+    Want,
+};
 use std::alloc::Global;
 use std::marker::Model;
 use std::snapshot::Snapshot;
@@ -48,21 +49,19 @@ impl<H: EventHub> Step<KeptHub<H>> for Enter<'_> {
 #[derive(Drop)]
 pub struct Asked {
     pub pin: Pin,
-    pub pack: ObjectList,
-    pub commands: CommandList,
-    pub atomic: bool,
+    pub request: PushRequest,
     pub judged: Judged,
 }
 
 impl Asked {
     /// Judges the push again, by this creator and these roles, before it takes the turn once more.
     pub fn judge_again(&mut self, alloc: Global, wild: Wild) -> Result<(), NoMemory>
-        requires { IsJudgement self.old.pin.pinned self.old.pack self.old.commands self.old.judged }
+        requires { IsJudgement self.old.pin.pinned self.old.request.pack self.old.request.commands self.old.judged }
         ensures same { self.new ≡ record self.old { judged = self.new.judged } }
-        ensures judged { IsJudgement self.old.pin.pinned self.old.pack self.old.commands self.new.judged }
+        ensures judged { IsJudgement self.old.pin.pinned self.old.request.pack self.old.request.commands self.new.judged }
     {
         self.judged
-            .judge_again(alloc, &self.pin, &self.pack, &self.commands, wild)
+            .judge_again(alloc, &self.pin, &self.request, wild)
     }
 }
 
@@ -136,12 +135,12 @@ impl<H: EventHub> Step<KeptHub<H>> for Push<H> {
         }
         let Asked {
             pin,
-            pack,
-            commands,
-            atomic,
+            request,
             judged,
         } = asked;
-        let pushed = held.hub.settle(self.alloc, self.caller, pin, pack, commands, atomic, judged);
+        let pushed = held
+            .hub
+            .settle(self.alloc, self.caller, pin, request, judged);
         Some(PushTurn::Settled(pushed))
     }
 }

@@ -2,6 +2,8 @@ mod ScriptLemmas
 mod KeepLemmas
 mod LoneLemmas
 mod ScriptRows
+mod BookLemmas
+mod AgreeLemmas
 mod CheckLemmas
 mod AccessLemmas
 mod ServeLemmas

@@ -47,8 +47,8 @@ input_text ask conf other = frame_text ask_word ask ++ (frame_text conf_word con
 abbrev pub AreSmall : List ℕ → List ℕ → Option (List ℕ) → Type 0
 AreSmall ask conf other = AreBodies (ask ∷ conf ∷ bodies_of other)
 
--- What follows the good frames of an input that isn't that: no frame of questions; behind questions no frame of a conf; behind a conf something that is none; or
--- something behind a second conf.
+-- What follows the good frames of an input that isn't that: no frame of questions; behind questions no frame
+-- of a conf; behind a conf something that is none; or something behind a second conf.
 pub data GoesWrong (rest : List ℕ) : List ℕ → Type 0 where
   no_questions : BeginsNoFrame ask_word rest → GoesWrong rest []
   no_conf : (ask : List ℕ) → AreBodies (ask ∷ []) → BeginsNoFrame conf_word rest → GoesWrong rest (frame_text ask_word ask)
@@ -71,7 +71,8 @@ pub record ReadsInput (source source' : LinkState) (ask conf : List ℕ) (other 
   pub takes : Takes source source' (input_text ask conf other)
   pub ended : IsAtEnd source'.left
 
--- a part by which the input is bad, whatever follows; where the source doesn't tell what is left, the input is taken to end here
+-- a part by which the input is bad, whatever follows; where the source doesn't tell what is left, the input
+-- is taken to end here
 pub record FindsBad (source source' : LinkState) (offset : ℕ) : Type 0 where
   pub part : List ℕ
   pub takes : Takes source source' part
@@ -129,8 +130,8 @@ pub record PrintsBadPart (source source' sink sink' : LinkState) : Type 0 where
 
 -- ---- the end
 
--- What holds where `access` ended with this status; it ends with no other. Where a read failed nothing was printed; where memory ran out that is so, or a beginning
--- was printed of what is due.
+-- What holds where `access` ended with this status; it ends with no other. Where a read failed nothing was
+-- printed; where memory ran out that is so, or a beginning was printed of what is due.
 abbrev pub EndsAccess : LinkState → LinkState → LinkState → LinkState → Status → Type 0
 EndsAccess source source' sink sink' status.Done = PrintsAccess source source' sink sink' printed.Report
 EndsAccess source source' sink sink' status.BadQuestion = PrintsAccess source source' sink sink' printed.BadQuestion

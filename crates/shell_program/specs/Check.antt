@@ -43,7 +43,8 @@ pub record PrintsPart (source source' sink sink' : LinkState) : Type 0 where
   pub due : IsPrinted input has_rules text
   pub part : WritesPart sink sink' text
 
--- What holds where a check ended with this status; it ends with no other. Where a read failed nothing was printed; where memory ran out that is so, or the sink may run out of memory.
+-- What holds where a check ended with this status; it ends with no other. Where a read failed nothing was
+-- printed; where memory ran out that is so, or the sink may run out of memory.
 abbrev pub EndsCheck : LinkState → LinkState → LinkState → LinkState → Status → Type 0
 EndsCheck source source' sink sink' Done = PrintsConf source source' sink sink' true
 EndsCheck source source' sink sink' ConfRefused = PrintsConf source source' sink sink' false

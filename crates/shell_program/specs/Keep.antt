@@ -31,8 +31,9 @@ pub record DiskRun : Type 0 where
 unfoldable pub refusal_line : OpenFault → List ℕ
 refusal_line fault = fault_text fault ++ 10 ∷ []
 
--- What holds where a file was refused with this status; it is refused with no other. The line is printed, or a beginning of it, not all of it. Where memory
--- lacked nothing was printed, or the sink is one that may lack memory.
+-- What holds where a file was refused with this status; it is refused with no other. The line is printed, or
+-- a beginning of it, not all of it. Where memory lacked nothing was printed, or the sink is one that may lack
+-- memory.
 abbrev pub TellsRefusal : List ℕ → LinkState → LinkState → Status → Type 0
 TellsRefusal line sink sink' BadJournal = Appends sink.written sink'.written line
 TellsRefusal line sink sink' OutputFault = WritesPart sink sink' line × HasRisen sink.write_faults sink'.write_faults
@@ -45,7 +46,8 @@ EndsUnopened refusal.DiskFault sink sink' status = (status ≡ DiskFault) × (si
 EndsUnopened refusal.NoMemory sink sink' status = (status ≡ NoMemory) × (sink' ≡ sink)
 EndsUnopened fault sink sink' status = TellsRefusal (refusal_line fault) sink sink' status
 
--- The journal wasn't opened, for this reason: nothing was read of the input, and there is no log. Whatever records the file held, a crash at each moment leaves them.
+-- The journal wasn't opened, for this reason: nothing was read of the input, and there is no log. Whatever
+-- records the file held, a crash at each moment leaves them.
 pub record IsUnopened (admin : Name) (disk : DiskRun) (source source' sink sink' : LinkState) (log : List Entry) (status : Status) : Type 0 where
   pub fault : OpenFault
   pub why : IsTrue disk.modeled → IsNoJournal admin disk.old.file.content fault
@@ -67,7 +69,8 @@ pub record StoresAll (admin : Name) (disk : DiskRun) (log : List Entry) : Type 0
   pub no_fault : disk.new.disk_faults ≡ disk.old.disk_faults
   pub stored : IsTrue disk.modeled → IsStored admin log disk.new.file
 
--- what is stored, by the status: the whole log, unless a call of the disk failed; where memory ran out either may be so
+-- what is stored, by the status: the whole log, unless a call of the disk failed; where memory ran out either
+-- may be so
 abbrev pub Keeps : Name → DiskRun → List Entry → Status → Type 0
 Keeps admin disk log DiskFault = HasRisen disk.old.disk_faults disk.new.disk_faults
 Keeps admin disk log NoMemory = StoresAll admin disk log ⊎ HasRisen disk.old.disk_faults disk.new.disk_faults
@@ -78,7 +81,8 @@ abbrev pub EndsKept : Name → List Entry → LinkState → LinkState → LinkSt
 EndsKept admin before source source' sink sink' log DiskFault = StopsAtDisk source source' sink sink' admin before log
 EndsKept admin before source source' sink sink' log other = EndsScript admin before source source' sink sink' log other
 
--- The script was run at the hub of an open journal. A crash at each moment leaves the first events of the log, and all from before among them.
+-- The script was run at the hub of an open journal. A crash at each moment leaves the first events of the
+-- log, and all from before among them.
 pub record RunsOpen (admin : Name) (before : List Entry) (disk : DiskRun) (source source' sink sink' : LinkState) (log : List Entry) (status : Status) : Type 0 where
   pub more : List Entry
   pub grows : log ≡ before ++ more
@@ -86,8 +90,9 @@ pub record RunsOpen (admin : Name) (before : List Entry) (disk : DiskRun) (sourc
   pub keeps : Keeps admin disk log status
   pub any_moment : IsTrue disk.modeled → LeavesOnly (HoldsSome admin log (length before)) disk.old.file disk.new.file
 
--- The journal was opened, and the script was run behind the log whose events the file held. While it was opened, a crash at each moment leaves the records that the
--- file held; an empty file has none. From then on it leaves the first events of the log, and all from before among them.
+-- The journal was opened, and the script was run behind the log whose events the file held. While it was
+-- opened, a crash at each moment leaves the records that the file held; an empty file has none. From then on
+-- it leaves the first events of the log, and all from before among them.
 pub record RunsKept (admin : Name) (disk : DiskRun) (source source' sink sink' : LinkState) (log : List Entry) (status : Status) : Type 0 where
   pub before : List Entry
   pub legal : IsLegal admin before

@@ -1,4 +1,5 @@
 pub mod SessionFrames
+pub mod Faults
 pub mod Script
 pub mod Load
 pub mod RunningLoads
@@ -10,4 +11,5 @@ pub mod Serve
 pub mod Command
 pub mod Keep
 pub mod Lone
+pub mod Laws
 pub mod Shell

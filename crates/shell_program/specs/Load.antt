@@ -1,4 +1,5 @@
--- `load`: a generated installation, whose sessions are run one after the other at a new hub, and the line that is printed of them.
+-- `load`: a generated installation, whose sessions are run one after the other at a new hub, and the line
+-- that is printed of them.
 use Rattle.std.specs.Prelude.{◌≡◌, ◌⊎◌, ℕ, zero, suc, ◌+◌, ◌-◌, ◌^◌, min, Bool, true, false, not, ◌||◌, List, [], ◌++◌, count_by, codes, decimal}
 use Rattle.std.specs.List.{sum_by}
 use Rattle.std.specs.Io.KnownBytes.{Appends}
@@ -44,7 +45,8 @@ log_behind recorded count start (suc number) =
     let visit = visit_at count start number in
     (served_alone recorded loader (visit_input number visit (value_behind log visit)) log).log
 
--- this is the log behind all sessions, as many visits as there are repositories, where the hub answers as it records
+-- this is the log behind all sessions, as many visits as there are repositories, where the hub answers as it
+-- records
 abbrev pub IsLoaded : ℕ → ℕ → List Entry → Type 0
 IsLoaded count start log = AsRecorded loader log (λ recorded. log ≡ log_behind recorded count start count)
 
@@ -109,8 +111,9 @@ load_line count start log =
 
 -- III. The end
 
--- What holds where `load` ended with this status; it ends with no other. Where memory ran out before the line, a beginning of the log was made and nothing was
--- printed; else all sessions were run, and the line was printed, or a beginning of it, not all.
+-- What holds where `load` ended with this status; it ends with no other. Where memory ran out before the
+-- line, a beginning of the log was made and nothing was printed; else all sessions were run, and the line was
+-- printed, or a beginning of it, not all.
 abbrev pub EndsLoad : ℕ → ℕ → LinkState → LinkState → List Entry → Status → Type 0
 EndsLoad count start sink sink' log Done = IsLoaded count start log × Appends sink.written sink'.written (load_line count start log)
 EndsLoad count start sink sink' log OutputFault = IsLoaded count start log × WritesPart sink sink' (load_line count start log) × HasRisen sink.write_faults sink'.write_faults

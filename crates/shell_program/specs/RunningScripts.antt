@@ -19,15 +19,16 @@ use Rattle.shell_program.specs.declared.script.ScriptFault.TheVariants.{BadScrip
 use Rattle.shell_program.specs.declared.status.Status.{Status}
 use Rattle.shell_program.specs.declared.status.Status.TheVariants as status
 
--- One session was served, and this is printed of it: what the session gives at a hub that answers as the log afterwards records.
+-- One session was served, and this is printed of it: what the session gives at a hub that answers as the log
+-- afterwards records.
 pub record Serves (old new : DeskView) (number : ℕ) (body text : List ℕ) : Type 0 where
   pub printed : AsRecorded old.admin new.seen (λ recorded. text ≡ reply_text number (stop_word (served_alone recorded old.admin body old.seen).stop) (served_alone recorded old.admin body old.seen).bytes)
   pub seen : AsRecorded old.admin new.seen (λ recorded. new.seen ≡ (served_alone recorded old.admin body old.seen).log)
   pub admin : new.admin ≡ old.admin
   pub alone : IsTrue new.alone
 
--- Frames with these bodies were read, and their sessions served and printed, of which the first has this number, where the hub answers as the log
--- afterwards records.
+-- Frames with these bodies were read, and their sessions served and printed, of which the first has this
+-- number, where the hub answers as the log afterwards records.
 pub record Advances (source source' sink sink' : LinkState) (old new : DeskView) (number : ℕ) (bodies : List (List ℕ)) : Type 0 where
   pub small : AreBodies bodies
   pub takes : Takes source source' (flat_map frame_text bodies)
@@ -85,7 +86,8 @@ pub record LacksAtRead (source source' sink sink' : LinkState) (old new : DeskVi
   pub sink_is : sink' ≡ sink
   pub desk_is : new ≡ old
 
--- Memory lacked in a session, or where its reply was put together: of the entries that are due of it a beginning was made.
+-- Memory lacked in a session, or where its reply was put together: of the entries that are due of it a
+-- beginning was made.
 pub record LacksSession (old new : DeskView) (body : List ℕ) : Type 0 where
   pub goes_on : Begins old.seen new.seen
   pub within : AsRecorded old.admin new.seen (λ recorded. Begins new.seen (served_alone recorded old.admin body old.seen).log)
@@ -145,9 +147,10 @@ StopsAdvancing source source' sink sink' old new number offset NoMemory =
 abbrev pub IsReadOf : Option (List ℕ) → List ℕ → List ℕ → Type 0
 IsReadOf left part rest = (more : List ℕ) × IsRest left more × (rest ≡ part ++ more)
 
--- A script was run to its end, or to a bad frame: the input is a script, and what was printed, and the log from one to another, are that script's at a
--- hub that answers as the log afterwards records.
--- Of what follows the frames a part was read; where the script is bad, a byte at least, and none behind one at which it no longer ends inside a frame.
+-- A script was run to its end, or to a bad frame: the input is a script, and what was printed, and the log
+-- from one to another, are that script's at a hub that answers as the log afterwards records. Of what follows
+-- the frames a part was read; where the script is bad, a byte at least, and none behind one at which it no
+-- longer ends inside a frame.
 pub record RunsScript (source source' sink sink' : LinkState) (admin : Name) (log log' : List Entry) (bad : Bool) : Type 0 where
   pub input : List ℕ
   pub bodies : List (List ℕ)
@@ -163,7 +166,8 @@ pub record RunsScript (source source' sink sink' : LinkState) (admin : Name) (lo
   pub written : AsRecorded admin log' (λ recorded. Appends sink.written sink'.written (script recorded admin bodies rest log).output)
   pub log_is : AsRecorded admin log' (λ recorded. log' ≡ (script recorded admin bodies rest log).log)
 
--- A read failed before a frame or inside it: the sessions of all frames that were read whole were served and printed.
+-- A read failed before a frame or inside it: the sessions of all frames that were read whole were served and
+-- printed.
 pub record StopsAtRead (source source' sink sink' : LinkState) (admin : Name) (log log' : List Entry) : Type 0 where
   pub bodies : List (List ℕ)
   pub part : List ℕ
@@ -175,8 +179,8 @@ pub record StopsAtRead (source source' sink sink' : LinkState) (admin : Name) (l
   pub log_is : AsRecorded admin log' (λ recorded. log' ≡ (sessions recorded admin 1 bodies log).log)
   pub risen : HasRisen source.read_faults source'.read_faults
 
--- The session of the next frame was served, and what was printed, which is what is printed of these and then so much more, falls short of what is
--- printed of these and of that one.
+-- The session of the next frame was served, and what was printed, which is what is printed of these and then
+-- so much more, falls short of what is printed of these and of that one.
 pub record StopsServing (source source' : LinkState) (admin : Name) (log log' : List Entry) (done : List (List ℕ)) (more : List ℕ) : Type 0 where
   pub body : List ℕ
   pub small : AreBodies (done ++ body ∷ [])
@@ -184,7 +188,8 @@ pub record StopsServing (source source' : LinkState) (admin : Name) (log log' : 
   pub short : AsRecorded admin log' (λ recorded. FallsShort ((sessions recorded admin 1 done log).output ++ more) (sessions recorded admin 1 (done ++ body ∷ []) log).output)
   pub log_is : AsRecorded admin log' (λ recorded. log' ≡ (sessions recorded admin 1 (done ++ body ∷ []) log).log)
 
--- no frame follows, and what was printed, so much more than of these, falls short of what is printed of these and of the bad frame
+-- no frame follows, and what was printed, so much more than of these, falls short of what is printed of these
+-- and of the bad frame
 pub record StopsTelling (source source' : LinkState) (admin : Name) (log log' : List Entry) (done : List (List ℕ)) (more : List ℕ) : Type 0 where
   pub rest : List ℕ
   pub part : List ℕ
@@ -198,7 +203,8 @@ pub record StopsTelling (source source' : LinkState) (admin : Name) (log log' : 
   pub short : AsRecorded admin log' (λ recorded. FallsShort ((sessions recorded admin 1 done log).output ++ more) (script recorded admin done rest log).output)
   pub log_is : AsRecorded admin log' (λ recorded. log' ≡ (sessions recorded admin 1 done log).log)
 
--- A write failed. The sessions of these frames were served and printed whole; then the next session was served, or a frame was found to be bad, and a beginning of what is printed of that, not all of it.
+-- A write failed. The sessions of these frames were served and printed whole; then the next session was
+-- served, or a frame was found to be bad, and a beginning of what is printed of that, not all of it.
 pub record StopsAtWrite (source source' sink sink' : LinkState) (admin : Name) (log log' : List Entry) : Type 0 where
   pub done : List (List ℕ)
   pub more : List ℕ
@@ -216,7 +222,8 @@ pub record StopsReading (source source' : LinkState) (admin : Name) (log log' : 
   pub nothing : more ≡ []
   pub log_is : AsRecorded admin log' (λ recorded. log' ≡ (sessions recorded admin 1 done log).log)
 
--- memory lacked in the session of the next frame: nothing more was printed than of these, and of that session's entries a beginning was made
+-- memory lacked in the session of the next frame: nothing more was printed than of these, and of that
+-- session's entries a beginning was made
 pub record StopsInSession (source source' : LinkState) (admin : Name) (log log' : List Entry) (done : List (List ℕ)) (more : List ℕ) : Type 0 where
   pub body : List ℕ
   pub small : AreBodies (done ++ body ∷ [])
@@ -225,8 +232,9 @@ pub record StopsInSession (source source' : LinkState) (admin : Name) (log log' 
   pub goes_on : AsRecorded admin log' (λ recorded. Begins (sessions recorded admin 1 done log).log log')
   pub within : AsRecorded admin log' (λ recorded. Begins log' (sessions recorded admin 1 (done ++ body ∷ []) log).log)
 
--- Memory lacked. The sessions of these frames were served and printed whole; then it lacked before the next frame or inside it, or in its session, and
--- nothing more was printed; or that session was served, or a frame was found to be bad, and a beginning of what is printed of that, not all of it.
+-- Memory lacked. The sessions of these frames were served and printed whole; then it lacked before the next
+-- frame or inside it, or in its session, and nothing more was printed; or that session was served, or a frame
+-- was found to be bad, and a beginning of what is printed of that, not all of it.
 pub record StopsForMemory (source source' sink sink' : LinkState) (admin : Name) (log log' : List Entry) : Type 0 where
   pub done : List (List ℕ)
   pub more : List ℕ
@@ -238,7 +246,8 @@ pub record StopsForMemory (source source' sink sink' : LinkState) (admin : Name)
       ⊎ StopsServing source source' admin log log' done more
       ⊎ StopsTelling source source' admin log log' done more
 
--- The desk broke. The sessions of these frames were served and printed whole; then the next session was served, in which it broke, and nothing was printed of it.
+-- The desk broke. The sessions of these frames were served and printed whole; then the next session was
+-- served, in which it broke, and nothing was printed of it.
 pub record StopsAtDisk (source source' sink sink' : LinkState) (admin : Name) (log log' : List Entry) : Type 0 where
   pub done : List (List ℕ)
   pub body : List ℕ
@@ -255,7 +264,8 @@ StopsScript source source' sink sink' admin log log' OutputFault = StopsAtWrite 
 StopsScript source source' sink sink' admin log log' DiskFault = StopsAtDisk source source' sink sink' admin log log'
 StopsScript source source' sink sink' admin log log' NoMemory = StopsForMemory source source' sink sink' admin log log'
 
--- What holds where a script behind this log ended with this status, at a desk that can't break; it ends with no other. Memory may run out before anything is read.
+-- What holds where a script behind this log ended with this status, at a desk that can't break; it ends with
+-- no other. Memory may run out before anything is read.
 abbrev pub EndsScript : Name → List Entry → LinkState → LinkState → LinkState → LinkState → List Entry → Status → Type 0
 EndsScript admin before source source' sink sink' log status.Done = RunsScript source source' sink sink' admin before log false
 EndsScript admin before source source' sink sink' log status.BadScript = RunsScript source source' sink sink' admin before log true
@@ -273,7 +283,8 @@ abbrev pub TellsOutput : {V : Type 0} → LinkState → LinkState → Result V S
 TellsOutput old new (Err OutputFault) = ⊤
 TellsOutput old new answer = new.write_faults ≡ old.write_faults
 
--- whether the desk is broken, by how a script went on: it is where that ended it, and where memory lacked it may be
+-- whether the desk is broken, by how a script went on: it is where that ended it, and where memory lacked it
+-- may be
 abbrev pub TellsBroken : {V : Type 0} → Bool → Result V ScriptFault → Type 0
 TellsBroken broken (Err DiskFault) = IsTrue broken
 TellsBroken broken (Err NoMemory) = ⊤

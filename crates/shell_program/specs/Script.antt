@@ -36,7 +36,8 @@ stop_word (Ended e) = end_word e
 stop_word Unanswered = []
 stop_word Waiting = []
 
--- a line with the session's number, the word for its end and how long its reply is, the reply, and a line feed
+-- a line with the session's number, the word for its end and how long its reply is, the reply, and a line
+-- feed
 unfoldable pub reply_text : ℕ → List ℕ → List ℕ → List ℕ
 reply_text number word reply = codes "session " ++ decimal number ++ 32 ∷ word ++ 32 ∷ decimal (length reply) ++ 10 ∷ reply ++ 10 ∷ []
 
@@ -44,7 +45,8 @@ reply_text number word reply = codes "session " ++ decimal number ++ 32 ∷ word
 unfoldable pub fault_text : ℕ → List ℕ
 fault_text offset = codes "bad script at " ++ decimal offset ++ 10 ∷ []
 
--- II. Sessions one after the other, at a hub of this admin's setup that answers so, by rules in force that are these, and that nobody else asks
+-- II. Sessions one after the other, at a hub of this admin's setup that answers so, by rules in force that
+-- are these, and that nobody else asks
 
 -- a session with this input, on this log
 unfoldable pub served_alone : Recorded → Name → List ℕ → List Entry → TurnAlone SessionEnd (Unit {0})
@@ -56,7 +58,8 @@ pub record Printed : Type 0 where
   -- the log afterwards
   pub log : List Entry
 
--- The sessions with these inputs, of which the first has this number, each on the log that the one before it left.
+-- The sessions with these inputs, of which the first has this number, each on the log that the one before it
+-- left.
 unfoldable pub sessions : Recorded → Name → ℕ → List (List ℕ) → List Entry → Printed
 sessions recorded admin number [] log = record { output = []; log = log }
 sessions recorded admin number (body ∷ bodies) log =
@@ -76,7 +79,8 @@ abbrev pub last_line : Option ℕ → List ℕ
 last_line None = []
 last_line (Some offset) = fault_text offset
 
--- A script of frames with these bodies and of what follows them, at the log before it: the sessions from number 1 on, and a line where a frame is bad.
+-- A script of frames with these bodies and of what follows them, at the log before it: the sessions from
+-- number 1 on, and a line where a frame is bad.
 unfoldable pub script : Recorded → Name → List (List ℕ) → List ℕ → List Entry → Printed
 script recorded admin bodies rest log =
     let all = sessions recorded admin 1 bodies log in

@@ -46,7 +46,8 @@ module _ {L D G : Type 0} (state : L → LinkState) (door : D → DoorState L) (
     pub unprinted : sink' ≡ sink
     pub no_log : log ≡ []
 
-  -- What holds where `serve` ended with this status; it ends with no other. A door's failure comes before want of memory in a session.
+  -- What holds where `serve` ended with this status; it ends with no other. A door's failure comes before
+  -- want of memory in a session.
   abbrev pub EndsServe : Status → Type 0
   EndsServe Done = (sessions : ℕ) × PrintsServed sessions false false
   EndsServe DoorFault = (sessions : ℕ) × (lacked : Bool) × PrintsServed sessions true lacked
@@ -54,7 +55,8 @@ module _ {L D G : Type 0} (state : L → LinkState) (door : D → DoorState L) (
   EndsServe NoMemory = ServesNone ⊎ ((sessions : ℕ) × PrintsServed sessions false true) ⊎ ((printed : PrintsPart) × MayLackAfter sink printed.part.bytes)
   EndsServe other = ⊥
 
--- Why the line was not printed whole. Where memory lacked, nothing of it was printed, or the sink is one that may lack memory.
+-- Why the line was not printed whole. Where memory lacked, nothing of it was printed, or the sink is one that
+-- may lack memory.
 abbrev pub StopsPrinting : LinkState → LinkState → List ℕ → ScriptFault → Type 0
 StopsPrinting sink sink' text fault.OutputFault = WritesPart sink sink' text × HasRisen sink.write_faults sink'.write_faults
 StopsPrinting sink sink' text fault.NoMemory = (part : WritesPart sink sink' text) × MayLackAfter sink part.bytes

@@ -15,8 +15,9 @@ use Rattle.shell_program.specs.Status.{status_number}
 use Rattle.shell_program.specs.declared.status.Status.{Status}
 
 module _ {L D G : Type 0} (state : L → LinkState) (door : D → DoorState L) (old new : List (Post D G HubView)) where
-  -- The command decides: `serve` takes its sessions through the first posts, reads nothing else, and leaves the other posts and the disk as they were. Each
-  -- other command leaves all posts so, and ends as with one caller.
+  -- The command decides: `serve` takes its sessions through the first posts, reads nothing else, and leaves
+  -- the other posts and the disk as they were. Each other command leaves all posts so, and ends as with one
+  -- caller.
   abbrev pub EndsShellBy : Option Asked → DiskRun → LinkState → LinkState → LinkState → LinkState → List Entry → Status → Type 0
   EndsShellBy (Some (Serve admin workers each)) disk source source' sink sink' log status =
       EndsServe state door admin each (take workers old) (take workers new) sink sink' log status × (drop workers new ≡ drop workers old) × (source' ≡ source) × (disk.new ≡ disk.old)

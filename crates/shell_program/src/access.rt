@@ -186,7 +186,8 @@ pub fn run_access<I: Source, O: Sink>(alloc: Global, input: &mut I, output: &mut
     ensures ends { EndsAccess (I.state input.old) (I.state input.new) (O.state output.old) (O.state output.new) result }
     ensures tells { TellsStatus (I.state input.old) (I.state input.new) (O.state output.old) (O.state output.new) (status_number result) }
 {
-    // called for its clause that there are answers to questions on patterns, so that the report says something
+    // called for its clause that there are answers to questions on patterns, so that the report says
+    // something
     some_patterns_are_true();
     match read_input(alloc, input) {
         Ok(asked) => access_status(print_due(alloc, asked, output)),

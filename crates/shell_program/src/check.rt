@@ -77,8 +77,8 @@ fn conf_status(has_rules: bool) -> Status
     Status::ConfRefused
 }
 
-/// Reads a conf from the input to its end, and prints its rules, or its fault. What is printed is made whole before its
-/// first byte is written.
+/// Reads a conf from the input to its end, and prints its rules, or its fault. What is printed is made whole
+/// before its first byte is written.
 pub fn run_check<I: Source, O: Sink>(alloc: Global, input: &mut I, output: &mut O) -> Status
     ensures ends { EndsCheck (I.state input.old) (I.state input.new) (O.state output.old) (O.state output.new) result }
     ensures tells { TellsStatus (I.state input.old) (I.state input.new) (O.state output.old) (O.state output.new) (status_number result) }

@@ -93,8 +93,9 @@ fn run_open<I: Source, O: Sink, Y: Disk>(
     }
 }
 
-/// Runs a script at the hub of this admin's journal, which is made where the disk's file is empty. Each event is stored
-/// before it is answered. A file that is no journal of this admin's hub is refused, and nothing is read of the input.
+/// Runs a script at the hub of this admin's journal, which is made where the disk's file is empty. Each event
+/// is stored before it is answered. A file that is no journal of this admin's hub is refused, and nothing is
+/// read of the input.
 pub fn run_keep<I: Source, O: Sink, Y: Disk>(
     alloc: Global,
     admin: &UserName,

@@ -1,4 +1,5 @@
-// `load`: the sessions of a generated installation, one after the other, and a line that counts what they came to.
+// `load`: the sessions of a generated installation, one after the other, and a line that counts what they
+// came to.
 ghost use Rattle.std.specs.Prelude.{◌≡◌, ◌⊎◌, ◌++◌, ◌+◌, ◌-◌, ◌^◌, ◌<◌, ◌≤◌, IfErr, IfOk, OnErr, OnOk, decimal, min};
 ghost use Rattle.std.specs.Io.KnownBytes.{Appends};
 ghost use Rattle.hub.specs.Hub.{state_of};
@@ -171,8 +172,9 @@ fn legal_log(hub: Hub) -> EntryList
     hub.into_log()
 }
 
-/// Runs the sessions of a generated installation of so many repositories at a new hub, and prints one line. It costs what
-/// the sessions cost: the first compiles a conf of so many repositories, the others push one commit each.
+/// Runs the sessions of a generated installation of so many repositories at a new hub, and prints one line.
+/// It costs what the sessions cost: the first compiles a conf of so many repositories, the others push one
+/// commit each.
 pub fn run_load<O: Sink>(alloc: Global, count: u32, start: u32, output: &mut O) -> Ended
     requires some { 0 < count }
     requires few { count ≤ 5000 }

@@ -8,8 +8,8 @@ use session_workers::{EventHub, Post};
 use std::alloc::Global;
 use std::net::TcpListener;
 
-/// So many posts at one listener, or at none where its address couldn't be bound, which their doors tell as a failure.
-/// Their gates are always open.
+/// So many posts at one listener, or at none where its address couldn't be bound, which their doors tell as a
+/// failure. Their gates are always open.
 pub fn posts_at<'a, H: EventHub>(
     alloc: Global,
     count: usize,

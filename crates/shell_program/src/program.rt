@@ -65,8 +65,9 @@ fn run_asked<
     }
 }
 
-/// Runs the program as the words ask. `serve` takes its sessions through the first posts, as many as it has workers; it
-/// is refused where there are fewer. `keep` keeps its log in a journal on the disk; no other command uses the disk.
+/// Runs the program as the words ask. `serve` takes its sessions through the first posts, as many as it has
+/// workers; it is refused where there are fewer. `keep` keeps its log in a journal on the disk; no other
+/// command uses the disk.
 pub fn shell_main<
     I: Source,
     O: Sink,

@@ -1,9 +1,10 @@
 // A script: sessions one after the other on one desk, and what is printed of them.
-ghost use Rattle.std.specs.Prelude.{◌≡◌, Bool, IfOk, IfErr, IfSome, IfNone, IsTrue, OnOk, false};
+ghost use Rattle.std.specs.Prelude.{◌≡◌, Bool, IfOk, IfErr, IfSome, IfNone, IsTrue, OnOk, Some, false};
 ghost use Rattle.std.specs.Io.KnownBytes.{Appends};
 ghost use Rattle.pktline_core.specs.Links.{IsLater};
 ghost use Rattle.interaction_tree.specs.Traces.{Ended, Failed, Failure};
 ghost use Rattle.session_core.specs.End.{halt_of};
+ghost use Rattle.shell_program.specs.Faults.{script_fault_text};
 ghost use Rattle.shell_program.specs.Script.{end_word, fault_text, reply_text};
 ghost use Rattle.shell_program.specs.RunningScripts.{AdvancesOne, FindsEnd, RunsScript, Serves, StopsAdvancing, StopsScript, StopsSession, StopsWriting, TellsBroken, TellsInput, TellsOutput};
 
@@ -15,6 +16,8 @@ use pktline_core::{MemoryLink, Sink, Source, WriteFault, write_all};
 use script_frames::{FrameFault, read_frame};
 use session_core::{OpenGate, SessionEnd};
 use std::alloc::Global;
+use std::error::Error;
+use std::fmt;
 
 /// Why a script ended before its input did.
 #[derive(Clone, Copy, Debug, PartialEq, Eq)]
@@ -29,6 +32,22 @@ pub enum ScriptFault {
     DiskFault,
     NoMemory,
 }
+
+impl fmt::Display for ScriptFault {
+    ghost output = { λ fault. Some (script_fault_text fault) };
+
+    fn fmt<W: fmt::Write>(&self, f: &mut fmt::Formatter<W>) -> fmt::Result {
+        match self {
+            ScriptFault::BadScript => write!(f, "bad script"),
+            ScriptFault::InputFault => write!(f, "read failed"),
+            ScriptFault::OutputFault => write!(f, "write failed"),
+            ScriptFault::DiskFault => write!(f, "disk failed"),
+            ScriptFault::NoMemory => write!(f, "out of memory"),
+        }
+    }
+}
+
+impl Error for ScriptFault {}
 
 /// A desk at which a script runs. It may have lost the disk on which its log is kept.
 pub trait ScriptDesk: Desk {
@@ -57,7 +76,8 @@ impl From<NoMemory> for ScriptFault {
     }
 }
 
-// What is printed of a session has room for so many bytes beside its reply: the words and numbers before it, and the line feed behind it.
+// What is printed of a session has room for so many bytes beside its reply: the words and numbers before it,
+// and the line feed behind it.
 const ROOM_BESIDE: usize = 64;
 
 // The word of a script's frames, and its space.
@@ -66,7 +86,8 @@ const SESSION: &[u8] = b"session ";
 // How many bytes a call on a session's link moves at most.
 pub(crate) const MOST_MOVED: usize = 65_536;
 
-// The word for an end that a session comes to by itself. Over a link that can't fail only want of memory is another.
+// The word for an end that a session comes to by itself. Over a link that can't fail only want of memory is
+// another.
 pub(crate) fn word(end: SessionEnd) -> Option<&'static str>
     ensures some { IfSome result (λ word. (word.now ≡ end_word end) × (halt_of end ≡ Ended end)) }
     ensures none { IfNone result ((failure : Failure) × (halt_of end ≡ Failed failure)) }
@@ -160,8 +181,8 @@ fn serve<K: ScriptDesk>(
     }
 }
 
-// Reads the next frame, serves its session and prints that, and gives how many bytes the frame takes; or `None` at the
-// end of the input. A bad frame is printed with its offset.
+// Reads the next frame, serves its session and prints that, and gives how many bytes the frame takes; or
+// `None` at the end of the input. A bad frame is printed with its offset.
 fn advance<I: Source, O: Sink, K: ScriptDesk>(
     alloc: Global,
     number: u64,
@@ -201,8 +222,8 @@ fn advance<I: Source, O: Sink, K: ScriptDesk>(
     }
 }
 
-/// Runs a script at the only desk of a hub: reads the frames of the input one after the other, and prints of each
-/// session as soon as it is served. A session in which the desk broke is the last, and isn't printed.
+/// Runs a script at the only desk of a hub: reads the frames of the input one after the other, and prints of
+/// each session as soon as it is served. A session in which the desk broke is the last, and isn't printed.
 pub fn run_script<I: Source, O: Sink, K: ScriptDesk>(
     alloc: Global,
     input: &mut I,

@@ -55,8 +55,8 @@ pub fn print_served<O: Sink>(
     write_text(output, &text)
 }
 
-/// Serves the posts at a new hub of this admin, each with a worker that serves so many links, and prints how many
-/// sessions there were and how many entries the log has.
+/// Serves the posts at a new hub of this admin, each with a worker that serves so many links, and prints how
+/// many sessions there were and how many entries the log has.
 pub fn run_serve<
     O: Sink,
     L: Link + Send,

@@ -52,7 +52,8 @@ pub fn status_of(end: Result<(), ScriptFault>) -> Status
     }
 }
 
-/// How the end of `serve` is told, once its line was printed or not, by whether a door failed and whether memory lacked.
+/// How the end of `serve` is told, once its line was printed or not, by whether a door failed and whether
+/// memory lacked.
 pub fn served_status(printed: Result<(), ScriptFault>, door_failed: bool, no_memory: bool) -> Status
     ensures { result ≡ served_status printed door_failed no_memory }
 {

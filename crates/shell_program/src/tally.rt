@@ -5,8 +5,8 @@ ghost use Rattle.shell_program.specs.Load.{denied_in, done_in, is_denied, is_ref
 
 use hub::{EnterKept, Entry, Event, Outcome};
 
-/// How many commands of a log were done, how many were denied by the rules, openings among them, and how many were
-/// refused otherwise. At 2^64 - 1 a count stands still.
+/// How many commands of a log were done, how many were denied by the rules, openings among them, and how many
+/// were refused otherwise. At 2^64 - 1 a count stands still.
 #[derive(Clone, Copy, Debug)]
 pub(crate) struct Tally {
     pub done: u64,

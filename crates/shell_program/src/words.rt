@@ -5,8 +5,8 @@ use base_types::NoMemory;
 use std::alloc::Global;
 use std::{env, io};
 
-/// The words by which the program was called, its name among them, as the system gives them. Where one is no text there
-/// are none, which is no command either.
+/// The words by which the program was called, its name among them, as the system gives them. Where one is no
+/// text there are none, which is no command either.
 pub fn words_given(alloc: Global, given: io::Result<env::Args>) -> Result<Vec<String>, NoMemory>
     ensures { IfErr given (λ _. IfOk result (λ words. words.items ≡ [])) }
 {

@@ -71,7 +71,8 @@ fn reply(alloc: Global, line: &[u8], report: &[u8]) -> Result<Vec<u8>, NoMemory>
 
 const FIRST_LINE: &[u8] = b"session 1 served 149\n";
 
-// Whether a first push, whose first command is done, is printed and logged whole or, for want of memory, a beginning of both.
+// Whether a first push, whose first command is done, is printed and logged whole or, for want of memory, a
+// beginning of both.
 fn is_begun(alloc: Global, body: &[u8], due: &[u8]) -> Result<bool, NoMemory> {
     let (printed, Ended { status, log }) = run(alloc, frame(alloc, body)?)?;
     if log.len() > 0 && !is_granted(&log, 0) {
@@ -108,7 +109,8 @@ fn three_are_begun(alloc: Global) -> Result<bool, NoMemory> {
     )
 }
 
-// With a number of `rt try --fail-alloc` they say of each place what want of memory leaves; without, nothing wants.
+// With a number of `rt try --fail-alloc` they say of each place what want of memory leaves; without, nothing
+// wants.
 #[test]
 fn want_of_memory_leaves_a_beginning(rt: HostRuntime) -> Result<(), Fail> {
     match first_is_begun(rt.alloc()) {
@@ -127,7 +129,8 @@ fn want_of_memory_leaves_a_beginning_of_three_creates(rt: HostRuntime) -> Result
     Ok(())
 }
 
-// The second run on a disk finds what the first one logged: the same create is refused, since the ref is there.
+// The second run on a disk finds what the first one logged: the same create is refused, since the ref is
+// there.
 #[test]
 fn a_log_is_kept(rt: HostRuntime) -> Result<(), Fail> {
     let alloc = rt.alloc();

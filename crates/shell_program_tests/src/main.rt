@@ -1,7 +1,8 @@
-//! Tests of `session_workers` and `shell_program`, by what is public there. They are one crate, since each crate of tests proves anew how values
-//! of the types that it uses are dropped.
+//! Tests of `session_workers` and `shell_program`, by what is public there. They are one crate, since each
+//! crate of tests proves anew how values of the types that it uses are dropped.
 //!
-//! It is a program, which does nothing, since `rt ci` takes minutes to begin and end a library that stands so high.
+//! It is a program, which does nothing, since `rt ci` takes minutes to begin and end a library that stands so
+//! high.
 #![tactic(auto)]
 
 #[cfg(test)]

@@ -101,8 +101,8 @@ fn is_told(post: Option<&MemoryPost>, refs: &[u8], report: &[u8]) -> bool {
     link.written().strip_prefix(refs) == Some(report)
 }
 
-// Of two pushes at once the one whose opening comes behind the other push is told its branch. Where both openings come
-// before either push, neither is.
+// Of two pushes at once the one whose opening comes behind the other push is told its branch. Where both
+// openings come before either push, neither is.
 #[test]
 fn two_workers_write_what_some_order_has(rt: HostRuntime) -> Result<(), Fail> {
     let mut posts = two_posts(rt.alloc(), 9)?;

@@ -2,7 +2,7 @@
 use conf_lex::UserName;
 use edge_links::{Door, MemoryDoor, Next};
 use hub::{Event, Hub, NoMemory, Outcome};
-use pktline_core::MemoryLink;
+use pktline_core::{Link, MemoryLink};
 use session_core::{Gate, OpenGate};
 use session_workers::{Post, ServedAll, serve_all};
 use std::alloc::Global;
@@ -189,7 +189,11 @@ struct Waiting<'a> {
 }
 
 impl<'a> Gate for Waiting<'a> {
-    fn between(&mut self, _place: u64) {
+    ghost use Rattle.std.specs.Prelude.{None};
+
+    ghost calls = { λ _. None };
+
+    fn between<L: Link>(&mut self, _place: u64, _link: &L) {
         if !self.waits {
             return;
         }

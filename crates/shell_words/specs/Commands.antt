@@ -112,7 +112,8 @@ IsWithinLimits (Load count start) = (1 ≤ count) × (count ≤ 5000) × (start 
 IsWithinLimits (Keep admin) = is_user_name admin ≡ true
 IsWithinLimits Access = ⊤
 
--- What the answer of a reading says: what was found; that nothing was; or that something was, and that memory ran out.
+-- What the answer of a reading says: what was found; that nothing was; or that something was, and that memory
+-- ran out.
 abbrev pub Reads : {X : Type 0} → Option X → Result X WordsFault → Type 0
 Reads found (Ok value) = found ≡ Some value
 Reads found (Err Usage) = found ≡ None

@@ -3,7 +3,8 @@ use Rattle.std.specs.Prelude.{ℕ, ◌&&◌, List, Option, Some, None, decimal, 
 use Rattle.std.specs.Str.{bytes_eq}
 use Rattle.std.specs.Str.Parse.{digits_value}
 
--- the number whose decimal digits the text is, without a sign or a leading zero, where it is one from `least` to `most`
+-- the number whose decimal digits the text is, without a sign or a leading zero, where it is one from `least`
+-- to `most`
 abbrev pub number_in : ℕ → ℕ → List ℕ → Option ℕ
 number_in least most text =
     let n = digits_value 10 text in

@@ -21,7 +21,8 @@ pub record Given : Type 0 where
 abbrev pub after_prefix : List ℕ → List ℕ → Option (List ℕ)
 after_prefix prefix text = if bytes_eq (take (length prefix) text) prefix then Some (drop (length prefix) text) else None
 
--- the option by what follows its flag in a word: nothing, and the value is the next word; or `=` (61) and the value
+-- the option by what follows its flag in a word: nothing, and the value is the next word; or `=` (61) and the
+-- value
 abbrev pub given_after : Flag → List ℕ → List (List ℕ) → Option Given
 given_after flag [] [] = None
 given_after flag [] (value ∷ rest) = Some (record { flag = flag; value = value; rest = rest })

@@ -13,7 +13,8 @@ use std::alloc::Global;
 use std::error::Error;
 use std::fmt;
 
-// The greatest number of workers, of sessions for each, of repositories that are loaded, and at which a load starts.
+// The greatest number of workers, of sessions for each, of repositories that are loaded, and at which a load
+// starts.
 const MOST_WORKERS: u64 = 8;
 
 const MOST_SESSIONS: u64 = 1_000_000;
@@ -33,7 +34,8 @@ pub enum Asked {
     Script {
         admin: UserName,
     },
-    /// `serve --admin NAME --workers K --sessions N`, with 1 to 8 workers and 1 to 1,000,000 sessions for each.
+    /// `serve --admin NAME --workers K --sessions N`, with 1 to 8 workers and 1 to 1,000,000 sessions for
+    /// each.
     Serve {
         admin: UserName,
         workers: u8,
@@ -76,9 +78,9 @@ impl fmt::Display for WordsFault {
 
 impl Error for WordsFault {}
 
-/// Reads the words by which the program was called, without its name, as a command. An option is written `--x VALUE` or
-/// `--x=VALUE`, the options of a command come in any order, each once, and a number has no sign and no leading zero.
-/// `--help` and `--version` are no commands.
+/// Reads the words by which the program was called, without its name, as a command. An option is written `--x
+/// VALUE` or `--x=VALUE`, the options of a command come in any order, each once, and a number has no sign and
+/// no leading zero. `--help` and `--version` are no commands.
 #[tactic(auto, unfolding(crate::specs::Commands::asked))]
 pub fn read_words(alloc: Global, words: &[String]) -> Result<Asked, WordsFault>
     ensures reads { Reads (asked (map string_bytes words.now)) result }

@@ -5,7 +5,8 @@ ghost use Rattle.shell_words.specs.Numbers.{number_in};
 use itoa::Buffer;
 use std::str;
 
-/// The number whose decimal digits the word is, as it would be printed, where it is one from `least` to `most`.
+/// The number whose decimal digits the word is, as it would be printed, where it is one from `least` to
+/// `most`.
 pub(crate) fn number_in(least: u64, most: u64, word: &[u8]) -> Option<u64>
     ensures value { result ≡ number_in least most word.now }
     ensures range { IfSome result (λ n. (least ≤ n) × (n ≤ most)) }

@@ -26,8 +26,8 @@ pub record OfFiles : Type 0 where
   pub lines : MAX_LINES ≡ 65536
   pub rows_below_conf : MAX_ROWS ≡ 10000
 
--- the rules of a conf and the texts of their patterns; the positions of a pattern, the bytes of the name in its hole, for which as many positions are
--- kept, the number in a count, and where counting positions ends
+-- the rules of a conf and the texts of their patterns; the positions of a pattern, the bytes of the name in
+-- its hole, for which as many positions are kept, the number in a count, and where counting positions ends
 pub record OfRules : Type 0 where
   pub rules : MAX_RULES ≡ 100000
   pub patterns : MAX_PATTERNS ≡ 4096

@@ -360,7 +360,8 @@ fn ask_for_whole(rt: &impl Abort, walks: &mut Walks<'_>, names: &[ObjectId]) {
     }
 }
 
-// Asks it for each commit of one that lacks a tree. The last is asked for first, and so fails for what lies behind all others.
+// Asks it for each commit of one that lacks a tree. The last is asked for first, and so fails for what lies
+// behind all others.
 fn ask_for_lacking(rt: &impl Abort, walks: &mut Walks<'_>, names: &[ObjectId]) {
     for name in names.iter().rev() {
         let row = (*name, Some(Kind::Commit), Wholeness::Missing(absent(7)));
@@ -510,7 +511,8 @@ fn all_beside(rt: &impl Abort, alloc: Global, lens: &Lens, ids: &[ObjectId]) -> 
     known
 }
 
-// Whether all is known to be whole that these ids lead to, once what walkers from each of them found out is put together.
+// Whether all is known to be whole that these ids lead to, once what walkers from each of them found out is
+// put together.
 fn check_known(rt: &impl Abort, alloc: Global, lens: &Lens, ids: &[ObjectId]) {
     let known = all_beside(rt, alloc, lens, ids);
     let walks = Walks::knowing(alloc, lens, known);

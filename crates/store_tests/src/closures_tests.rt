@@ -9,8 +9,9 @@ use ref_store::{Lens, Repo};
 use std::alloc::Global;
 use std::process::Abort;
 
-// The objects by their places: a file that is changed and put back; a topic, which is merged; a file of the older history that a merge has again, and a
-// folder that a later commit has again; a tag of the oldest commit, and one of a folder; a commit without its folder.
+// The objects by their places: a file that is changed and put back; a topic, which is merged; a file of the
+// older history that a merge has again, and a folder that a later commit has again; a tag of the oldest
+// commit, and one of a folder; a commit without its folder.
 const FIRST: usize = 2;
 
 const SECOND: usize = 5;

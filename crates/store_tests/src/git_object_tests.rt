@@ -42,7 +42,8 @@ static OBJECTS: [Row; 6] = [
         0,
         0,
     ),
-    // Names that sort around the directory `a`: `a-b` and `a.b` before `a/`, `a0` behind it. The last is a commit of another repository.
+    // Names that sort around the directory `a`: `a-b` and `a.b` before `a/`, `a0` behind it. The last is a
+    // commit of another repository.
     (
         Kind::Tree,
         b"100644 a-b\0\xe6\x9d\xe2\x9b\xb2\xd1\xd6CK\x8b)\xaewZ\xd8\xc2\xe4\x8cS\x91100755 a.b\0\xe6\x9d\xe2\x9b\xb2\xd1\xd6CK\x8b)\xaewZ\xd8\xc2\xe4\x8cS\x9140000 a\0K\x82]\xc6B\xcbn\xb9\xa0`\xe5K\xf8\xd6\x92\x88\xfb\xeeI\x04120000 a0\0\xe6\x9d\xe2\x9b\xb2\xd1\xd6CK\x8b)\xaewZ\xd8\xc2\xe4\x8cS\x91160000 b\0\xe6\x9d\xe2\x9b\xb2\xd1\xd6CK\x8b)\xaewZ\xd8\xc2\xe4\x8cS\x91",
@@ -268,7 +269,8 @@ fn a_list_is_kept_in_two_places(rt: HostRuntime) {
     assert!(rt; is_shared(list, b"hello\n"));
 }
 
-// How many references to one blob a pack has, how many zero bytes that has, and whether it is within the limits.
+// How many references to one blob a pack has, how many zero bytes that has, and whether it is within the
+// limits.
 static PACKS: [(usize, usize, bool); 5] = [
     (0, 0, true),
     (16, 16_777_216, true),

@@ -19,8 +19,8 @@ fn id_at(rt: &impl Abort, ids: &[ObjectId], number: usize) -> ObjectId {
     *ids.get(number).expect(rt, "an object's number")
 }
 
-// Two roots; a diamond over the first, crossed; an octopus. The older half stands in the repository, and the others in the pack. Objects are numbered:
-// the first tree, the commits, and an id without an object.
+// Two roots; a diamond over the first, crossed; an octopus. The older half stands in the repository, and the
+// others in the pack. Objects are numbered: the first tree, the commits, and an id without an object.
 const ONE: usize = 0;
 
 const ROOT: usize = 1;

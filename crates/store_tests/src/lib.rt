@@ -1,4 +1,5 @@
-//! Tests of `git_object`, `ref_store`, `ancestry` and `vref`, by what is public there. They are one crate, since each crate of tests proves anew how values of the types that it uses are dropped.
+//! Tests of `git_object`, `ref_store`, `ancestry` and `vref`, by what is public there. They are one crate,
+//! since each crate of tests proves anew how values of the types that it uses are dropped.
 #![tactic(auto)]
 
 #[cfg(test)]

@@ -1,4 +1,5 @@
-//! Trees and the paths that are changed between them, which are those of `git diff-tree -r --name-only` in the order of their bytes.
+//! Trees and the paths that are changed between them, which are those of `git diff-tree -r --name-only` in
+//! the order of their bytes.
 
 ghost use Rattle.std.specs.Prelude.{◌<◌, length};
 
@@ -8,8 +9,8 @@ use std::alloc::Global;
 use std::process::Abort;
 use vref::{PathList, Paths, changed_paths};
 
-// The entries of trees: the tree, a mode, a name, and what it names. Objects are numbered: 0 is zero, 1 and 2 are blobs, then come the trees, of which 3 is
-// empty, and then those of `put_others`.
+// The entries of trees: the tree, a mode, a name, and what it names. Objects are numbered: 0 is zero, 1 and 2
+// are blobs, then come the trees, of which 3 is empty, and then those of `put_others`.
 static ENTRIES: [(usize, &str, &str, usize); 31] = [
     (4, "100644", "x", 1),
     (5, "100644", "x", 2),
@@ -165,7 +166,8 @@ fn put_trees(rt: &impl Abort, alloc: Global, objects: &mut ObjectList, ids: &mut
     }
 }
 
-// 23 is a commit of the tree 4, 24 a tag of it, 25 a tag of that tag, 26 a tag of a blob, and 27 an id without an object.
+// 23 is a commit of the tree 4, 24 a tag of it, 25 a tag of that tag, 26 a tag of a blob, and 27 an id
+// without an object.
 fn put_others(
     rt: &impl Abort,
     alloc: Global,
@@ -241,7 +243,8 @@ fn changed_paths_come_in_byte_order(rt: HostRuntime) {
 enum Shape {
     // a folder whose name has so many bytes, with one file, and a file beside it whose name has so many
     Long(usize, usize),
-    // so many folders in one another, so many entries of each, all of one tree, and so many files of the last one
+    // so many folders in one another, so many entries of each, all of one tree, and so many files of the last
+    // one
     Nest(usize, usize, usize),
     // a folder with a name of 4,000 bytes, in which are 100 folders of one tree, of so many files
     BelowLong(usize),
@@ -376,7 +379,8 @@ fn changed_paths_are_counted(rt: HostRuntime) {
 
 const FILES: usize = 40;
 
-// Trees of 40 files each: which of the files name another blob, by bits. Some trees differ in one file, some in many.
+// Trees of 40 files each: which of the files name another blob, by bits. Some trees differ in one file, some
+// in many.
 static OTHERS: [u64; 12] = [
     0,
     0b1,

@@ -213,7 +213,8 @@ fn has(repo: &Repo, alloc: Global, body: &str, first_k: usize, due: bool) -> boo
     }
 }
 
-// What is added, and what then; how many objects there are, and whether `c` is among the first two and among the first three.
+// What is added, and what then; how many objects there are, and whether `c` is among the first two and among
+// the first three.
 struct AddedRow {
     first: [&'static str; 3],
     then: [&'static str; 3],
@@ -509,7 +510,8 @@ const A: u8 = 1;
 
 const B: u8 = 2;
 
-// The value that is thought of, the new one, the value that is found where it is another, and how many refs there are then. Each byte is that of an id.
+// The value that is thought of, the new one, the value that is found where it is another, and how many refs
+// there are then. Each byte is that of an id.
 static MOVES: [(u8, u8, Option<u8>, usize); 5] = [
     (A, B, Some(ZERO), 0),
     (ZERO, A, None, 1),

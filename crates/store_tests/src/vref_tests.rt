@@ -120,7 +120,8 @@ fn check_all(rt: &impl Abort, alloc: Global, lens: &Lens, rows: &[Row], times: u
     }
 }
 
-// The facts one by one; and of a few changes, which each walk by themselves, of one portion that goes by one order, and of several.
+// The facts one by one; and of a few changes, which each walk by themselves, of one portion that goes by one
+// order, and of several.
 fn check_facts(rt: &impl Abort, alloc: Global, lens: &Lens, rows: &[Row]) {
     check_each(rt, alloc, lens, rows);
     let few = rows.split_at(rows.len().min(5)).0;
@@ -134,8 +135,9 @@ type NumberedRow = (&'static str, usize, usize, Change, bool, bool, bool, bool);
 
 const HEAD: &str = "refs/heads/a";
 
-// Objects are numbered: 0 is zero, 1 has no object, 2 is a blob, 3 a tree, 4 a root, 5 a root at the side, whose tree is the blob, 6 comes behind 4, and 7
-// merges 6 and 5. The facts are whether it is a tag, between commits, forward, and brings a merge.
+// Objects are numbered: 0 is zero, 1 has no object, 2 is a blob, 3 a tree, 4 a root, 5 a root at the side,
+// whose tree is the blob, 6 comes behind 4, and 7 merges 6 and 5. The facts are whether it is a tag, between
+// commits, forward, and brings a merge.
 static FACTS: [NumberedRow; 15] = [
     (HEAD, 0, 6, Change::Create, false, true, false, false),
     (HEAD, 6, 0, Change::Delete, false, true, false, false),
@@ -243,8 +245,8 @@ fn put_chain(
     chain
 }
 
-// Changes between commits of a chain here and there, with their facts: a merge is brought where one of the places 7, 15, .. lies behind the old place
-// and not behind the new one.
+// Changes between commits of a chain here and there, with their facts: a merge is brought where one of the
+// places 7, 15, .. lies behind the old place and not behind the new one.
 fn changes_along(rt: &impl Abort, alloc: Global, chain: &[ObjectId]) -> Vec<Row> {
     let mut rows = Vec::new(alloc);
     assert!(rt; chain.len() <= 1000);

@@ -11,6 +11,6 @@ pub stored_send : (Y : RattleType) (ghosts : Ghosts Y.Denot) → IsSend Y → Is
 stored_send Y ghosts y =
     let fields = struct_send (shape (StoredHub.the_type Y ghosts)) (
       search (y, sendable) depth 30,
-      (search (hub_send, sendable) depth 30, (search (heap.crosses, sendable) depth 60, (search sendable depth 30, tt))),
+      (search (hub_send, sendable) depth 30, (search (heap.crosses, sendable) depth 60, (search sendable depth 30, (search sendable depth 30, (search (heap.crosses, sendable) depth 60, tt))))),
     ) in
     recorded_send _ _ _ (StoredHub.the_type Y ghosts).to_one fields

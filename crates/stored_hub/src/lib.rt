@@ -1,4 +1,5 @@
-//! A hub whose events are stored on a disk before they are answered, for callers that share it.
+//! A hub of which the events that last are stored on a disk before they are answered, for callers that share
+//! it.
 //!
 //! - `stored`: the hub, its disk, and its making;
 //! - `calls`: its calls;

@@ -61,7 +61,8 @@ HasJoinedAll p = ContainsBelow p.numbers p.passes
 abbrev pub AddsAtMostOne : {T E : Type 0} → (T → List E) → (E → ℕ) → ℕ → T → T → Type 0
 AddsAtMostOne {T} {E} entries caller n before after = (entries after ≡ entries before) ⊎ ((e : E) × (caller e ≡ n) × (entries after ≡ entries before ++ e ∷ []))
 
--- The step found a list and left it with one entry more, which bears the pass's number. The pass has then seen that list, and the entry is one more of its own
+-- The step found a list and left it with one entry more, which bears the pass's number. The pass has then
+-- seen that list, and the entry is one more of its own
 pub record SeesItsEntry {E : Type 0} (caller : E → ℕ) (old new : PassState E) (between after : List E) : Type 0 where
   pub entry : E
   pub bears : caller entry ≡ old.caller
@@ -71,8 +72,9 @@ pub record SeesItsEntry {E : Type 0} (caller : E → ℕ) (old new : PassState E
   pub own : kept caller new old.caller ≡ kept caller old old.caller ++ entry ∷ []
   pub joined_kept : (n : ℕ) → Contains old.numbers n → n ≢ old.caller → kept caller new n ≡ kept caller old n
 
--- The step found what the pass had seen, and then entries that bear none of its numbers. Its relation holds of the lists that it found and left.
--- It left the list as it was, and the pass knows what it knew; or it added its entry, and the pass has seen the list that was left
+-- The step found what the pass had seen, and then entries that bear none of its numbers. Its relation holds
+-- of the lists that it found and left. It left the list as it was, and the pass knows what it knew; or it
+-- added its entry, and the pass has seen the list that was left
 pub record Turned {E : Type 0} (caller : E → ℕ) (relates : List E → List E → Type 0) (old new : PassState E) : Type 0 where
   pub between : List E
   pub after : List E

@@ -20,7 +20,8 @@ nothing = known [] [] []
 abbrev pub state_of : {E : Type 0} → TableId → View E → PassState E
 state_of lock v = record { lock = lock; caller = v.caller; passes = v.passes; at_new = v.knowledge.at_new.value; since = v.knowledge.since.value; numbers = v.knowledge.numbers.value }
 
--- between two calls a pass holds neither the turn nor the slot, its own number is one of its numbers, and its fields are what its view has
+-- between two calls a pass holds neither the turn nor the slot, its own number is one of its numbers, and its
+-- fields are what its view has
 pub record IsAtRest {T E : Type 0} (me : Me (Option T) (View E)) (caller passes : ℕ) : Type 0 where
   pub empty : me.1 ≡ []
   pub idle : me.0.holds ≡ false
@@ -62,7 +63,8 @@ added_view v e = record { caller = v.caller; passes = v.passes; holds = false; k
 
 -- ## The rule
 
--- this is what is known of the log, which is the list at `new` and what came since: its beginning, and past that no entry bears one of the numbers
+-- this is what is known of the log, which is the list at `new` and what came since: its beginning, and past
+-- that no entry bears one of the numbers
 pub record GoesOn {E : Type 0} (caller : E → ℕ) (k : Knowledge E) (at_new since : List E) : Type 0 where
   pub starts : (n : ℕ) → Contains k.numbers.value n → k.at_new.value ≡ at_new
   pub rest : List E
@@ -73,7 +75,8 @@ pub record GoesOn {E : Type 0} (caller : E → ℕ) (k : Knowledge E) (at_new si
 abbrev pub IsJoinOfBoth : {E : Type 0} → (E → ℕ) → View E → Type 0
 IsJoinOfBoth caller v = GoesOn caller v.left v.knowledge.at_new.value v.knowledge.since.value × GoesOn caller v.right v.knowledge.at_new.value v.knowledge.since.value
 
--- one seat under the rule: what it knows is so, its numbers are its own and were given out, and who owns 0 is the first pass
+-- one seat under the rule: what it knows is so, its numbers are its own and were given out, and who owns 0 is
+-- the first pass
 pub record IsSeat {E : Type 0} (caller : E → ℕ) (at_new since : List E) (passes : ℕ) (owner : ℕ → ℕ) (id : ℕ) (v : View E) : Type 0 where
   pub goes_on : GoesOn caller v.knowledge at_new since
   pub join_of : IsJoinOfBoth caller v
@@ -91,8 +94,9 @@ IsHeld {T} {E} s since =
     (s.words ≡ 1 ∷ []) × (s.homes ≡ none ∷ []) × (holder : ℕ) × ((v : View E) × (get_elem? s.views holder ≡ some v) × (v.holds ≡ true) × (n : ℕ) × Contains v.knowledge.numbers.value n)
     × ((id : ℕ) (v : View E) → get_elem? s.views id ≡ some v → v.holds ≡ true → (id ≡ holder) × (v.taken.value ≡ since))
 
--- THE RULE. There are a list at `new`, a list of what came since, a number of passes, and an owner of each number, such that each seat is in order,
--- each entry since bears the number of a pass that was made, and the turn is free or held
+-- THE RULE. There are a list at `new`, a list of what came since, a number of passes, and an owner of each
+-- number, such that each seat is in order, each entry since bears the number of a pass that was made, and the
+-- turn is free or held
 pub record KeepsRule {T E : Type 0} (entries : T → List E) (caller : E → ℕ) (s : State (Option T) (View E)) : Type 0 where
   pub at_new : List E
   pub since : List E
@@ -104,7 +108,8 @@ pub record KeepsRule {T E : Type 0} (entries : T → List E) (caller : E → ℕ
 
 -- ## What the steps tell
 
--- a try: the word was 0, so the seat holds the turn and the slot, and the value's list is what it had seen and then entries of others; or nothing changed
+-- a try: the word was 0, so the seat holds the turn and the slot, and the value's list is what it had seen
+-- and then entries of others; or nothing changed
 abbrev pub Tries : {T E : Type 0} → (T → List E) → (E → ℕ) → Me (Option T) (View E) → ℕ → Me (Option T) (View E) → Type 0
 Tries {T} {E} entries caller me found after =
     MatchBool (found == 0)
@@ -116,7 +121,8 @@ Tries {T} {E} entries caller me found after =
 abbrev pub Appends : {E : Type 0} → (E → ℕ) → ℕ → List E → List E → Type 0
 Appends {E} caller n before after = (after ≡ before) ⊎ ((e : E) × (caller e ≡ n) × (after ≡ before ++ e ∷ []))
 
--- what a release asks: the seat holds the turn, and the slot has a value whose list is what was taken, or that and one entry with the seat's number
+-- what a release asks: the seat holds the turn, and the slot has a value whose list is what was taken, or
+-- that and one entry with the seat's number
 abbrev pub MayRelease : {T E : Type 0} → (T → List E) → (E → ℕ) → Me (Option T) (View E) → Type 0
 MayRelease {T} entries caller me =
     (me.0.holds ≡ true) × Contains me.0.knowledge.numbers.value me.0.caller × (x : T) × (me.1 ≡ (0, Some x) ∷ []) × Appends caller me.0.caller (me.0.knowledge.at_new.value ++ me.0.taken.value) (entries x)

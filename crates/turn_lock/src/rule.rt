@@ -1,12 +1,13 @@
-//! The table of the lock: word 0 is 0 while the turn is free and 1 while it is held, and slot 0 has the value.
+//! The table of the lock: word 0 is 0 while the turn is free and 1 while it is held, and slot 0 has the
+//! value.
 use crate::kept::Kept;
 use atomic_table::{Join, Play, Seat, Shared, Split, Table, TableRule};
 use std::alloc::Global;
 use std::marker::PhantomData;
 use std::snapshot::Snapshot;
 
-/// What is known of the list, and whose entries are all known. No value of it is made, and a clause sees an array as a
-/// list of any length.
+/// What is known of the list, and whose entries are all known. No value of it is made, and a clause sees an
+/// array as a list of any length.
 pub struct Knowledge<E> {
     pub at_new: Snapshot<[E; 0]>,
     pub since: Snapshot<[E; 0]>,

@@ -30,7 +30,8 @@ pub fn release<T: Kept>(words: &Words<T>, seat: &mut Place<T>)
     words.swap::<Release<T>>(seat, 0, 0);
 }
 
-/// The rounds in which a thread that waits only looks, then those in which it lets another thread run, then naps.
+/// The rounds in which a thread that waits only looks, then those in which it lets another thread run, then
+/// naps.
 const LOOKS: u32 = 100;
 
 const YIELDS: u32 = 10;

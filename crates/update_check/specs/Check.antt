@@ -21,7 +21,8 @@ pub record CheckView : Type 0 where
 abbrev pub asked_by : Patterns → CheckView → Asked
 asked_by patterns check = asked patterns check.flat check.wild check.repo check.user
 
--- What is found once for all changes: the letters in force, and which virtual refs are asked. It serves private fields alone.
+-- What is found once for all changes: the letters in force, and which virtual refs are asked. It serves
+-- private fields alone.
 pub record IsFoundOf (flat : Flat) (wild : WildView) (repo user : List ℕ) (flags : Flags) (asks_merge_check asks_paths : Bool) : Type 0 where
   pub letters : (patterns : Patterns) → AreTrue patterns → flags ≡ flags_of patterns flat.rules repo wild.creator
   pub merge : (patterns : Patterns) → AreTrue patterns → asks_merge_check ≡ holds_vref patterns flat.rules (asked patterns flat wild repo user) MergeCheck

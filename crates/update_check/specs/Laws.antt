@@ -31,8 +31,9 @@ module _ (patterns : Patterns) (rules : List Rule) (a : Asked) (objects : List C
   abbrev pub verdict : Facts → List ℕ → Verdict
   verdict facts name = decide patterns rules a (letter_for patterns rules a facts) name
 
-  -- The rules let a change of these facts be made: a rule allows the ref itself; where the merge check is asked and a merge is brought, no rule denies that;
-  -- and where changed paths are asked, they aren't too many, and no rule denies any of them.
+  -- The rules let a change of these facts be made: a rule allows the ref itself; where the merge check is
+  -- asked and a merge is brought, no rule denies that; and where changed paths are asked, they aren't too
+  -- many, and no rule denies any of them.
   pub record LetsBeMade (facts : Facts) : Type 0 where
     pub ref : IsAllowed (verdict facts change.name)
     pub merge : IsTrue (holds_vref patterns rules a MergeCheck) → IsTrue facts.merge → IsNotDenied (verdict facts (merge_check_name change.name))
@@ -44,7 +45,8 @@ module _ (patterns : Patterns) (rules : List Rule) (a : Asked) (objects : List C
     pub only : (facts : Facts) → AreFacts objects change.name change.old change.new facts → RulesSay patterns rules a objects change None → LetsBeMade facts
     pub all : (facts : Facts) → AreFacts objects change.name change.old change.new facts → LetsBeMade facts → (found : Option Refusal) → RulesSay patterns rules a objects change found → found ≡ None
 
-  -- A denial has the verdict on the name that it tells, with the letter that the change needs. Where no rule denies, that is the ref itself.
+  -- A denial has the verdict on the name that it tells, with the letter that the change needs. Where no rule
+  -- denies, that is the ref itself.
   pub record DenialsAreVerdicts : Type 0 where
     pub verdict_is : (v : Verdict) (letter : Letter) (name : List ℕ) → RulesSay patterns rules a objects change (Some (Denied v letter name)) → v ≡ decide patterns rules a letter name
     pub letter_is : (v : Verdict) (letter : Letter) (name : List ℕ) (facts : Facts) → AreFacts objects change.name change.old change.new facts

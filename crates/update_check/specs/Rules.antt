@@ -71,7 +71,8 @@ module _ (patterns : Patterns) (rules : List Rule) (a : Asked) where
   abbrev pub said_of_merge : Letter → Bool → List ℕ → Option Refusal
   said_of_merge letter brings_merge ref = if holds_vref patterns rules a MergeCheck && brings_merge then said_of_virtual letter (merge_check_name ref) else None
 
-  -- III. Changed paths: where a rule asks for them, the first that is denied, and before them that they are too many
+  -- III. Changed paths: where a rule asks for them, the first that is denied, and before them that they are
+  -- too many
   abbrev pub said_of_paths : Letter → List Path → Option Refusal
   said_of_paths letter [] = None
   said_of_paths letter (path ∷ paths) = option_or (said_of_virtual letter (path_name path)) (said_of_paths letter paths)

@@ -24,8 +24,9 @@ const MERGE_CHECK: &[u8] = b"VREF/MERGE-CHECK/";
 
 const NAME: &[u8] = b"VREF/NAME/";
 
-/// The rules for changes of refs by one user in one repository, among the objects of a lens. What is the same for all changes is found
-/// once, when it is made; and what is said of changed paths, once for each pair of trees and letter.
+/// The rules for changes of refs by one user in one repository, among the objects of a lens. What is the same
+/// for all changes is found once, when it is made; and what is said of changed paths, once for each pair of
+/// trees and letter.
 #[derive(Drop)]
 pub struct UpdateCheck<'a> {
     policy: &'a Policy,
@@ -77,9 +78,9 @@ impl<'a> UpdateCheck<'a> {
 
     /// Why the rules don't let a change be made, if they don't.
     ///
-    /// It costs the decisions on the ref and, where a merge is brought, on the merge check. Where a rule asks for changed paths, it costs what
-    /// `vref::changed_paths` does, and a decision for each path up to the first that is denied; of trees that it was asked of before, with the
-    /// same letter, a look-up.
+    /// It costs the decisions on the ref and, where a merge is brought, on the merge check. Where a rule asks
+    /// for changed paths, it costs what `vref::changed_paths` does, and a decision for each path up to the
+    /// first that is denied; of trees that it was asked of before, with the same letter, a look-up.
     pub fn refusal(
         &mut self,
         alloc: Global,

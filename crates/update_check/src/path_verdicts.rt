@@ -11,8 +11,8 @@ use indexmap::IndexMap;
 use ref_store::{Lens, Salt};
 use std::alloc::Global;
 
-/// A change of one tree to another, by a change of a ref that needs this letter, as the key of a table. Where a side is the empty tree, which
-/// has no id, its name stands for nothing.
+/// A change of one tree to another, by a change of a ref that needs this letter, as the key of a table. Where
+/// a side is the empty tree, which has no id, its name stands for nothing.
 #[derive(Clone, Copy, PartialEq, Eq, Hash)]
 pub struct TreeChange {
     old: ObjectId,
@@ -52,8 +52,8 @@ fn base_number(base: Base) -> u8
     }
 }
 
-/// What the rules said of the changed paths of each pair of trees that was asked of, by the letter, so that commands that change the same
-/// trees are decided once. It holds a key and an answer for each.
+/// What the rules said of the changed paths of each pair of trees that was asked of, by the letter, so that
+/// commands that change the same trees are decided once. It holds a key and an answer for each.
 #[derive(Drop)]
 pub struct PathVerdicts {
     said: IndexMap<TreeChange, Option<Refusal>, Salt>,

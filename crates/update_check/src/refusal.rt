@@ -8,13 +8,15 @@ use std::alloc::AllocError;
 /// Why the rules don't let a change of a ref be made.
 #[derive(Drop)]
 pub enum Refusal {
-    /// A rule denies the ref or a virtual ref, or no rule allows the ref. The name is what was asked: the ref's, or the virtual ref's.
+    /// A rule denies the ref or a virtual ref, or no rule allows the ref. The name is what was asked: the
+    /// ref's, or the virtual ref's.
     Denied {
         verdict: Verdict,
         letter: Letter,
         name: Text,
     },
-    /// A rule asks for changed paths, and the trees differ at more than 200,000 paths, or at one of more than 4,096 bytes.
+    /// A rule asks for changed paths, and the trees differ at more than 200,000 paths, or at one of more than
+    /// 4,096 bytes.
     ManyPaths,
 }
 

@@ -8,7 +8,7 @@ use Rattle.ref_store.specs.Store.{Store}
 use Rattle.hub_history.specs.Opening.{Opening}
 use Rattle.hub_history.specs.State.{store_of}
 use Rattle.interaction_tree.specs.Interaction.{Interaction, gives, ◌>>=◌, write}
-use Rattle.interaction_tree.specs.Order.{EntriesFirst}
+use Rattle.interaction_tree.specs.Order.{EntriesFirst, IsOrdered}
 use Rattle.interaction_tree.proofs.OrderLemmas.{order_then}
 use Rattle.session_core.specs.declared.end.SessionEnd.{SessionEnd}
 use Rattle.session_core.specs.FirstPacket.{without_feed}
@@ -122,3 +122,7 @@ order_wanting wrote store offset = order_then wrote (next_packet offset) _ _ Alw
 pub order_uploading : (opening : Opening) (offset : ℕ) → EntriesFirst false (uploading opening offset) (λ w a. ⊤)
 unfolding EntriesFirst ◌>>=◌ write uploading Always
 order_uploading opening offset = order_wanting true (store_of opening.pinned.repository) offset
+
+pub wanting_ordered : (store : Store) (offset : ℕ) → IsOrdered (wanting store offset)
+unfolding Always
+wanting_ordered store offset = order_wanting false store offset

@@ -101,6 +101,7 @@ module _ {X : Type 0} (items : List X) (p : X → Bool) where
           differ true is isnt = absurd cc
           differ false is isnt = absurd cc
 
-  -- places that rise, of all items that pass a test and of no other, lead to the items that pass, in their order
+  -- places that rise, of all items that pass a test and of no other, lead to the items that pass, in their
+  -- order
   pub items_at : (places : List ℕ) → IsStrictlyIncreasing places → AreAll 0 places → filter_map (slice_get items) places ≡ filter p items
   items_at places up all = along items 0 places refl (rises places up) all

@@ -1,5 +1,5 @@
--- The advertisement of a fetch, as Git's pack-protocol has it under "Reference Discovery": the refs with their values and, behind each ref at an
--- annotated tag, what that tag stands for.
+-- The advertisement of a fetch, as Git's pack-protocol has it under "Reference Discovery": the refs with
+-- their values and, behind each ref at an annotated tag, what that tag stands for.
 use Rattle.std.specs.Prelude.{ℕ, Bool, true, false, List, [], ◌∷◌, ◌++◌, map, codes, Option, None, Some, if◌then◌else◌}
 use Rattle.std.specs.List.{flat_map}
 use Rattle.std.specs.Option.{option_map_or, option_to_list}

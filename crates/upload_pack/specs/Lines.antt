@@ -1,4 +1,5 @@
--- The lines of a client that fetches, as Git's pack-protocol has them under "Packfile Negotiation": what it wants, what it has, and that it is done.
+-- The lines of a client that fetches, as Git's pack-protocol has them under "Packfile Negotiation": what it
+-- wants, what it has, and that it is done.
 use Rattle.std.specs.Prelude.{ℕ, Bool, ◌||◌, List, [], is_some, Option, Some, None, codes, if◌then◌else◌}
 use Rattle.std.specs.Str.{bytes_eq}
 use Rattle.git_object.specs.Reader.{◌>>=◌, literal}
@@ -19,7 +20,8 @@ id_where test (Some found) = if test found.1 then Some found.0 else None
 abbrev pub is_nothing : List ℕ → Bool
 is_nothing text = bytes_eq text []
 
--- nothing, or a space and any words: in the first want they say what the client can do, which has no effect here
+-- nothing, or a space and any words: in the first want they say what the client can do, which has no effect
+-- here
 abbrev pub are_words : List ℕ → Bool
 are_words text = is_nothing text || is_some (literal (codes " ") text)
 

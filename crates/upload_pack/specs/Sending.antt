@@ -8,7 +8,8 @@ use Rattle.ref_store.specs.Objects.{same_id}
 use Rattle.ancestry.specs.Walk.{met}
 use Rattle.raw_pack.specs.Grammar.{spelled_pack}
 
--- A walk along links from one of these ids comes to this one. Walks of as many links as there are objects come to all that any walk comes to.
+-- A walk along links from one of these ids comes to this one. Walks of as many links as there are objects
+-- come to all that any walk comes to.
 abbrev pub is_reached : List Content → List ObjectId → ObjectId → Bool
 is_reached objects roots id = list_any (λ root. list_any (λ want. same_id id want.0) (met objects root None)) roots
 

@@ -7,6 +7,7 @@ use Rattle.hub_history.specs.Opening.{Opening}
 use Rattle.hub_history.specs.State.{store_of}
 use Rattle.interaction_tree.specs.Interaction.{Interaction, gives, ◌>>=◌, write}
 use Rattle.session_core.specs.declared.end.SessionEnd.{SessionEnd}
+use Rattle.session_core.specs.declared.end.SessionEnd.TheVariants as end
 use Rattle.session_core.specs.FirstPacket.{without_feed}
 use Rattle.session_core.specs.Packets.{next_packet, or_malformed, packet}
 use Rattle.upload_pack.specs.declared.uploading.FetchEnd.{FetchEnd}
@@ -41,7 +42,8 @@ fetching store first offset = do
   wants ← taking_wants 9999 (first ∷ []) offset
   unless_foreign (serving store wants.0 wants.1) (not_ours store wants.0)
 
--- the packet behind the advertisement, at this offset, and the offset behind it: a flush in place of wants ends the session
+-- the packet behind the advertisement, at this offset, and the offset behind it: a flush in place of wants
+-- ends the session
 abbrev pub wanted : Store → ℕ → packets.Packet → ℕ → Interaction SessionEnd FetchEnd
 wanted store offset packets.Flush behind = gives Served
 wanted store offset (packets.Line payload) behind = do
@@ -58,3 +60,8 @@ unfoldable pub uploading : Opening → ℕ → Interaction SessionEnd FetchEnd
 uploading opening offset = do
   advertised ← write (advertisement (store_of opening.pinned.repository))
   wanting (store_of opening.pinned.repository) offset
+
+-- how a fetch ends its session
+abbrev pub fetched_end : FetchEnd → SessionEnd
+fetched_end Served = end.Served
+fetched_end (NotOurRef id) = end.NotOurRef id

@@ -37,7 +37,8 @@ by_want more wants (Some id, behind) = more (wants ++ id ∷ []) behind
 unfoldable pub too_many_wants : {A : Type 0} → Interaction SessionEnd A
 too_many_wants = refuse (codes "ERR too long") (end.TooLong 10001)
 
--- Behind these wants so many may still come, up to the flush that ends them. It gives all of them, and the offset behind the flush.
+-- Behind these wants so many may still come, up to the flush that ends them. It gives all of them, and the
+-- offset behind the flush.
 unfoldable pub taking_wants : ℕ → List ObjectId → ℕ → Interaction SessionEnd (List ObjectId × ℕ)
 taking_wants zero wants offset = do
   next ← taking_want offset

@@ -7,12 +7,11 @@ ghost use Rattle.pktline_core.specs.Links.{KeepsReading};
 ghost use Rattle.pktline_core.specs.Packets.{spelling, Flush};
 ghost use Rattle.ref_store.specs.Objects.{same_id};
 ghost use Rattle.ref_store.specs.Refs.{zero_id};
-ghost use Rattle.hub.specs.Desk.{DeskView};
 ghost use Rattle.hub_history.specs.State.{HasShortNames};
 ghost use Rattle.interaction_tree.specs.Interaction.{write};
-ghost use Rattle.interaction_tree.specs.Runs.{Runs};
-ghost use Rattle.session_core.specs.End.{TellsLink, outcome_of};
+ghost use Rattle.session_core.specs.End.{TellsLink};
 ghost use Rattle.session_core.specs.Packets.{packet};
+ghost use Rattle.session_core.specs.Parts.{RunsLink};
 ghost use Rattle.upload_pack.specs.Advertising.{advertisement, advertised_ids, head_branch, head_lines, ids_of, is_tag, lines_behind, peeled, ref_line, refs_text, with_peeled};
 ghost use Rattle.upload_pack.specs.Wants.{not_ours};
 
@@ -24,10 +23,11 @@ use ref_store::{Lens, Repo, Salt};
 use session_core::{SessionEnd, say, say_flush};
 use std::alloc::{AllocError, Global};
 
-/// Writes what may be wanted of a repository: `HEAD`, the refs in the byte order of their names, and what tags stand for.
+/// Writes what may be wanted of a repository: `HEAD`, the refs in the byte order of their names, and what
+/// tags stand for.
 pub fn advertise<L: Link>(alloc: Global, link: &mut L, repo: &Repo) -> Result<(), SessionEnd>
     requires names { HasShortNames repo.now.refs }
-    ensures runs { (desk : DeskView) → Runs (L.state link.old) (L.state link.new) desk desk (write (advertisement repo.now)) (outcome_of result) }
+    ensures runs { RunsLink (L.state link.old) (L.state link.new) (write (advertisement repo.now)) result }
     ensures tells { TellsLink (L.state link.old) (L.state link.new) result }
     ensures reading { KeepsReading (L.state link.old) (L.state link.new) }
 {
@@ -54,7 +54,7 @@ fn advertise_head<L: Link>(
     link: &mut L,
     head: Option<ObjectId>,
 ) -> Result<(), SessionEnd>
-    ensures runs { (desk : DeskView) → Runs (L.state link.old) (L.state link.new) desk desk (write (flat_map packet (head_lines head))) (outcome_of result) }
+    ensures runs { RunsLink (L.state link.old) (L.state link.new) (write (flat_map packet (head_lines head))) result }
     ensures tells { TellsLink (L.state link.old) (L.state link.new) result }
     ensures reading { KeepsReading (L.state link.old) (L.state link.new) }
 {
@@ -78,7 +78,7 @@ fn advertise_refs<L: Link>(
     none: bool,
 ) -> Result<(), SessionEnd>
     requires names { HasShortNames repo.now.refs }
-    ensures runs { (desk : DeskView) → Runs (L.state link.old) (L.state link.new) desk desk (write (refs_text none repo.now)) (outcome_of result) }
+    ensures runs { RunsLink (L.state link.old) (L.state link.new) (write (refs_text none repo.now)) result }
     ensures tells { TellsLink (L.state link.old) (L.state link.new) result }
     ensures reading { KeepsReading (L.state link.old) (L.state link.new) }
 {
@@ -101,7 +101,7 @@ fn advertise_ref<L: Link>(
     first: bool,
 ) -> Result<(), SessionEnd>
     requires short { length name.now ≤ 1024 }
-    ensures runs { (desk : DeskView) → Runs (L.state link.old) (L.state link.new) desk desk (write (flat_map packet (lines_behind first (with_peeled lens.now (name.now, id))))) (outcome_of result) }
+    ensures runs { RunsLink (L.state link.old) (L.state link.new) (write (flat_map packet (lines_behind first (with_peeled lens.now (name.now, id))))) result }
     ensures tells { TellsLink (L.state link.old) (L.state link.new) result }
     ensures reading { KeepsReading (L.state link.old) (L.state link.new) }
 {
@@ -151,7 +151,7 @@ fn say_ref<L: Link>(
 ) -> Result<(), SessionEnd>
     requires short { length name.now ≤ 1024 }
     requires ends { length ending.now ≤ 100 }
-    ensures runs { (desk : DeskView) → Runs (L.state link.old) (L.state link.new) desk desk (write (packet (ref_line (name.now, id) ending.now))) (outcome_of result) }
+    ensures runs { RunsLink (L.state link.old) (L.state link.new) (write (packet (ref_line (name.now, id) ending.now))) result }
     ensures tells { TellsLink (L.state link.old) (L.state link.new) result }
     ensures reading { KeepsReading (L.state link.old) (L.state link.new) }
 {
@@ -173,7 +173,7 @@ fn ref_line(alloc: Global, id: ObjectId, name: &[u8], ending: &[u8]) -> Result<V
 
 // The line that stands where nothing is advertised, and the flush.
 fn end_advertisement<L: Link>(alloc: Global, link: &mut L, none: bool) -> Result<(), SessionEnd>
-    ensures runs { (desk : DeskView) → Runs (L.state link.old) (L.state link.new) desk desk (write (flat_map packet (lines_behind none []) ++ spelling Flush)) (outcome_of result) }
+    ensures runs { RunsLink (L.state link.old) (L.state link.new) (write (flat_map packet (lines_behind none []) ++ spelling Flush)) result }
     ensures tells { TellsLink (L.state link.old) (L.state link.new) result }
     ensures reading { KeepsReading (L.state link.old) (L.state link.new) }
 {

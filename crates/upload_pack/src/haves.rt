@@ -3,11 +3,10 @@ ghost use Rattle.std.specs.Prelude.{◌≡◌, ◌≤◌, [], length, IfOk, OnOk
 ghost use Rattle.pktline_core.specs.Links.{KeepsReading};
 ghost use Rattle.pktline_core.specs.Reading.{packet_of};
 ghost use Rattle.ref_store.specs.Objects.{has_object};
-ghost use Rattle.hub.specs.Desk.{DeskView};
 ghost use Rattle.interaction_tree.specs.Interaction.{write};
-ghost use Rattle.interaction_tree.specs.Runs.{Runs};
-ghost use Rattle.session_core.specs.End.{TellsEnd, TellsLink, halt_of, outcome_at, outcome_of};
+ghost use Rattle.session_core.specs.End.{TellsEnd, TellsLink};
 ghost use Rattle.session_core.specs.Packets.{packet};
+ghost use Rattle.session_core.specs.Parts.{EndsLink, RunsLink, RunsLinkAt};
 ghost use Rattle.session_core.specs.Readers.{IsReady};
 ghost use Rattle.upload_pack.specs.Haves.{ack, common_after, ending_haves, inquiry_in, inquiry_in_line, no_acknowledgement, reply, taking_haves, taking_inquiry, too_many_haves};
 
@@ -40,7 +39,7 @@ fn inquiry_in_line<L: Link>(
     offset: u64,
     line: &[u8],
 ) -> Result<Option<Inquiry>, SessionEnd>
-    ensures runs { (desk : DeskView) → Runs (L.state link.old) (L.state link.new) desk desk (inquiry_in_line offset line.now) (outcome_of result) }
+    ensures runs { RunsLink (L.state link.old) (L.state link.new) (inquiry_in_line offset line.now) result }
     ensures tells { TellsLink (L.state link.old) (L.state link.new) result }
     ensures same { OnOk result (L.state link.new ≡ L.state link.old) }
 {
@@ -58,7 +57,7 @@ fn inquiry_in<L: Link>(
     offset: u64,
     packet: Pkt<'_>,
 ) -> Result<Option<Inquiry>, SessionEnd>
-    ensures runs { (desk : DeskView) → Runs (L.state link.old) (L.state link.new) desk desk (inquiry_in offset (packet_of packet.entry)) (outcome_of result) }
+    ensures runs { RunsLink (L.state link.old) (L.state link.new) (inquiry_in offset (packet_of packet.entry)) result }
     ensures tells { TellsLink (L.state link.old) (L.state link.new) result }
     ensures same { OnOk result (L.state link.new ≡ L.state link.old) }
 {
@@ -74,7 +73,7 @@ fn take_inquiry<L: Link>(
     reader: &mut PktReader,
 ) -> Result<Option<Inquiry>, SessionEnd>
     requires ready { IsReady reader.old (L.state link.old) }
-    ensures runs { (desk : DeskView) → Runs (L.state link.old) (L.state link.new) desk desk (taking_inquiry reader.old.offset) (outcome_at result reader.new.offset) }
+    ensures runs { RunsLinkAt (L.state link.old) (L.state link.new) (taking_inquiry reader.old.offset) result reader.new.offset }
     ensures tells { TellsLink (L.state link.old) (L.state link.new) result }
     ensures ready { OnOk result (IsReady reader.new (L.state link.new)) }
 {
@@ -87,7 +86,7 @@ fn take_inquiry<L: Link>(
 
 // Says that nothing is common, while it is so.
 fn say_none_common<L: Link>(link: &mut L, common: &[ObjectId]) -> Result<(), SessionEnd>
-    ensures runs { (desk : DeskView) → Runs (L.state link.old) (L.state link.new) desk desk (write (no_acknowledgement common.now)) (outcome_of result) }
+    ensures runs { RunsLink (L.state link.old) (L.state link.new) (write (no_acknowledgement common.now)) result }
     ensures tells { TellsLink (L.state link.old) (L.state link.new) result }
     ensures reading { KeepsReading (L.state link.old) (L.state link.new) }
 {
@@ -99,7 +98,7 @@ fn say_none_common<L: Link>(link: &mut L, common: &[ObjectId]) -> Result<(), Ses
 
 // Acknowledges a common object.
 fn acknowledge<L: Link>(alloc: Global, link: &mut L, id: ObjectId) -> Result<(), SessionEnd>
-    ensures runs { (desk : DeskView) → Runs (L.state link.old) (L.state link.new) desk desk (write (packet (ack id))) (outcome_of result) }
+    ensures runs { RunsLink (L.state link.old) (L.state link.new) (write (packet (ack id))) result }
     ensures tells { TellsLink (L.state link.old) (L.state link.new) result }
     ensures reading { KeepsReading (L.state link.old) (L.state link.new) }
 {
@@ -132,7 +131,7 @@ fn answer_have<L: Link>(
     common: &mut IdList,
     id: ObjectId,
 ) -> Result<(), SessionEnd>
-    ensures runs { (desk : DeskView) → Runs (L.state link.old) (L.state link.new) desk desk (write (reply repo.now.objects common.old (Inquiry.Have id))) (outcome_of result) }
+    ensures runs { RunsLink (L.state link.old) (L.state link.new) (write (reply repo.now.objects common.old (Inquiry.Have id))) result }
     ensures common { OnOk result (common.new ≡ common_after repo.now.objects common.old (Inquiry.Have id)) }
     ensures tells { TellsLink (L.state link.old) (L.state link.new) result }
     ensures reading { KeepsReading (L.state link.old) (L.state link.new) }
@@ -155,7 +154,7 @@ fn answer<L: Link>(
     common: &mut IdList,
     inquiry: Inquiry,
 ) -> Result<(), SessionEnd>
-    ensures runs { (desk : DeskView) → Runs (L.state link.old) (L.state link.new) desk desk (write (reply repo.now.objects common.old inquiry)) (outcome_of result) }
+    ensures runs { RunsLink (L.state link.old) (L.state link.new) (write (reply repo.now.objects common.old inquiry)) result }
     ensures common { OnOk result (common.new ≡ common_after repo.now.objects common.old inquiry) }
     ensures tells { TellsLink (L.state link.old) (L.state link.new) result }
     ensures reading { KeepsReading (L.state link.old) (L.state link.new) }
@@ -168,7 +167,7 @@ fn answer<L: Link>(
 
 // What is common, behind `done`.
 fn end_haves<L: Link>(link: &mut L, common: IdList) -> Result<IdList, SessionEnd>
-    ensures runs { (desk : DeskView) → Runs (L.state link.old) (L.state link.new) desk desk (ending_haves common) (outcome_of result) }
+    ensures runs { RunsLink (L.state link.old) (L.state link.new) (ending_haves common) result }
     ensures tells { TellsLink (L.state link.old) (L.state link.new) result }
 {
     say_none_common(link, common.as_slice())?;
@@ -177,7 +176,7 @@ fn end_haves<L: Link>(link: &mut L, common: IdList) -> Result<IdList, SessionEnd
 
 // Behind the last have or flush that there may be another came.
 fn refuse_more_haves<L: Link>(link: &mut L) -> SessionEnd
-    ensures runs { (desk : DeskView) → Runs {A = Unit {0}} (L.state link.old) (L.state link.new) desk desk too_many_haves (Err (halt_of result)) }
+    ensures runs { EndsLink {A = Unit {0}} (L.state link.old) (L.state link.new) too_many_haves result }
     ensures tells { TellsEnd (L.state link.old) (L.state link.new) result }
 {
     refuse(
@@ -195,7 +194,7 @@ pub fn take_haves<L: Link>(
     repo: &Repo,
 ) -> Result<IdList, SessionEnd>
     requires ready { IsReady reader.old (L.state link.old) }
-    ensures runs { (desk : DeskView) → Runs (L.state link.old) (L.state link.new) desk desk (taking_haves repo.now.objects 100000 [] reader.old.offset) (outcome_of result) }
+    ensures runs { RunsLink (L.state link.old) (L.state link.new) (taking_haves repo.now.objects 100000 [] reader.old.offset) result }
     ensures tells { TellsLink (L.state link.old) (L.state link.new) result }
 {
     let mut common = IdList::new(alloc);

@@ -2,11 +2,10 @@
 ghost use Rattle.std.specs.Prelude.{◌≡◌, ◌<◌, length, All, IfOk};
 ghost use Rattle.ancestry.specs.Closures.{AreClosures};
 ghost use Rattle.pktline_core.specs.Links.{KeepsReading};
-ghost use Rattle.hub.specs.Desk.{DeskView};
 ghost use Rattle.interaction_tree.specs.Interaction.{write};
-ghost use Rattle.interaction_tree.specs.Runs.{Runs};
 ghost use Rattle.raw_pack.specs.Writing.{objects_at};
-ghost use Rattle.session_core.specs.End.{TellsLink, outcome_of};
+ghost use Rattle.session_core.specs.End.{TellsLink};
+ghost use Rattle.session_core.specs.Parts.{RunsLink};
 ghost use Rattle.upload_pack.specs.Sending.{pack_bytes, sent};
 
 use ancestry::{Closures, Known, reach};
@@ -18,7 +17,8 @@ use ref_store::Repo;
 use session_core::SessionEnd;
 use std::alloc::Global;
 
-/// Writes the pack of the objects that the wants reach and the haves don't, in store order. It copies no body.
+/// Writes the pack of the objects that the wants reach and the haves don't, in store order. It copies no
+/// body.
 pub fn send_pack<L: Link>(
     alloc: Global,
     link: &mut L,
@@ -29,7 +29,7 @@ pub fn send_pack<L: Link>(
     haves: &[ObjectId],
 ) -> Result<(), SessionEnd>
     requires { AreClosures repo.now.objects closures.now }
-    ensures runs { (desk : DeskView) → Runs (L.state link.old) (L.state link.new) desk desk (write (pack_bytes repo.now.objects wants.now haves.now)) (outcome_of result) }
+    ensures runs { RunsLink (L.state link.old) (L.state link.new) (write (pack_bytes repo.now.objects wants.now haves.now)) result }
     ensures tells { TellsLink (L.state link.old) (L.state link.new) result }
 {
     let places = places_sent(alloc, repo, closures, known, wants, haves)?;

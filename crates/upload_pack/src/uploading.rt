@@ -1,16 +1,17 @@
 // What follows an opening for reading.
-ghost use Rattle.std.specs.Prelude.{◌≡◌, ◌≤◌, length, IfOk};
+ghost use Rattle.std.specs.Prelude.{◌≡◌, ◌≤◌, [], length, IfOk};
 ghost use Rattle.ancestry.specs.Closures.{AreClosures};
 ghost use Rattle.pktline_core.specs.Links.{KeepsReading};
-ghost use Rattle.hub.specs.Desk.{DeskView};
-ghost use Rattle.hub_history.specs.State.{HasShortNames, store_of};
+ghost use Rattle.hub_history.specs.State.{store_of};
+ghost use Rattle.interaction_tree.specs.Endings.{TakesTurn};
 ghost use Rattle.interaction_tree.specs.Interaction.{write};
-ghost use Rattle.interaction_tree.specs.Runs.{Runs};
-ghost use Rattle.session_core.specs.End.{TellsLink, outcome_of};
+ghost use Rattle.session_core.specs.End.{TellsLink, halt_of};
+ghost use Rattle.session_core.specs.Opening.{StandsSomewhere};
+ghost use Rattle.session_core.specs.Parts.{RunsLink, end_of, ending_so};
 ghost use Rattle.session_core.specs.Readers.{IsReady};
 ghost use Rattle.upload_pack.specs.Advertising.{advertisement};
 ghost use Rattle.upload_pack.specs.Wants.{not_our_ref};
-ghost use Rattle.upload_pack.specs.Uploading.{fetching, refusing_want, serving, uploading, wanting};
+ghost use Rattle.upload_pack.specs.Uploading.{fetched_end, fetching, refusing_want, serving, uploading, wanting};
 
 use crate::advertising::{advertise, not_ours};
 use crate::haves::take_haves;
@@ -19,6 +20,7 @@ use crate::wants::{IdList, first_want_in, take_wants};
 use ancestry::{Closures, Known};
 use git_object::ObjectId;
 use hub::Pin;
+use hub_history::hold_laws;
 use pktline_core::{Link, Pkt, PktReader};
 use ref_store::Repo;
 use session_core::{SessionEnd, end_by, say, without_feed};
@@ -41,8 +43,24 @@ pub fn upload<L: Link>(
     pin: &Pin,
 ) -> Result<FetchEnd, SessionEnd>
     requires ready { IsReady reader.old (L.state link.old) }
-    requires names { HasShortNames pin.now.pinned.repository.refs }
-    ensures runs { (desk : DeskView) → Runs (L.state link.old) (L.state link.new) desk desk (uploading pin.now reader.old.offset) (outcome_of result) }
+    requires stands { StandsSomewhere pin.now }
+    ensures runs { RunsLink (L.state link.old) (L.state link.new) (uploading pin.now reader.old.offset) result }
+    ensures turn { TakesTurn (L.state link.old) (L.state link.new) [] (ending_so fetched_end (uploading pin.now reader.old.offset)) (halt_of (end_of fetched_end result)) }
+    ensures tells { TellsLink (L.state link.old) (L.state link.new) result }
+{
+    upload_both(alloc, link, reader, pin)
+}
+
+// The two parts.
+fn upload_both<L: Link>(
+    alloc: Global,
+    link: &mut L,
+    reader: &mut PktReader,
+    pin: &Pin,
+) -> Result<FetchEnd, SessionEnd>
+    requires ready { IsReady reader.old (L.state link.old) }
+    requires stands { StandsSomewhere pin.now }
+    ensures runs { RunsLink (L.state link.old) (L.state link.new) (uploading pin.now reader.old.offset) result }
     ensures tells { TellsLink (L.state link.old) (L.state link.new) result }
 {
     advertise_upload(alloc, link, pin)?;
@@ -51,11 +69,13 @@ pub fn upload<L: Link>(
 
 /// The first part: what may be wanted of the repository as it was at the opening.
 pub fn advertise_upload<L: Link>(alloc: Global, link: &mut L, pin: &Pin) -> Result<(), SessionEnd>
-    requires names { HasShortNames pin.now.pinned.repository.refs }
-    ensures runs { (desk : DeskView) → Runs (L.state link.old) (L.state link.new) desk desk (write (advertisement (store_of pin.now.pinned.repository))) (outcome_of result) }
+    requires stands { StandsSomewhere pin.now }
+    ensures runs { RunsLink (L.state link.old) (L.state link.new) (write (advertisement (store_of pin.now.pinned.repository))) result }
     ensures tells { TellsLink (L.state link.old) (L.state link.new) result }
     ensures reading { KeepsReading (L.state link.old) (L.state link.new) }
 {
+    // called for its clause that the names of refs stay short
+    hold_laws();
     advertise(alloc, link, pin.repo())
 }
 
@@ -67,7 +87,7 @@ pub fn upload_wants<L: Link>(
     pin: &Pin,
 ) -> Result<FetchEnd, SessionEnd>
     requires ready { IsReady reader.old (L.state link.old) }
-    ensures runs { (desk : DeskView) → Runs (L.state link.old) (L.state link.new) desk desk (wanting (store_of pin.now.pinned.repository) reader.old.offset) (outcome_of result) }
+    ensures runs { RunsLink (L.state link.old) (L.state link.new) (wanting (store_of pin.now.pinned.repository) reader.old.offset) result }
     ensures tells { TellsLink (L.state link.old) (L.state link.new) result }
 {
     fetch_from(alloc, link, reader, pin.repo(), pin.closures(), pin.known())
@@ -83,7 +103,7 @@ fn fetch_from<L: Link>(
 ) -> Result<FetchEnd, SessionEnd>
     requires closures { AreClosures repo.now.objects closures.now }
     requires ready { IsReady reader.old (L.state link.old) }
-    ensures runs { (desk : DeskView) → Runs (L.state link.old) (L.state link.new) desk desk (wanting repo.now reader.old.offset) (outcome_of result) }
+    ensures runs { RunsLink (L.state link.old) (L.state link.new) (wanting repo.now reader.old.offset) result }
     ensures tells { TellsLink (L.state link.old) (L.state link.new) result }
 {
     let offset = reader.offset();
@@ -109,7 +129,7 @@ fn fetch<L: Link>(
 ) -> Result<FetchEnd, SessionEnd>
     requires closures { AreClosures repo.now.objects closures.now }
     requires ready { IsReady reader.old (L.state link.old) }
-    ensures runs { (desk : DeskView) → Runs (L.state link.old) (L.state link.new) desk desk (fetching repo.now first reader.old.offset) (outcome_of result) }
+    ensures runs { RunsLink (L.state link.old) (L.state link.new) (fetching repo.now first reader.old.offset) result }
     ensures tells { TellsLink (L.state link.old) (L.state link.new) result }
 {
     let wants = take_wants(alloc, link, reader, first)?;
@@ -121,7 +141,7 @@ fn fetch<L: Link>(
 
 // A last packet: this id isn't one of the advertisement.
 fn refuse_want<L: Link>(alloc: Global, link: &mut L, id: ObjectId) -> Result<FetchEnd, SessionEnd>
-    ensures runs { (desk : DeskView) → Runs (L.state link.old) (L.state link.new) desk desk (refusing_want id) (outcome_of result) }
+    ensures runs { RunsLink (L.state link.old) (L.state link.new) (refusing_want id) result }
     ensures tells { TellsLink (L.state link.old) (L.state link.new) result }
 {
     let text = not_our_ref(alloc, id)?;
@@ -150,7 +170,7 @@ fn serve<L: Link>(
 ) -> Result<FetchEnd, SessionEnd>
     requires closures { AreClosures repo.now.objects closures.now }
     requires ready { IsReady reader.old (L.state link.old) }
-    ensures runs { (desk : DeskView) → Runs (L.state link.old) (L.state link.new) desk desk (serving repo.now wants.now reader.old.offset) (outcome_of result) }
+    ensures runs { RunsLink (L.state link.old) (L.state link.new) (serving repo.now wants.now reader.old.offset) result }
     ensures tells { TellsLink (L.state link.old) (L.state link.new) result }
 {
     let common = take_haves(alloc, link, reader, repo)?;

@@ -1,10 +1,9 @@
 // What a client wants, up to the flush that ends it.
 ghost use Rattle.std.specs.Prelude.{◌≡◌, ◌∷◌, [], OnOk};
 ghost use Rattle.pktline_core.specs.Reading.{packet_of};
-ghost use Rattle.hub.specs.Desk.{DeskView};
-ghost use Rattle.interaction_tree.specs.Runs.{Runs};
-ghost use Rattle.session_core.specs.End.{TellsEnd, TellsLink, halt_of, outcome_at, outcome_of};
+ghost use Rattle.session_core.specs.End.{TellsEnd, TellsLink};
 ghost use Rattle.session_core.specs.Packets.{or_malformed};
+ghost use Rattle.session_core.specs.Parts.{EndsLink, RunsLink, RunsLinkAt};
 ghost use Rattle.session_core.specs.Readers.{IsReady};
 ghost use Rattle.upload_pack.specs.Lines.{first_want, want};
 ghost use Rattle.upload_pack.specs.Wants.{taking_want, taking_wants, too_many_wants, want_in};
@@ -31,7 +30,7 @@ pub fn first_want_in<L: Link>(
     offset: u64,
     line: &[u8],
 ) -> Result<ObjectId, SessionEnd>
-    ensures runs { (desk : DeskView) → Runs (L.state link.old) (L.state link.new) desk desk (or_malformed offset (first_want line.now)) (outcome_of result) }
+    ensures runs { RunsLink (L.state link.old) (L.state link.new) (or_malformed offset (first_want line.now)) result }
     ensures tells { TellsLink (L.state link.old) (L.state link.new) result }
     ensures same { OnOk result (L.state link.new ≡ L.state link.old) }
 {
@@ -43,7 +42,7 @@ pub fn first_want_in<L: Link>(
 
 // A later want, in the line at this offset.
 fn want_in_line<L: Link>(link: &mut L, offset: u64, line: &[u8]) -> Result<ObjectId, SessionEnd>
-    ensures runs { (desk : DeskView) → Runs (L.state link.old) (L.state link.new) desk desk (or_malformed offset (want line.now)) (outcome_of result) }
+    ensures runs { RunsLink (L.state link.old) (L.state link.new) (or_malformed offset (want line.now)) result }
     ensures tells { TellsLink (L.state link.old) (L.state link.new) result }
     ensures same { OnOk result (L.state link.new ≡ L.state link.old) }
 {
@@ -59,7 +58,7 @@ fn want_in<L: Link>(
     offset: u64,
     packet: Pkt<'_>,
 ) -> Result<Option<ObjectId>, SessionEnd>
-    ensures runs { (desk : DeskView) → Runs (L.state link.old) (L.state link.new) desk desk (want_in offset (packet_of packet.entry)) (outcome_of result) }
+    ensures runs { RunsLink (L.state link.old) (L.state link.new) (want_in offset (packet_of packet.entry)) result }
     ensures tells { TellsLink (L.state link.old) (L.state link.new) result }
     ensures same { OnOk result (L.state link.new ≡ L.state link.old) }
 {
@@ -75,7 +74,7 @@ fn want_in<L: Link>(
 // One want more, or none at the flush that ends them.
 fn take_want<L: Link>(link: &mut L, reader: &mut PktReader) -> Result<Option<ObjectId>, SessionEnd>
     requires ready { IsReady reader.old (L.state link.old) }
-    ensures runs { (desk : DeskView) → Runs (L.state link.old) (L.state link.new) desk desk (taking_want reader.old.offset) (outcome_at result reader.new.offset) }
+    ensures runs { RunsLinkAt (L.state link.old) (L.state link.new) (taking_want reader.old.offset) result reader.new.offset }
     ensures tells { TellsLink (L.state link.old) (L.state link.new) result }
     ensures ready { OnOk result (IsReady reader.new (L.state link.new)) }
 {
@@ -88,7 +87,7 @@ fn take_want<L: Link>(link: &mut L, reader: &mut PktReader) -> Result<Option<Obj
 
 // Behind the last want that there may be another came.
 fn refuse_more_wants<L: Link>(link: &mut L) -> SessionEnd
-    ensures runs { (desk : DeskView) → Runs {A = Unit {0}} (L.state link.old) (L.state link.new) desk desk too_many_wants (Err (halt_of result)) }
+    ensures runs { EndsLink {A = Unit {0}} (L.state link.old) (L.state link.new) too_many_wants result }
     ensures tells { TellsEnd (L.state link.old) (L.state link.new) result }
 {
     refuse(link, b"ERR too long", SessionEnd::TooLong(TOO_MANY_WANTS))
@@ -102,7 +101,7 @@ pub fn take_wants<L: Link>(
     first: ObjectId,
 ) -> Result<IdList, SessionEnd>
     requires ready { IsReady reader.old (L.state link.old) }
-    ensures runs { (desk : DeskView) → Runs (L.state link.old) (L.state link.new) desk desk (taking_wants 9999 (first ∷ []) reader.old.offset) (outcome_at result reader.new.offset) }
+    ensures runs { RunsLinkAt (L.state link.old) (L.state link.new) (taking_wants 9999 (first ∷ []) reader.old.offset) result reader.new.offset }
     ensures tells { TellsLink (L.state link.old) (L.state link.new) result }
     ensures ready { OnOk result (IsReady reader.new (L.state link.new)) }
 {

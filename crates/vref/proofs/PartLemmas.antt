@@ -1,5 +1,6 @@
--- Taking out of two trees the entries that both have, in one pass. It is right whichever side the pass goes on in, so nothing here speaks of the order of
--- entries: that no two entries of a tree have one name is enough.
+-- Taking out of two trees the entries that both have, in one pass. It is right whichever side the pass goes
+-- on in, so nothing here speaks of the order of entries: that no two entries of a tree have one name is
+-- enough.
 use Rattle.std.proofs.Common.{◌≡◌, ℕ, zero, suc, ◌+◌, ◌<◌, ◌≤◌, take, get_or, map, ◌&&◌, ◌||◌, not, arith, Bool, true, false, cond, List, [], ◌∷◌, ◌++◌, length, Option, None, Some, refl, sym, ◌∙◌, ap, subst, ◌⊎◌, inl, inr}
 use Rattle.std.specs.Option.{option_or}
 use Rattle.std.specs.Str.{bytes_eq}

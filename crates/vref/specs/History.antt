@@ -14,7 +14,8 @@ place ids id = position (same_id id) ids
 abbrev pub IsLink : List Content → List ObjectId → ℕ → ℕ → Type 0
 IsLink objects ids i j = (from to : ObjectId) × (slice_get ids i ≡ Some from) × (slice_get ids j ≡ Some to) × Contains (parents_at objects from) to
 
--- links from child to parent, by their places: all those of the first so many commits, whose parents are in the list too
+-- links from child to parent, by their places: all those of the first so many commits, whose parents are in
+-- the list too
 pub record AreLinksOf (count : ℕ) (objects : List Content) (ids : List ObjectId) (links : List (ℕ × ℕ)) : Type 0 where
   pub only : (i j : ℕ) → Contains links (i, j) → IsLink objects ids i j
   pub all : (i : ℕ) (from to : ObjectId) → i < count → slice_get ids i ≡ Some from → Contains (parents_at objects from) to → (j : ℕ) × (place ids to ≡ Some j) × Contains links (i, j)

@@ -24,7 +24,8 @@ TooManyBothWays = (objects : List Content) (old new : Option ObjectId) → Diffe
 abbrev pub DirectoriesDiffer : Type 0
 DirectoriesDiffer = (objects : List Content) (old new : Option ObjectId) (path directory : Path) → IsBelow path directory → Differs objects old new path → Differs objects old new directory
 
--- where an entry of the old tree is no directory, and the new tree hasn't the same one at its path, the path is among those that are listed
+-- where an entry of the old tree is no directory, and the new tree hasn't the same one at its path, the path
+-- is among those that are listed
 abbrev pub FilesListed : Type 0
 FilesListed = (objects : List Content) (old new : Option ObjectId) (paths : List Path) → Lists (IsChanged objects old new) paths
     → (path : Path) (file : Entry) → row objects old path ≡ Some file → is_directory file ≡ false → ¬ (row objects new path ≡ Some file) → Contains paths path

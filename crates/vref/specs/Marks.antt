@@ -1,4 +1,5 @@
--- Words of bits, one for each commit in a list: bit `k` marks the ancestors of the `k`-th of some commits, the tips.
+-- Words of bits, one for each commit in a list: bit `k` marks the ancestors of the `k`-th of some commits,
+-- the tips.
 use Rattle.std.specs.Prelude.{◌≡◌, ℕ, ◌<◌, List, length, Some, slice_get, slice_index}
 use Rattle.std.specs.Int.{bit_at}
 use Rattle.std.specs.List.{Contains}

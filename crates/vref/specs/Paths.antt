@@ -32,7 +32,8 @@ module _ (objects : List Content) (old new : Option ObjectId) where
   abbrev pub Differs : Path → Type 0
   Differs path = ¬ (row objects old path ≡ row objects new path)
 
-  -- they differ at more than 200,000 paths, as an ascending list of more of them shows, or at one of more than 4,096 bytes
+  -- they differ at more than 200,000 paths, as an ascending list of more of them shows, or at one of more
+  -- than 4,096 bytes
   abbrev pub DifferTooMuch : Type 0
   DifferTooMuch = ((paths : List Path) × Ascend paths × All Differs paths × (MAX_ROWS < length paths)) ⊎ ((path : Path) × Differs path × (MAX_PATH < length path))
 
@@ -44,7 +45,8 @@ module _ (objects : List Content) (old new : Option ObjectId) where
   abbrev pub IsChanged : Path → Type 0
   IsChanged path = Differs path × (is_listed path ≡ true)
 
-  -- what is returned of two trees: the changed paths where they don't differ too much, and else that they do; out of memory only where the two aren't one tree
+  -- what is returned of two trees: the changed paths where they don't differ too much, and else that they do;
+  -- out of memory only where the two aren't one tree
   abbrev pub TellsOfTrees : outcome.Paths → Type 0
   TellsOfTrees (Listed paths) = ¬ DifferTooMuch × Lists IsChanged paths
   TellsOfTrees TooMany = DifferTooMuch

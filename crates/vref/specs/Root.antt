@@ -17,7 +17,8 @@ tree_in Tree body id = Some id
 tree_in Blob body id = None
 tree_in Tag body id = None
 
--- a commit stands for its tree, a tree for itself, a tag for what it names in the end; zero and anything else stand for the empty tree, which is none
+-- a commit stands for its tree, a tree for itself, a tag for what it names in the end; zero and anything else
+-- stand for the empty tree, which is none
 abbrev pub root_of : List Content → ObjectId → Option ObjectId
 root_of objects id =
     if is_zero id then None

@@ -20,15 +20,18 @@ use std::marker::Model;
 /// A commit, and one that is to follow it.
 pub type Pair = (ObjectId, ObjectId);
 
-// Up to so many pairs each walk by itself: such a walk goes no further back than it must, and so many whole walks cost a few times what the order does.
+// Up to so many pairs each walk by itself: such a walk goes no further back than it must, and so many whole
+// walks cost a few times what the order does.
 const FEW: usize = 4;
 
-// The same of pairs of which each walk is likely to be short. Where none is, as they may have many parents, so many whole walks are what it costs at most.
+// The same of pairs of which each walk is likely to be short. Where none is, as they may have many parents,
+// so many whole walks are what it costs at most.
 const FEW_NEAR: usize = 16;
 
 /// How the second commit of each pair follows the first.
 ///
-/// Of many pairs the whole histories are read once, put into an order, and gone along four times for each 64 pairs.
+/// Of many pairs the whole histories are read once, put into an order, and gone along four times for each 64
+/// pairs.
 pub fn advances_between(
     alloc: Global,
     lens: &Lens,

@@ -12,8 +12,8 @@ use indexmap::IndexMap;
 use ref_store::Salt;
 use std::alloc::Global;
 
-// Of two trees that differ in more names than these nothing is kept: where trees differ in more, there are few of them. A list that is kept is put together
-// of two, so it may be twice as long and ten more.
+// Of two trees that differ in more names than these nothing is kept: where trees differ in more, there are
+// few of them. A list that is kept is put together of two, so it may be twice as long and ten more.
 const MAX_KEPT: usize = 1000;
 
 /// Where a tree differs from its base.
@@ -23,14 +23,17 @@ struct Placed<'a> {
     list: Vec<Difference<'a>>,
 }
 
-/// Trees that were compared, each with a base, of which there are few where the trees are much alike. Two trees of one base are compared by where they differ
-/// from it, so hundreds of trees that are each compared with each cost about as many passes as there are trees.
+/// Trees that were compared, each with a base, of which there are few where the trees are much alike. Two
+/// trees of one base are compared by where they differ from it, so hundreds of trees that are each compared
+/// with each cost about as many passes as there are trees.
 ///
-/// The lists together have at most twice as many differences as were found between trees, and ten more for each tree.
+/// The lists together have at most twice as many differences as were found between trees, and ten more for
+/// each tree.
 #[derive(Drop)]
 pub struct Bases<'a> {
     trees: IndexMap<ObjectId, Placed<'a>, Salt>,
-    // To how many trees a tree was made the base. No proof needs it: of two trees that are brought to one base it is the one of fewer that moves.
+    // To how many trees a tree was made the base. No proof needs it: of two trees that are brought to one
+    // base it is the one of fewer that moves.
     counts: IndexMap<ObjectId, usize, Salt>,
 }
 
@@ -88,7 +91,8 @@ impl<'a> Bases<'a> {
         self.join(alloc, old, new, list, &back)
     }
 
-    // Brings the second of two trees to the base of the first, or the first to that of the second if the second would differ in too many names.
+    // Brings the second of two trees to the base of the first, or the first to that of the second if the
+    // second would differ in too many names.
     fn join(
         &mut self,
         alloc: Global,
@@ -123,7 +127,8 @@ impl<'a> Bases<'a> {
         self.count_one_more(id)
     }
 
-    // Brings the second of two trees to the base of the first, unless it would differ from it in too many names.
+    // Brings the second of two trees to the base of the first, unless it would differ from it in too many
+    // names.
     fn place_beside(
         &mut self,
         alloc: Global,
@@ -167,7 +172,8 @@ impl<'a> Bases<'a> {
     }
 }
 
-// Whether a tree differs from its base in too many names for its list to be kept, where it was found to differ in so many from another.
+// Whether a tree differs from its base in too many names for its list to be kept, where it was found to
+// differ in so many from another.
 fn is_too_long(kept: usize, found: usize) -> bool {
     kept.saturating_sub(10) > found.saturating_mul(2)
 }

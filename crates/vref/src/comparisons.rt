@@ -18,8 +18,9 @@ pub struct TreePair {
     pub new: ObjectId,
 }
 
-/// Where the trees of each pair differ that was compared, so that two trees that come at many paths are compared once; and bases, by which hundreds of trees
-/// that are much alike are each compared with each without a pass for each pair. Of each it holds a few differences for each row that was met, and one list
+/// Where the trees of each pair differ that was compared, so that two trees that come at many paths are
+/// compared once; and bases, by which hundreds of trees that are much alike are each compared with each
+/// without a pass for each pair. Of each it holds a few differences for each row that was met, and one list
 /// more.
 #[derive(Drop)]
 pub struct Comparisons<'a> {

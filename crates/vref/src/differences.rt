@@ -18,8 +18,8 @@ pub struct Difference<'a> {
     pub new: Option<TreeEntry<'a>>,
 }
 
-/// The names at which two trees differ, each once, in the order of their bytes. Without an object a side is the empty tree. Where the trees are alike it
-/// costs one pass over both; only what differs is sorted.
+/// The names at which two trees differ, each once, in the order of their bytes. Without an object a side is
+/// the empty tree. Where the trees are alike it costs one pass over both; only what differs is sorted.
 pub fn differences_between<'a>(
     alloc: Global,
     old: Option<&'a Object>,
@@ -49,7 +49,8 @@ fn list_entries<'a>(alloc: Global, tree: Option<&'a Object>) -> Result<Vec<TreeE
     let Some(object) = tree else {
         return Ok(list);
     };
-    // `body` is called for its clause that the form has no fault, from which the proof has that each name comes once.
+    // `body` is called for its clause that the form has no fault, from which the proof has that each name
+    // comes once.
     let _form = object.body();
     for entry in object.tree_entries() {
         list.push(entry)?;
@@ -126,8 +127,8 @@ fn are_same(one: Option<TreeEntry<'_>>, other: Option<TreeEntry<'_>>) -> bool
     one == other
 }
 
-// Whether an entry comes before another in the order of a tree. No proof needs it: the pass is right whichever side it goes on in, and by the order it
-// meets what both sides have.
+// Whether an entry comes before another in the order of a tree. No proof needs it: the pass is right
+// whichever side it goes on in, and by the order it meets what both sides have.
 fn comes_first(one: &TreeEntry<'_>, other: &TreeEntry<'_>) -> bool {
     let shared = one.name.len().min(other.name.len());
     let (one_front, one_back) = one.name.split_at(shared);

@@ -13,8 +13,8 @@ use git_object::{Kind, ObjectId};
 use ref_store::{Command, Lens};
 use std::alloc::Global;
 
-/// The facts of a change of a ref of this name. Of an update between two commits it costs what `ancestry::advance_between` does; of any other change a few
-/// look-ups.
+/// The facts of a change of a ref of this name. Of an update between two commits it costs what
+/// `ancestry::advance_between` does; of any other change a few look-ups.
 pub fn facts_of(
     alloc: Global,
     lens: &Lens,
@@ -32,8 +32,9 @@ pub fn facts_of(
 
 /// The facts of each of these changes of refs, in order.
 ///
-/// A few updates between commits walk as those of `facts_of` do. Of more the histories of all old and new commits are read once, and then gone along
-/// four times for each 64 changes. Where links lead in a circle, which no known history can, each update walks by itself.
+/// A few updates between commits walk as those of `facts_of` do. Of more the histories of all old and new
+/// commits are read once, and then gone along four times for each 64 changes. Where links lead in a circle,
+/// which no known history can, each update walks by itself.
 pub fn facts_of_all(
     alloc: Global,
     lens: &Lens,

@@ -21,7 +21,8 @@ pub fn place_of(ids: &Ids, id: ObjectId) -> Option<usize>
     ids.get_index_of(&id)
 }
 
-/// The links between commits, by their places, from child to parent; nothing where a parent isn't in the list. They come in the order of the children.
+/// The links between commits, by their places, from child to parent; nothing where a parent isn't in the
+/// list. They come in the order of the children.
 pub fn links_of(
     alloc: Global,
     lens: &Lens,
@@ -86,7 +87,8 @@ pub fn merges_of(alloc: Global, lens: &Lens, ids: &Ids) -> Result<Vec<usize>, No
     Ok(merges)
 }
 
-// Adds the place of the commit at a place, if it is a merge. The look-up gives the place itself, and its clause says that it is the only one.
+// Adds the place of the commit at a place, if it is a merge. The look-up gives the place itself, and its
+// clause says that it is the only one.
 fn add_merge_at(lens: &Lens, ids: &Ids, at: usize, merges: &mut Vec<usize>) -> Result<(), NoMemory>
     requires { AreMergesOf at lens.now ids.now.keys merges.old.items }
     ensures { OnOk result (AreMergesOf (at + 1) lens.now ids.now.keys merges.new.items) }

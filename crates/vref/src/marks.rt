@@ -8,8 +8,9 @@ use base_types::NoMemory;
 use git_object::ObjectId;
 use std::alloc::Global;
 
-/// Marks the ancestors of at most 64 tips: bit `k` of a commit's word says that it is an ancestor of the `k`-th tip. Nothing where a tip isn't in the
-/// list, or where the links don't come in the order of the commits. It goes along the links twice, whatever the number of the tips.
+/// Marks the ancestors of at most 64 tips: bit `k` of a commit's word says that it is an ancestor of the
+/// `k`-th tip. Nothing where a tip isn't in the list, or where the links don't come in the order of the
+/// commits. It goes along the links twice, whatever the number of the tips.
 pub fn marks_of(
     alloc: Global,
     ids: &Ids,

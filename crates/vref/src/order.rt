@@ -5,8 +5,9 @@ use indexmap::IndexSet;
 use ref_store::{Lens, Salt};
 use std::alloc::Global;
 
-/// Lists some commits and all their ancestors, parents before their children. Where links lead in a circle the order isn't one of its commits; no
-/// contract says that it is one, and who goes by it looks whether it served. It reads each commit once.
+/// Lists some commits and all their ancestors, parents before their children. Where links lead in a circle
+/// the order isn't one of its commits; no contract says that it is one, and who goes by it looks whether it
+/// served. It reads each commit once.
 ///
 /// A commit comes up twice: when it is entered, and again behind its parents, when it is listed.
 pub fn in_order(

@@ -9,7 +9,8 @@ use base_types::{NoMemory, Text};
 use std::alloc::Global;
 use std::marker::Model;
 
-/// Paths, in order. Each is kept as its last name and the place of its directory, so it takes the same few bytes however long it is.
+/// Paths, in order. Each is kept as its last name and the place of its directory, so it takes the same few
+/// bytes however long it is.
 #[derive(Drop)]
 pub struct PathList<'a> {
     rows: Vec<Row<'a>>,

@@ -6,7 +6,8 @@ use base_types::{NoMemory, Text};
 use git_object::ObjectId;
 use std::alloc::Global;
 
-/// A path at which two trees differ. It has the last name alone; what comes before that is the path of its directory.
+/// A path at which two trees differ. It has the last name alone; what comes before that is the path of its
+/// directory.
 #[derive(Clone, Copy)]
 pub struct Row<'a> {
     /// The place of the directory's row; the root has none.

@@ -21,9 +21,11 @@ pub enum Paths<'a> {
     NoMemory,
 }
 
-/// The paths that a change from one id to another changes: those at which the trees differ for which the two stand.
+/// The paths that a change from one id to another changes: those at which the trees differ for which the two
+/// stand.
 ///
-/// Equal folders aren't entered, and two trees that come at many paths are compared once. Where there are too many it stops at the first row beyond.
+/// Equal folders aren't entered, and two trees that come at many paths are compared once. Where there are too
+/// many it stops at the first row beyond.
 pub fn changed_paths<'a>(alloc: Global, lens: &'a Lens, old: ObjectId, new: ObjectId) -> Paths<'a>
     ensures { TellsOfPaths lens.now old new result }
 {

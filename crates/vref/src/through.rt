@@ -10,8 +10,9 @@ use base_types::NoMemory;
 use std::alloc::Global;
 use std::collections::BTreeMap;
 
-/// The names at which the first of three trees differs from the last, by those at which the first differs from the second, and the second from the last.
-/// It costs what the two lists have, however much the trees have.
+/// The names at which the first of three trees differs from the last, by those at which the first differs
+/// from the second, and the second from the last. It costs what the two lists have, however much the trees
+/// have.
 pub fn differences_through<'a>(
     alloc: Global,
     one: &[Difference<'a>],

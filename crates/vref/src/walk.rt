@@ -64,7 +64,8 @@ impl<T: Drop> From<AllocFailed<T>> for Stop {
     }
 }
 
-/// The rows of the paths at which two trees differ, and their places in the order of the bytes of their paths.
+/// The rows of the paths at which two trees differ, and their places in the order of the bytes of their
+/// paths.
 #[derive(Drop)]
 pub struct Walked<'a> {
     pub rows: Vec<Row<'a>>,
@@ -107,7 +108,8 @@ pub fn walk_trees<'a>(
     Ok(Walked { rows, order })
 }
 
-/// A directory: the place of its row, or none for the root; its tree on either side; and how many bytes come before the names in it.
+/// A directory: the place of its row, or none for the root; its tree on either side; and how many bytes come
+/// before the names in it.
 #[derive(Clone, Copy)]
 pub struct Directory {
     place: Option<usize>,
@@ -132,7 +134,8 @@ pub struct Item<'a> {
     task: Task,
 }
 
-/// The rows that were found, the places of those that are in order, and what is left to do; the last of it comes next.
+/// The rows that were found, the places of those that are in order, and what is left to do; the last of it
+/// comes next.
 #[derive(Drop)]
 pub struct Walker<'a> {
     rows: Vec<Row<'a>>,
@@ -201,7 +204,8 @@ impl<'a> Walker<'a> {
         self.add_all(alloc, lens, root, at, compared.differences_of(lens, pair))
     }
 
-    // Adds a row for each name of a directory at which its trees differ, and puts what is to be done of them before what is left.
+    // Adds a row for each name of a directory at which its trees differ, and puts what is to be done of them
+    // before what is left.
     fn add_all(
         &mut self,
         alloc: Global,
@@ -335,7 +339,8 @@ fn has_tree(row: &Row<'_>) -> bool
 
 // Sorts what is to be done in a directory; what comes next is the last.
 //
-// What lies below a name stands behind the names that go on with a byte below `/`: a slash is put behind the name where they are compared.
+// What lies below a name stands behind the names that go on with a byte below `/`: a slash is put behind the
+// name where they are compared.
 fn sort_items(items: Vec<Item<'_>>) -> Result<Vec<Item<'_>>, NoMemory>
     ensures { IfOk result (λ sorted. SortsItems items.entry.items (reverse sorted.items)) }
 {

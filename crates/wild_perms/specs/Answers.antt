@@ -21,7 +21,8 @@ abbrev pub refused_by : Option (List ℕ) → List ℕ → Option PermsAnswer
 refused_by None asker = Some NotWild
 refused_by (Some creator) asker = if bytes_eq creator asker then None else Some NotCreator
 
--- what refuses a change of a role, if anything does: the word isn't declared as a role for the repository, or the asker may not change its roles
+-- what refuses a change of a role, if anything does: the word isn't declared as a role for the repository, or
+-- the asker may not change its roles
 abbrev pub refusal : WildView → List ℕ → Bool → Option PermsAnswer
 refusal wild asker declared = if not declared then Some NoSuchRole else refused_by wild.creator asker
 

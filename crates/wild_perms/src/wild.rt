@@ -100,7 +100,8 @@ impl Wild {
         }
     }
 
-    /// Takes a role from a user, where that is declared for the repository and the asker is the creator. It takes no memory.
+    /// Takes a role from a user, where that is declared for the repository and the asker is the creator. It
+    /// takes no memory.
     pub fn revoke(
         &mut self,
         asker: &UserName,

@@ -2,6 +2,7 @@ use Rattle.std.proofs.Common.{refl}
 use Rattle.wild_perms.specs.declared.answer.PermsAnswer.TheVariants as perms
 use Rattle.hub_history.specs.declared.entry.PermsKept.TheVariants as kept
 use Rattle.interaction_tree.proofs.RunLemmas.{runs_memory}
+use Rattle.session_core.proofs.GateLemmas.{lets_in_none, lets_in_one}
 use Rattle.git_session.specs.Perms.{perms_reply}
 use Rattle.git_session.proofs.PermLemmas.{permitted_then}
 use Rattle.git_session.proofs.perms.permit.Goals as goal
@@ -33,3 +34,24 @@ returns-in-Listed-clause-runs g c =
 
 pub returns-in-NoMemory-clause-runs : goal.returns-in-NoMemory-clause-runs
 returns-in-NoMemory-clause-runs g c = rw c.in-NoMemory.ensures.answers.1 (runs_memory _ _ _)
+
+pub returns-in-Changed-clause-lets_in : goal.returns-in-Changed-clause-lets_in
+returns-in-Changed-clause-lets_in g c = lets_in_one _ _ _ _ c.in-Changed.ensures.answers.1
+
+pub returns-in-AlreadySo-clause-lets_in : goal.returns-in-AlreadySo-clause-lets_in
+returns-in-AlreadySo-clause-lets_in g c = lets_in_one _ _ _ _ c.in-AlreadySo.ensures.answers.1
+
+pub returns-in-NotWild-clause-lets_in : goal.returns-in-NotWild-clause-lets_in
+returns-in-NotWild-clause-lets_in g c = lets_in_one _ _ _ _ c.in-NotWild.ensures.answers.1
+
+pub returns-in-NotCreator-clause-lets_in : goal.returns-in-NotCreator-clause-lets_in
+returns-in-NotCreator-clause-lets_in g c = lets_in_one _ _ _ _ c.in-NotCreator.ensures.answers.1
+
+pub returns-in-NoSuchRole-clause-lets_in : goal.returns-in-NoSuchRole-clause-lets_in
+returns-in-NoSuchRole-clause-lets_in g c = lets_in_one _ _ _ _ c.in-NoSuchRole.ensures.answers.1
+
+pub returns-in-Listed-clause-lets_in : goal.returns-in-Listed-clause-lets_in
+returns-in-Listed-clause-lets_in g c = lets_in_one _ _ _ _ c.in-Listed.ensures.answers.1
+
+pub returns-in-NoMemory-clause-lets_in : goal.returns-in-NoMemory-clause-lets_in
+returns-in-NoMemory-clause-lets_in g c = lets_in_none _ _ c.in-NoMemory.ensures.answers.1

@@ -1,3 +1,5 @@
+use Rattle.std.proofs.Common.{refl}
+use Rattle.session_core.proofs.GateLemmas.{calls_none, lets_in_none}
 use Rattle.std.proofs.lemmas.Result.{err_from_is_err_and}
 use Rattle.session_core.proofs.RulebookLemmas.{exits_at_by, goes_at_by}
 use Rattle.git_session.specs.Session.{served, serving}
@@ -16,3 +18,9 @@ returns-clause-runs g c =
 
 pub returns-in_err-asked-clause-goes : goal.returns-in_err-asked-clause-goes
 returns-in_err-asked-clause-goes g c = g.met.K.Desk.stays c.args.desk.now
+
+pub returns-in_err-asked-clause-gates : goal.returns-in_err-asked-clause-gates
+returns-in_err-asked-clause-gates g c = calls_none _ _ _ _ (lets_in_none _ _ refl)
+
+pub returns-clause-gates : goal.returns-clause-gates
+returns-clause-gates g c = rw c.in_ok-asked.ensures.writing.written at c.serve_asked.ensures.gates

@@ -1,6 +1,7 @@
-use Rattle.std.proofs.Common.{◌∙◌, subst}
+use Rattle.std.proofs.Common.{refl, ◌∙◌, subst}
 use Rattle.hub_history.specs.Conf.{AreInForce}
 use Rattle.hub_history.specs.State.{Conf}
+use Rattle.session_core.proofs.GateLemmas.{lets_in_none, lets_in_one}
 use Rattle.session_core.proofs.RulebookLemmas.{memory_by}
 use Rattle.receive_pack.proofs.PushLemmas.{pushed_then}
 use Rattle.receive_pack.proofs.receiving.push.Goals as goal
@@ -33,3 +34,18 @@ returns-in_default-reported_push-clause-goes g c = g.met.K.Desk.stays c.args.des
 
 pub returns-in_default-judge-clause-goes : goal.returns-in_default-judge-clause-goes
 returns-in_default-judge-clause-goes g c = g.met.K.Desk.stays c.args.desk.now
+
+pub returns-in_default-clause-lets_in : goal.returns-in_default-clause-lets_in
+returns-in_default-clause-lets_in g c = lets_in_none _ _ refl
+
+pub returns-in_default-reported_push-clause-lets_in : goal.returns-in_default-reported_push-clause-lets_in
+returns-in_default-reported_push-clause-lets_in g c = lets_in_none _ _ refl
+
+pub returns-in_default-judge-clause-lets_in : goal.returns-in_default-judge-clause-lets_in
+returns-in_default-judge-clause-lets_in g c = lets_in_none _ _ refl
+
+pub returns-in-Settled-clause-lets_in : goal.returns-in-Settled-clause-lets_in
+returns-in-Settled-clause-lets_in g c = lets_in_one _ _ _ _ c.in-Settled.ensures.answers.1
+
+pub returns-clause-lets_in : goal.returns-clause-lets_in
+returns-clause-lets_in g c = lets_in_none _ _ c.in-NoMemory.ensures.answers.1

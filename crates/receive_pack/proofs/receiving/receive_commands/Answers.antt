@@ -1,6 +1,8 @@
+use Rattle.std.proofs.Common.{refl}
 use Rattle.std.proofs.lemmas.Result.{err_from_is_err_and}
 use Rattle.interaction_tree.proofs.RunLemmas.{runs_gives}
 use Rattle.session_core.specs.FirstPacket.{without_feed}
+use Rattle.session_core.proofs.GateLemmas.{lets_in_none}
 use Rattle.session_core.proofs.RulebookLemmas.{exits_first, fault_by, goes_first, packet_by, runs_always}
 use Rattle.session_core.proofs.StepLemmas.{fault_tells}
 use Rattle.receive_pack.specs.Changes.{first_capabilities}
@@ -58,3 +60,12 @@ returns-in-Ok-Flush-clause-goes g c = g.met.K.Desk.stays c.args.desk.now
 
 pub returns-in-Err-clause-goes : goal.returns-in-Err-clause-goes
 returns-in-Err-clause-goes g c = g.met.K.Desk.stays c.args.desk.now
+
+pub returns-in_err-first-in-Ok-Line-clause-lets_in : goal.returns-in_err-first-in-Ok-Line-clause-lets_in
+returns-in_err-first-in-Ok-Line-clause-lets_in g c = lets_in_none _ _ refl
+
+pub returns-in-Ok-Flush-clause-lets_in : goal.returns-in-Ok-Flush-clause-lets_in
+returns-in-Ok-Flush-clause-lets_in g c = lets_in_none _ _ refl
+
+pub returns-in-Err-clause-lets_in : goal.returns-in-Err-clause-lets_in
+returns-in-Err-clause-lets_in g c = lets_in_none _ _ refl

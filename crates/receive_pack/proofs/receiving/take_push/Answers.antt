@@ -1,6 +1,8 @@
+use Rattle.std.proofs.Common.{refl}
 use Rattle.interaction_tree.specs.Interaction.{◌>>=◌}
 use Rattle.std.proofs.lemmas.Result.{err_from_is_err_and}
 use Rattle.receive_pack.specs.Receiving.{pushing, taking_pack, taking_push}
+use Rattle.session_core.proofs.GateLemmas.{lets_in_none}
 use Rattle.session_core.proofs.RulebookLemmas.{exits_first, goes_first}
 use Rattle.receive_pack.proofs.receiving.take_push.Goals as goal
 
@@ -28,3 +30,9 @@ returns-in_err-commands-clause-goes g c = g.met.K.Desk.stays c.args.desk.now
 
 pub returns-in_err-pack-clause-goes : goal.returns-in_err-pack-clause-goes
 returns-in_err-pack-clause-goes g c = g.met.K.Desk.stays c.args.desk.now
+
+pub returns-in_err-commands-clause-lets_in : goal.returns-in_err-commands-clause-lets_in
+returns-in_err-commands-clause-lets_in g c = lets_in_none _ _ refl
+
+pub returns-in_err-pack-clause-lets_in : goal.returns-in_err-pack-clause-lets_in
+returns-in_err-pack-clause-lets_in g c = lets_in_none _ _ refl

@@ -1,6 +1,7 @@
 use Rattle.session_core.proofs.StepLemmas.{refused}
 use Rattle.session_core.proofs.RulebookLemmas.{memory_by}
-use Rattle.session_core.proofs.OpeningLemmas.{granted_then, created_then, denied_then, no_repo_then, short_after}
+use Rattle.session_core.proofs.GateLemmas.{lets_in_none, lets_in_one}
+use Rattle.session_core.proofs.OpeningLemmas.{granted_then, created_then, denied_then, no_repo_then, short_after, stands_after}
 use Rattle.session_core.proofs.opening.enter.Goals as goal
 
 pub returns-in-Granted-clause-runs : goal.returns-in-Granted-clause-runs
@@ -23,3 +24,24 @@ returns-in-Granted-clause-names g c = short_after c.hold_laws.ensures.short _ _ 
 
 pub returns-in-Created-clause-names : goal.returns-in-Created-clause-names
 returns-in-Created-clause-names g c = short_after c.hold_laws.ensures.short _ _ _ _ c.in-Created.pin c.in-Created.ensures.answers.1 c.in-Created.ensures.answers.2.stands
+
+pub returns-in-Granted-clause-somewhere : goal.returns-in-Granted-clause-somewhere
+returns-in-Granted-clause-somewhere g c = stands_after _ _ _ _ c.in-Granted.pin c.in-Granted.ensures.answers.1 c.in-Granted.ensures.answers.2.stands
+
+pub returns-in-Created-clause-somewhere : goal.returns-in-Created-clause-somewhere
+returns-in-Created-clause-somewhere g c = stands_after _ _ _ _ c.in-Created.pin c.in-Created.ensures.answers.1 c.in-Created.ensures.answers.2.stands
+
+pub returns-in-Granted-clause-lets_in : goal.returns-in-Granted-clause-lets_in
+returns-in-Granted-clause-lets_in g c = rw c.in-Granted.ensures.answers.2.place (lets_in_one _ _ _ _ c.in-Granted.ensures.answers.1)
+
+pub returns-in-Created-clause-lets_in : goal.returns-in-Created-clause-lets_in
+returns-in-Created-clause-lets_in g c = rw c.in-Created.ensures.answers.2.place (lets_in_one _ _ _ _ c.in-Created.ensures.answers.1)
+
+pub returns-in-Denied-clause-lets_in : goal.returns-in-Denied-clause-lets_in
+returns-in-Denied-clause-lets_in g c = lets_in_one _ _ _ _ c.in-Denied.ensures.answers.1
+
+pub returns-in-NoRepo-clause-lets_in : goal.returns-in-NoRepo-clause-lets_in
+returns-in-NoRepo-clause-lets_in g c = lets_in_one _ _ _ _ c.in-NoRepo.ensures.answers.1
+
+pub returns-in-NoMemory-clause-lets_in : goal.returns-in-NoMemory-clause-lets_in
+returns-in-NoMemory-clause-lets_in g c = lets_in_none _ _ c.in-NoMemory.ensures.answers.1

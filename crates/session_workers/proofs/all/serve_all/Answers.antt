@@ -11,7 +11,7 @@ use Rattle.session_workers.proofs.all.serve_all.Goals as goal
 pub returns-then-is_empty-clause-served : goal.returns-then-is_empty-clause-served
 returns-then-is_empty-clause-served g c =
     let none : length c.args.posts.now ≡ 0 = search rules in
-    none_posts g.L.Endpoint.state g.D.Door.state g.H.EventHub.may_stop (g.H.EventHub.view c.args.hub) c.args.posts.now c.args.each c.sound.ensures none
+    none_posts g.L.Endpoint.state g.D.Door.state g.H.EventHub.may_stop (g.H.EventHub.view c.args.hub) c.args.posts.now c.args.each c.sound.ensures.legal none
 
 pub serve_posts-requires-clause-may : goal.serve_posts-requires-clause-may
 serve_posts-requires-clause-may g c =

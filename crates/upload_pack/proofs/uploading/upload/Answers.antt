@@ -1,16 +1,16 @@
-use Rattle.std.proofs.lemmas.Result.{err_from_is_err_and}
-use Rattle.hub_history.specs.State.{store_of}
-use Rattle.session_core.proofs.StepLemmas.{exits, goes}
-use Rattle.upload_pack.specs.Uploading.{uploading, wanting}
+use Rattle.std.proofs.Common.{◌≡◌, refl}
+use Rattle.interaction_tree.specs.Traces.{Ended}
+use Rattle.session_core.specs.End.{halt_of}
+use Rattle.session_core.proofs.PartLemmas.{part_alone}
+use Rattle.upload_pack.specs.declared.uploading.FetchEnd.{FetchEnd}
+use Rattle.upload_pack.specs.declared.uploading.FetchEnd.TheVariants.{Served, NotOurRef}
+use Rattle.upload_pack.specs.Uploading.{fetched_end, uploading}
+use Rattle.upload_pack.proofs.OrderLemmas.{order_uploading}
 use Rattle.upload_pack.proofs.uploading.upload.Goals as goal
 
-pub returns-in_err-advertise_upload-clause-runs : goal.returns-in_err-advertise_upload-clause-runs
-unfolding uploading
-returns-in_err-advertise_upload-clause-runs g c = λ desk.
-    let p = err_from_is_err_and c.from_residual.result c.from_residual.ensures.1 in
-    exits _ _ desk desk _ (λ u. wanting (store_of c.args.pin.now.pinned.repository) c.args.reader.now.offset) c.advertise_upload.result _ _ _ c.in_err-advertise_upload.was p.1 p.2 (c.advertise_upload.ensures.runs desk)
-
-pub returns-clause-runs : goal.returns-clause-runs
-unfolding uploading
-returns-clause-runs g c = λ desk.
-    goes _ _ desk desk _ (λ u. wanting (store_of c.args.pin.now.pinned.repository) c.args.reader.now.offset) c.advertise_upload.result _ desk c.in_ok-advertise_upload.field-0 _ c.in_ok-advertise_upload.was (c.advertise_upload.ensures.runs desk) (c.upload_wants.ensures.runs desk)
+pub returns-clause-turn : goal.returns-clause-turn
+returns-clause-turn g c = part_alone fetched_end stands _ _ (uploading c.args.pin.now c.args.reader.now.offset) c.upload_both.result (order_uploading c.args.pin.now c.args.reader.now.offset) c.upload_both.ensures.runs
+  where
+    stands : (value : FetchEnd) → halt_of (fetched_end value) ≡ Ended (fetched_end value)
+    stands Served = refl
+    stands (NotOurRef id) = refl

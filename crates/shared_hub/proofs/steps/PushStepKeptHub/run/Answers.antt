@@ -33,7 +33,7 @@ settle-pushed-requires-clause-stands g c =
 pub returns-clause-adds : goal.returns-clause-adds
 returns-clause-adds g c =
     let asked = c.in-Some.asked in
-    let event = settled asked.pin asked.pack asked.commands asked.atomic c.settle-pushed.result in
+    let event = settled asked.pin asked.request.pack asked.request.commands asked.request.atomic c.settle-pushed.result in
     let caller = ap (λ (s : PushState _). s.caller) c.self.view_is in
     let held = c.held.inside in
     adds_one g.H.EventHub.view c.args.held.now held.first.value held.hub c.held.view_is c.settle-pushed.new.self c.args.self.now.caller event
@@ -47,7 +47,7 @@ returns-clause-relates g c =
     let new = c.settle-pushed.new.self in
     let before = listed kept.first (g.H.EventHub.view kept.hub) in
     let after = listed held.first.value (g.H.EventHub.view new) in
-    let event = settled asked.pin asked.pack asked.commands asked.atomic c.settle-pushed.result in
+    let event = settled asked.pin asked.request.pack asked.request.commands asked.request.atomic c.settle-pushed.result in
     let runs : RunsPush c.self.inside.caller asked before after c.settle-pushed.result = (
       adds g.H.EventHub.view kept held.first.value held.hub c.held.view_is new c.self.inside.caller event c.settle-pushed.ensures.logs c.settle-pushed.ensures.legal,
       of_list g.H.EventHub.view kept held.first.value held.hub c.held.view_is (λ (h : HubView). AnswersPush h asked.pin c.settle-pushed.result) c.settle-pushed.ensures.answers,

@@ -1,35 +1,47 @@
-use Rattle.std.proofs.Common.{◌≡◌, ◌∙◌, ap, length, sym, true, false, rules, subst, ℕ, ◌∷◌, []}
+use Rattle.std.proofs.Common.{◌≡◌, ◌≤◌, ◌∙◌, ap, length, sym, true, false, rules, subst, ℕ, List, ◌∷◌, []}
+use Rattle.std.specs.List.{slice_get}
+use Rattle.hub_history.specs.declared.entry.Entry.{Entry}
 use Rattle.hub_history.specs.Requests.{Push}
 use Rattle.event_record.specs.Bodies.{IsStorable, body_of}
 use Rattle.hub.specs.Answer.{AnswersPush, settled}
+use Rattle.lasting_events.specs.Lasting.{place_among}
+use Rattle.stored_hub.proofs.StoredLemmas.{as_answered, composes, first_legal, of_push, one_stored, pin_within}
 use Rattle.hub.specs.Hub.{Logs}
-use Rattle.stored_hub.proofs.StoredLemmas.{as_answered, composes, first_legal, of_push, one_stored}
+use Rattle.stored_hub.specs.Stored.{lasts_in}
 use Rattle.stored_hub.proofs.calls.StoredHubEventHub.settle.Goals as goal
 
 pub returns-then-is_broken-clause-legal : goal.returns-then-is_broken-clause-legal
 returns-then-is_broken-clause-legal g c = first_legal c.args.self.now.hub.admin c.args.self.now.hub.log c.args.self.now.stored c.log-log.ensures.legal
 
-pub invariant_of-self : goal.invariant_of-self
-invariant_of-self g c =
+pub invariant_of-self-2 : goal.invariant_of-self-2
+invariant_of-self-2 g c =
+    let place_is : c.place_among-place.result ≡ place_among c.args.self.now.start c.args.self.now.hub.log c.args.pin.place =
+    c.place_among-place.ensures ∙ ap (place_among c.args.self.now.start c.log-log.result.now) c.place.ensures ∙ ap (λ (l : List Entry). place_among c.args.self.now.start l c.args.pin.place) c.log-log.ensures.log in
     let one =
-    one_stored g.Y.Disk.is_modeled c.args.self.now.hub c.settle-answer.new.self
+    one_stored g.Y.Disk.is_modeled c.args.self.now.hub c.settle-answer.new.self c.args.self.now.start
     (record { stored = c.args.self.now.stored; writer = c.args.self.now.writer; disk = g.Y.Disk.state c.args.self.now.disk })
     (record { stored = c.store_event-is_stored.new.stored; writer = c.store_event-is_stored.new.writer; disk = g.Y.Disk.state c.store_event-is_stored.new.disk })
-    c.args.caller (settled c.args.pin c.args.pack c.args.commands c.args.atomic c.settle-answer.result) (Push c.args.pin.place c.args.pack c.args.commands c.args.atomic) c.in-Ok.group c.len-count.result c.args.self.now.sound (sym c.is_broken.ensures ∙ c.if-is_broken.false) c.settle-answer.ensures.logs (of_push c.args.pin c.args.pack c.args.commands c.args.atomic c.settle-answer.result)
-    (c.in-Ok.ensures.body ∙ ap (λ (n : ℕ). body_of c.args.caller (Push n c.args.pack c.args.commands c.args.atomic) ∷ []) c.place.ensures) (subst (λ (n : ℕ). IsStorable c.args.caller (Push n c.args.pack c.args.commands c.args.atomic)) c.place.ensures c.in-Ok.ensures.storable) (c.len-count.ensures ∙ ap length c.log.ensures.log)
-    (λ same. let none = c.store_event-is_stored.ensures.none same in λ i. record { stored = none.2 i; writer = none.1 i; disk = g.Y.Disk.state (none.0 i) }) c.store_event-is_stored.ensures.stores in
-    record { sound = one.has }
+    c.args.self.now.places.items c.store_event-is_stored.new.places.items c.args.self.now.sound (sym c.is_broken.ensures ∙ c.if-is_broken.false) c.args.self.now.listed
+    c.args.caller (settled c.args.pin c.args.request.pack c.args.request.commands c.args.request.atomic c.settle-answer.result) (Push (place_among c.args.self.now.start c.args.self.now.hub.log c.args.pin.place) c.args.request.pack c.args.request.commands c.args.request.atomic) c.in-Ok.group c.len-count.result c.lasts_at-is_lasting.result c.settle-answer.ensures.logs (of_push c.args.self.now.start c.args.self.now.hub.log c.args.pin c.args.request.pack c.args.request.commands c.args.request.atomic c.settle-answer.result)
+    (c.in-Ok.ensures.body ∙ ap (λ (n : ℕ). body_of c.args.caller (Push n c.args.request.pack c.args.request.commands c.args.request.atomic) ∷ []) place_is) (subst (λ (n : ℕ). IsStorable c.args.caller (Push n c.args.request.pack c.args.request.commands c.args.request.atomic)) place_is c.in-Ok.ensures.storable) (c.len-count.ensures ∙ ap length c.log-after.ensures.log)
+    (c.lasts_at-is_lasting.ensures ∙ ap (λ (l : List Entry). lasts_in (slice_get l c.args.self.now.stored)) c.log-after.ensures.log)
+    c.ready_push.new.places.items c.ready_push.ensures.places c.store_event-is_stored.ensures.accounts in
+    record { sound = one.has; listed = one.listed }
 
 pub returns-then-not-is_stored-clause-logs : goal.returns-then-not-is_stored-clause-logs
 returns-then-not-is_stored-clause-logs g c =
     let no : c.store_event-is_stored.result ≡ false = search rules in
+    let place_is : c.place_among-place.result ≡ place_among c.args.self.now.start c.args.self.now.hub.log c.args.pin.place =
+    c.place_among-place.ensures ∙ ap (place_among c.args.self.now.start c.log-log.result.now) c.place.ensures ∙ ap (λ (l : List Entry). place_among c.args.self.now.start l c.args.pin.place) c.log-log.ensures.log in
     let one =
-    one_stored g.Y.Disk.is_modeled c.args.self.now.hub c.settle-answer.new.self
+    one_stored g.Y.Disk.is_modeled c.args.self.now.hub c.settle-answer.new.self c.args.self.now.start
     (record { stored = c.args.self.now.stored; writer = c.args.self.now.writer; disk = g.Y.Disk.state c.args.self.now.disk })
     (record { stored = c.store_event-is_stored.new.stored; writer = c.store_event-is_stored.new.writer; disk = g.Y.Disk.state c.store_event-is_stored.new.disk })
-    c.args.caller (settled c.args.pin c.args.pack c.args.commands c.args.atomic c.settle-answer.result) (Push c.args.pin.place c.args.pack c.args.commands c.args.atomic) c.in-Ok.group c.len-count.result c.args.self.now.sound (sym c.is_broken.ensures ∙ c.if-is_broken.false) c.settle-answer.ensures.logs (of_push c.args.pin c.args.pack c.args.commands c.args.atomic c.settle-answer.result)
-    (c.in-Ok.ensures.body ∙ ap (λ (n : ℕ). body_of c.args.caller (Push n c.args.pack c.args.commands c.args.atomic) ∷ []) c.place.ensures) (subst (λ (n : ℕ). IsStorable c.args.caller (Push n c.args.pack c.args.commands c.args.atomic)) c.place.ensures c.in-Ok.ensures.storable) (c.len-count.ensures ∙ ap length c.log.ensures.log)
-    (λ same. let none = c.store_event-is_stored.ensures.none same in λ i. record { stored = none.2 i; writer = none.1 i; disk = g.Y.Disk.state (none.0 i) }) c.store_event-is_stored.ensures.stores in
+    c.args.self.now.places.items c.store_event-is_stored.new.places.items c.args.self.now.sound (sym c.is_broken.ensures ∙ c.if-is_broken.false) c.args.self.now.listed
+    c.args.caller (settled c.args.pin c.args.request.pack c.args.request.commands c.args.request.atomic c.settle-answer.result) (Push (place_among c.args.self.now.start c.args.self.now.hub.log c.args.pin.place) c.args.request.pack c.args.request.commands c.args.request.atomic) c.in-Ok.group c.len-count.result c.lasts_at-is_lasting.result c.settle-answer.ensures.logs (of_push c.args.self.now.start c.args.self.now.hub.log c.args.pin c.args.request.pack c.args.request.commands c.args.request.atomic c.settle-answer.result)
+    (c.in-Ok.ensures.body ∙ ap (λ (n : ℕ). body_of c.args.caller (Push n c.args.request.pack c.args.request.commands c.args.request.atomic) ∷ []) place_is) (subst (λ (n : ℕ). IsStorable c.args.caller (Push n c.args.request.pack c.args.request.commands c.args.request.atomic)) place_is c.in-Ok.ensures.storable) (c.len-count.ensures ∙ ap length c.log-after.ensures.log)
+    (c.lasts_at-is_lasting.ensures ∙ ap (λ (l : List Entry). lasts_in (slice_get l c.args.self.now.stored)) c.log-after.ensures.log)
+    c.ready_push.new.places.items c.ready_push.ensures.places c.store_event-is_stored.ensures.accounts in
     one.kept (c.store_event-is_stored.ensures.stops no)
 
 pub returns-then-not-is_stored-clause-legal : goal.returns-then-not-is_stored-clause-legal
@@ -37,37 +49,49 @@ returns-then-not-is_stored-clause-legal g c = first_legal c.settle-answer.new.se
 
 pub returns-then-not-is_stored-clause-goes : goal.returns-then-not-is_stored-clause-goes
 returns-then-not-is_stored-clause-goes g c first on =
+    let place_is : c.place_among-place.result ≡ place_among c.args.self.now.start c.args.self.now.hub.log c.args.pin.place =
+    c.place_among-place.ensures ∙ ap (place_among c.args.self.now.start c.log-log.result.now) c.place.ensures ∙ ap (λ (l : List Entry). place_among c.args.self.now.start l c.args.pin.place) c.log-log.ensures.log in
     let one =
-    one_stored g.Y.Disk.is_modeled c.args.self.now.hub c.settle-answer.new.self
+    one_stored g.Y.Disk.is_modeled c.args.self.now.hub c.settle-answer.new.self c.args.self.now.start
     (record { stored = c.args.self.now.stored; writer = c.args.self.now.writer; disk = g.Y.Disk.state c.args.self.now.disk })
     (record { stored = c.store_event-is_stored.new.stored; writer = c.store_event-is_stored.new.writer; disk = g.Y.Disk.state c.store_event-is_stored.new.disk })
-    c.args.caller (settled c.args.pin c.args.pack c.args.commands c.args.atomic c.settle-answer.result) (Push c.args.pin.place c.args.pack c.args.commands c.args.atomic) c.in-Ok.group c.len-count.result c.args.self.now.sound (sym c.is_broken.ensures ∙ c.if-is_broken.false) c.settle-answer.ensures.logs (of_push c.args.pin c.args.pack c.args.commands c.args.atomic c.settle-answer.result)
-    (c.in-Ok.ensures.body ∙ ap (λ (n : ℕ). body_of c.args.caller (Push n c.args.pack c.args.commands c.args.atomic) ∷ []) c.place.ensures) (subst (λ (n : ℕ). IsStorable c.args.caller (Push n c.args.pack c.args.commands c.args.atomic)) c.place.ensures c.in-Ok.ensures.storable) (c.len-count.ensures ∙ ap length c.log.ensures.log)
-    (λ same. let none = c.store_event-is_stored.ensures.none same in λ i. record { stored = none.2 i; writer = none.1 i; disk = g.Y.Disk.state (none.0 i) }) c.store_event-is_stored.ensures.stores in
+    c.args.self.now.places.items c.store_event-is_stored.new.places.items c.args.self.now.sound (sym c.is_broken.ensures ∙ c.if-is_broken.false) c.args.self.now.listed
+    c.args.caller (settled c.args.pin c.args.request.pack c.args.request.commands c.args.request.atomic c.settle-answer.result) (Push (place_among c.args.self.now.start c.args.self.now.hub.log c.args.pin.place) c.args.request.pack c.args.request.commands c.args.request.atomic) c.in-Ok.group c.len-count.result c.lasts_at-is_lasting.result c.settle-answer.ensures.logs (of_push c.args.self.now.start c.args.self.now.hub.log c.args.pin c.args.request.pack c.args.request.commands c.args.request.atomic c.settle-answer.result)
+    (c.in-Ok.ensures.body ∙ ap (λ (n : ℕ). body_of c.args.caller (Push n c.args.request.pack c.args.request.commands c.args.request.atomic) ∷ []) place_is) (subst (λ (n : ℕ). IsStorable c.args.caller (Push n c.args.request.pack c.args.request.commands c.args.request.atomic)) place_is c.in-Ok.ensures.storable) (c.len-count.ensures ∙ ap length c.log-after.ensures.log)
+    (c.lasts_at-is_lasting.ensures ∙ ap (λ (l : List Entry). lasts_in (slice_get l c.args.self.now.stored)) c.log-after.ensures.log)
+    c.ready_push.new.places.items c.ready_push.ensures.places c.store_event-is_stored.ensures.accounts in
     composes g.Y.Disk.is_modeled first _ _ on one.goes
 
 pub returns-clause-logs : goal.returns-clause-logs
 returns-clause-logs g c =
     let yes : c.store_event-is_stored.result ≡ true = search rules in
+    let place_is : c.place_among-place.result ≡ place_among c.args.self.now.start c.args.self.now.hub.log c.args.pin.place =
+    c.place_among-place.ensures ∙ ap (place_among c.args.self.now.start c.log-log.result.now) c.place.ensures ∙ ap (λ (l : List Entry). place_among c.args.self.now.start l c.args.pin.place) c.log-log.ensures.log in
     let one =
-    one_stored g.Y.Disk.is_modeled c.args.self.now.hub c.settle-answer.new.self
+    one_stored g.Y.Disk.is_modeled c.args.self.now.hub c.settle-answer.new.self c.args.self.now.start
     (record { stored = c.args.self.now.stored; writer = c.args.self.now.writer; disk = g.Y.Disk.state c.args.self.now.disk })
     (record { stored = c.store_event-is_stored.new.stored; writer = c.store_event-is_stored.new.writer; disk = g.Y.Disk.state c.store_event-is_stored.new.disk })
-    c.args.caller (settled c.args.pin c.args.pack c.args.commands c.args.atomic c.settle-answer.result) (Push c.args.pin.place c.args.pack c.args.commands c.args.atomic) c.in-Ok.group c.len-count.result c.args.self.now.sound (sym c.is_broken.ensures ∙ c.if-is_broken.false) c.settle-answer.ensures.logs (of_push c.args.pin c.args.pack c.args.commands c.args.atomic c.settle-answer.result)
-    (c.in-Ok.ensures.body ∙ ap (λ (n : ℕ). body_of c.args.caller (Push n c.args.pack c.args.commands c.args.atomic) ∷ []) c.place.ensures) (subst (λ (n : ℕ). IsStorable c.args.caller (Push n c.args.pack c.args.commands c.args.atomic)) c.place.ensures c.in-Ok.ensures.storable) (c.len-count.ensures ∙ ap length c.log.ensures.log)
-    (λ same. let none = c.store_event-is_stored.ensures.none same in λ i. record { stored = none.2 i; writer = none.1 i; disk = g.Y.Disk.state (none.0 i) }) c.store_event-is_stored.ensures.stores in
-    as_answered (λ old new. Logs old new c.args.caller (settled c.args.pin c.args.pack c.args.commands c.args.atomic c.settle-answer.result)) _ _ c.args.self.now.sound (sym c.is_broken.ensures ∙ c.if-is_broken.false) one.has (c.store_event-is_stored.ensures.answers yes) c.settle-answer.ensures.logs
+    c.args.self.now.places.items c.store_event-is_stored.new.places.items c.args.self.now.sound (sym c.is_broken.ensures ∙ c.if-is_broken.false) c.args.self.now.listed
+    c.args.caller (settled c.args.pin c.args.request.pack c.args.request.commands c.args.request.atomic c.settle-answer.result) (Push (place_among c.args.self.now.start c.args.self.now.hub.log c.args.pin.place) c.args.request.pack c.args.request.commands c.args.request.atomic) c.in-Ok.group c.len-count.result c.lasts_at-is_lasting.result c.settle-answer.ensures.logs (of_push c.args.self.now.start c.args.self.now.hub.log c.args.pin c.args.request.pack c.args.request.commands c.args.request.atomic c.settle-answer.result)
+    (c.in-Ok.ensures.body ∙ ap (λ (n : ℕ). body_of c.args.caller (Push n c.args.request.pack c.args.request.commands c.args.request.atomic) ∷ []) place_is) (subst (λ (n : ℕ). IsStorable c.args.caller (Push n c.args.request.pack c.args.request.commands c.args.request.atomic)) place_is c.in-Ok.ensures.storable) (c.len-count.ensures ∙ ap length c.log-after.ensures.log)
+    (c.lasts_at-is_lasting.ensures ∙ ap (λ (l : List Entry). lasts_in (slice_get l c.args.self.now.stored)) c.log-after.ensures.log)
+    c.ready_push.new.places.items c.ready_push.ensures.places c.store_event-is_stored.ensures.accounts in
+    as_answered (λ old new. Logs old new c.args.caller (settled c.args.pin c.args.request.pack c.args.request.commands c.args.request.atomic c.settle-answer.result)) _ _ c.args.self.now.sound (sym c.is_broken.ensures ∙ c.if-is_broken.false) one.has (c.store_event-is_stored.ensures.answers yes) c.settle-answer.ensures.logs
 
 pub returns-clause-answers : goal.returns-clause-answers
 returns-clause-answers g c =
     let yes : c.store_event-is_stored.result ≡ true = search rules in
+    let place_is : c.place_among-place.result ≡ place_among c.args.self.now.start c.args.self.now.hub.log c.args.pin.place =
+    c.place_among-place.ensures ∙ ap (place_among c.args.self.now.start c.log-log.result.now) c.place.ensures ∙ ap (λ (l : List Entry). place_among c.args.self.now.start l c.args.pin.place) c.log-log.ensures.log in
     let one =
-    one_stored g.Y.Disk.is_modeled c.args.self.now.hub c.settle-answer.new.self
+    one_stored g.Y.Disk.is_modeled c.args.self.now.hub c.settle-answer.new.self c.args.self.now.start
     (record { stored = c.args.self.now.stored; writer = c.args.self.now.writer; disk = g.Y.Disk.state c.args.self.now.disk })
     (record { stored = c.store_event-is_stored.new.stored; writer = c.store_event-is_stored.new.writer; disk = g.Y.Disk.state c.store_event-is_stored.new.disk })
-    c.args.caller (settled c.args.pin c.args.pack c.args.commands c.args.atomic c.settle-answer.result) (Push c.args.pin.place c.args.pack c.args.commands c.args.atomic) c.in-Ok.group c.len-count.result c.args.self.now.sound (sym c.is_broken.ensures ∙ c.if-is_broken.false) c.settle-answer.ensures.logs (of_push c.args.pin c.args.pack c.args.commands c.args.atomic c.settle-answer.result)
-    (c.in-Ok.ensures.body ∙ ap (λ (n : ℕ). body_of c.args.caller (Push n c.args.pack c.args.commands c.args.atomic) ∷ []) c.place.ensures) (subst (λ (n : ℕ). IsStorable c.args.caller (Push n c.args.pack c.args.commands c.args.atomic)) c.place.ensures c.in-Ok.ensures.storable) (c.len-count.ensures ∙ ap length c.log.ensures.log)
-    (λ same. let none = c.store_event-is_stored.ensures.none same in λ i. record { stored = none.2 i; writer = none.1 i; disk = g.Y.Disk.state (none.0 i) }) c.store_event-is_stored.ensures.stores in
+    c.args.self.now.places.items c.store_event-is_stored.new.places.items c.args.self.now.sound (sym c.is_broken.ensures ∙ c.if-is_broken.false) c.args.self.now.listed
+    c.args.caller (settled c.args.pin c.args.request.pack c.args.request.commands c.args.request.atomic c.settle-answer.result) (Push (place_among c.args.self.now.start c.args.self.now.hub.log c.args.pin.place) c.args.request.pack c.args.request.commands c.args.request.atomic) c.in-Ok.group c.len-count.result c.lasts_at-is_lasting.result c.settle-answer.ensures.logs (of_push c.args.self.now.start c.args.self.now.hub.log c.args.pin c.args.request.pack c.args.request.commands c.args.request.atomic c.settle-answer.result)
+    (c.in-Ok.ensures.body ∙ ap (λ (n : ℕ). body_of c.args.caller (Push n c.args.request.pack c.args.request.commands c.args.request.atomic) ∷ []) place_is) (subst (λ (n : ℕ). IsStorable c.args.caller (Push n c.args.request.pack c.args.request.commands c.args.request.atomic)) place_is c.in-Ok.ensures.storable) (c.len-count.ensures ∙ ap length c.log-after.ensures.log)
+    (c.lasts_at-is_lasting.ensures ∙ ap (λ (l : List Entry). lasts_in (slice_get l c.args.self.now.stored)) c.log-after.ensures.log)
+    c.ready_push.new.places.items c.ready_push.ensures.places c.store_event-is_stored.ensures.accounts in
     as_answered (λ old new. AnswersPush old c.args.pin c.settle-answer.result) _ _ c.args.self.now.sound (sym c.is_broken.ensures ∙ c.if-is_broken.false) one.has (c.store_event-is_stored.ensures.answers yes) c.settle-answer.ensures.answers
 
 pub returns-clause-legal : goal.returns-clause-legal
@@ -75,17 +99,23 @@ returns-clause-legal g c = first_legal c.settle-answer.new.self.admin c.settle-a
 
 pub returns-clause-goes : goal.returns-clause-goes
 returns-clause-goes g c first on =
+    let place_is : c.place_among-place.result ≡ place_among c.args.self.now.start c.args.self.now.hub.log c.args.pin.place =
+    c.place_among-place.ensures ∙ ap (place_among c.args.self.now.start c.log-log.result.now) c.place.ensures ∙ ap (λ (l : List Entry). place_among c.args.self.now.start l c.args.pin.place) c.log-log.ensures.log in
     let one =
-    one_stored g.Y.Disk.is_modeled c.args.self.now.hub c.settle-answer.new.self
+    one_stored g.Y.Disk.is_modeled c.args.self.now.hub c.settle-answer.new.self c.args.self.now.start
     (record { stored = c.args.self.now.stored; writer = c.args.self.now.writer; disk = g.Y.Disk.state c.args.self.now.disk })
     (record { stored = c.store_event-is_stored.new.stored; writer = c.store_event-is_stored.new.writer; disk = g.Y.Disk.state c.store_event-is_stored.new.disk })
-    c.args.caller (settled c.args.pin c.args.pack c.args.commands c.args.atomic c.settle-answer.result) (Push c.args.pin.place c.args.pack c.args.commands c.args.atomic) c.in-Ok.group c.len-count.result c.args.self.now.sound (sym c.is_broken.ensures ∙ c.if-is_broken.false) c.settle-answer.ensures.logs (of_push c.args.pin c.args.pack c.args.commands c.args.atomic c.settle-answer.result)
-    (c.in-Ok.ensures.body ∙ ap (λ (n : ℕ). body_of c.args.caller (Push n c.args.pack c.args.commands c.args.atomic) ∷ []) c.place.ensures) (subst (λ (n : ℕ). IsStorable c.args.caller (Push n c.args.pack c.args.commands c.args.atomic)) c.place.ensures c.in-Ok.ensures.storable) (c.len-count.ensures ∙ ap length c.log.ensures.log)
-    (λ same. let none = c.store_event-is_stored.ensures.none same in λ i. record { stored = none.2 i; writer = none.1 i; disk = g.Y.Disk.state (none.0 i) }) c.store_event-is_stored.ensures.stores in
+    c.args.self.now.places.items c.store_event-is_stored.new.places.items c.args.self.now.sound (sym c.is_broken.ensures ∙ c.if-is_broken.false) c.args.self.now.listed
+    c.args.caller (settled c.args.pin c.args.request.pack c.args.request.commands c.args.request.atomic c.settle-answer.result) (Push (place_among c.args.self.now.start c.args.self.now.hub.log c.args.pin.place) c.args.request.pack c.args.request.commands c.args.request.atomic) c.in-Ok.group c.len-count.result c.lasts_at-is_lasting.result c.settle-answer.ensures.logs (of_push c.args.self.now.start c.args.self.now.hub.log c.args.pin c.args.request.pack c.args.request.commands c.args.request.atomic c.settle-answer.result)
+    (c.in-Ok.ensures.body ∙ ap (λ (n : ℕ). body_of c.args.caller (Push n c.args.request.pack c.args.request.commands c.args.request.atomic) ∷ []) place_is) (subst (λ (n : ℕ). IsStorable c.args.caller (Push n c.args.request.pack c.args.request.commands c.args.request.atomic)) place_is c.in-Ok.ensures.storable) (c.len-count.ensures ∙ ap length c.log-after.ensures.log)
+    (c.lasts_at-is_lasting.ensures ∙ ap (λ (l : List Entry). lasts_in (slice_get l c.args.self.now.stored)) c.log-after.ensures.log)
+    c.ready_push.new.places.items c.ready_push.ensures.places c.store_event-is_stored.ensures.accounts in
     composes g.Y.Disk.is_modeled first _ _ on one.goes
 
 pub returns-in_default-clause-legal : goal.returns-in_default-clause-legal
 returns-in_default-clause-legal g c = first_legal c.args.self.now.hub.admin c.args.self.now.hub.log c.args.self.now.stored c.log-log.ensures.legal
 
-pub returns-in_default-copy_pin-clause-legal : goal.returns-in_default-copy_pin-clause-legal
-returns-in_default-copy_pin-clause-legal g c = first_legal c.args.self.now.hub.admin c.args.self.now.hub.log c.args.self.now.stored c.log-log.ensures.legal
+pub place_among-place-requires-clause-within : goal.place_among-place-requires-clause-within
+place_among-place-requires-clause-within g c =
+    subst (λ (l : List Entry). c.place.result ≤ length l) (sym c.log-log.ensures.log)
+    (subst (λ (n : ℕ). n ≤ length c.args.self.now.hub.log) (sym c.place.ensures) (pin_within c.args.pin c.args.self.now.hub.admin c.args.self.now.hub.log c.args.self.now.stored c.requires.stands))
