@@ -17,11 +17,12 @@ import time
 from compare_gitolite import Gitolite, gitolite_home
 from host_stops import converse, free_port
 from journal_costs import HEAD, large
-from push_costs import EMPTY, EMPTY_ID, admin_push, commit, object_id, packet, push
+from push_costs import EMPTY, EMPTY_ID, admin_push, commit, object_id, packet, raw_pack
 
 CONF = b"repo gitolite-admin\n    RW+ = admin\nrepo testing\n    RW+ = @all\nrepo closed\n    RW+ = admin\n"
 FRONT = os.path.join(os.path.dirname(os.path.dirname(os.path.realpath(__file__))), "front", "cerolimau-ssh")
 INFO = packet(b"carol info")
+COMMITS = 1_000  # that a client has to push by git
 DENIED = packet(b"carol git-receive-pack 'closed'")
 
 
@@ -42,10 +43,26 @@ class Server:
         self.child.wait()
 
 
-def of_all(act, clients, seconds):
-    """How often clients, each a process, did what they do in so many seconds; and how long each time took."""
-    with multiprocessing.Pool(clients) as pool:
-        took = pool.starmap(act, [(number, time.time() + 0.2, seconds) for number in range(clients)])
+def ask(port, sent):
+    with socket.create_connection(("127.0.0.1", port), timeout=60) as link:
+        link.sendall(sent)
+        link.shutdown(socket.SHUT_WR)
+        return b"".join(iter(lambda: link.recv(1 << 16), b""))
+
+
+def at_once(acts, seconds):
+    """What each act returns, done in processes of their own from one moment on."""
+    begin, pipes = time.time() + 0.3, []
+    for number, act in enumerate(acts):
+        mine, theirs = multiprocessing.Pipe()
+        multiprocessing.Process(target=lambda: theirs.send(act(number, begin, seconds))).start()
+        pipes.append(mine)
+    return [pipe.recv() for pipe in pipes]
+
+
+def of_all(acts, seconds):
+    """How often clients did what they do in so many seconds, a second; and how long each time took."""
+    took = at_once(acts, seconds)
     return sum(map(len, took)) / seconds, [one for rows in took for one in rows]
 
 
@@ -59,8 +76,8 @@ class Session:
         time.sleep(max(0, begin - time.time()))
         took, number, until = [], 0, time.perf_counter() + seconds
         while (began := time.perf_counter()) < until:
-            reply = converse(self.port, self.sessions(client, number))
-            assert self.answer in reply, reply
+            reply = ask(self.port, self.sessions(client, number))
+            assert self.answer in reply, reply[-300:]
             took.append(time.perf_counter() - began)
             number += 1
         return took
@@ -69,14 +86,14 @@ class Session:
 class GitPush:
     """What pushes one commit more by git, again and again, to a branch of its own."""
 
-    def __init__(self, client, place, environment):
-        self.client, self.place, self.environment = client, place, environment
+    def __init__(self, word, client, place, environment):
+        self.word, self.client, self.place, self.environment = word, client, place, environment
 
     def __call__(self, client, begin, seconds):
         time.sleep(max(0, begin - time.time()))
         took, number, until = [], 0, time.perf_counter() + seconds
         while (began := time.perf_counter()) < until:
-            what = "refs/heads/main~%d:refs/heads/c%d" % (1999 - number, client)
+            what = "refs/heads/m%d~%d:refs/heads/%s%d" % (client, COMMITS - 1 - number, self.word, client)
             its = dict(self.environment, GIT_SSH_COMMAND="%s u%d" % (self.environment.get("FRONT"), client))
             subprocess.run(["git", "-C", self.client, "push", "-q", self.place, what], check=True, env=its)
             took.append(time.perf_counter() - began)
@@ -84,9 +101,17 @@ class GitPush:
         return took
 
 
-def one_push(word):
-    made = commit(word, EMPTY_ID)
-    return push([("refs/heads/" + word.decode(), object_id(made))], [made, EMPTY])
+class Pushes:
+    """Sessions of a client that push one commit more to a branch of its own."""
+
+    def __init__(self, word):
+        self.word, self.last = word, None
+
+    def __call__(self, client, number):
+        made = commit(b"%s %d %d\n" % (self.word, client, number), EMPTY_ID, [self.last] if self.last else [])
+        old, self.last = self.last or bytes(20), object_id(made)
+        line = b"%s %s refs/heads/%s-%d\0report-status" % (old.hex().encode(), self.last.hex().encode(), self.word, client)
+        return packet(b"carol git-receive-pack 'testing'") + packet(line) + b"0000" + raw_pack([made, EMPTY])
 
 
 def sync_cost(room):
@@ -109,7 +134,8 @@ def told(name, rate, took):
 def git_pushes(room, port, seconds):
     environment = dict(os.environ, HOME=room, GIT_CONFIG_NOSYSTEM="1", GIT_SSH_VARIANT="simple")
     client, bare = room + "/client", room + "/bare"
-    stream = b"".join(b"commit refs/heads/main\ncommitter C <c@example.com> %d +0000\ndata 2\nx\n" % (1_700_000_000 + n) for n in range(2000))
+    row = b"commit refs/heads/m%d\ncommitter C%d <c@example.com> %d +0000\ndata 2\nx\n"
+    stream = b"".join(row % (client, client, 1_700_000_000 + n) for client in range(8) for n in range(COMMITS))
     subprocess.run(["git", "init", "-q", "--bare", "--initial-branch=main", client], check=True, env=environment)
     subprocess.run(["git", "-C", client, "fast-import", "--quiet"], input=stream, check=True, env=environment)
     sides = [("into a bare repository, core.fsync=all", bare, environment)]
@@ -129,18 +155,15 @@ def git_pushes(room, port, seconds):
     sides.append(("into cerolimau by its front end", "here:testing", dict(environment, FRONT=front)))
     for name, place, its in sides:
         for clients in 1, 8:
-            told("git push %s, %d clients" % (name, clients), *of_all(GitPush(client, place, its), clients, seconds))
+            told("git push %s, %d clients" % (name, clients), *of_all([GitPush("git%d-" % clients, client, place, its)] * clients, seconds))
 
 
 def beside(port, seconds, name, session, answer):
     """How long a reader waits beside eight who push."""
-    pushes = Session(port, lambda client, number: one_push(b"%s-%d-%d" % (name.encode(), client, number)), b"unpack ok")
-    with multiprocessing.Pool(9) as pool:
-        begin = time.time() + 0.3
-        writers = [pool.apply_async(pushes, (client, begin, seconds)) for client in range(8)]
-        reader = pool.apply_async(Session(port, lambda client, number: session, answer), (0, begin, seconds))
-        took = reader.get()
-        made = sum(len(writer.get()) for writer in writers)
+    pushes = [Session(port, Pushes(b"beside-%d" % (8 * len(name) + n)), b"unpack ok") for n in range(8)]
+    reader = Session(port, lambda client, number: session, answer)
+    took, *writers = at_once([reader] + pushes, seconds)
+    made = sum(map(len, writers))
     told("%s, beside eight who made %d pushes" % (name, made), len(took) / seconds, took)
 
 
@@ -153,10 +176,10 @@ def main(program, seconds="5", gigabytes="1"):
         try:
             converse(server.port, admin_push(CONF))
             for clients in 1, 8:
-                act = Session(server.port, lambda client, number: one_push(b"p%d-%d-%d" % (clients, client, number)), b"unpack ok")
-                told("a push over a session, %d clients" % clients, *of_all(act, clients, seconds))
+                acts = [Session(server.port, Pushes(b"of%d" % clients), b"unpack ok") for _ in range(clients)]
+                told("a push over a session, %d clients" % clients, *of_all(acts, seconds))
             beside(server.port, seconds, "info", INFO, b"testing")
-            beside(server.port, seconds, "denied", DENIED, b"denied")
+            beside(server.port, seconds, "a denial", DENIED, b"DENIED")
             git_pushes(room, server.port, seconds)
         finally:
             server.kill()

@@ -5,7 +5,9 @@
 //! - `memory_door`: a door over links that are at hand, which fails at the calls that are listed;
 //! - `standard`: standard input and output as the two halves of a link, or another reader and writer in their
 //!   place;
-//! - `connection`, `tcp_link`: a TCP connection as a link, which gathers what is put and reads ahead;
+//! - `stream`: what a stream of bytes in both directions is, as a TCP connection;
+//! - `connection`, `stream_link`: such a stream as a link, which gathers what is put and reads ahead;
+//! - `tcp_link`: a TCP connection as such a link;
 //! - `tcp_door`: a door through which the connections of a listener come;
 //! - `file_disk`: a file of the system as a disk, and `progress_disk` one that says how far it is read.
 #![tactic(auto)]
@@ -16,6 +18,8 @@ mod file_disk;
 mod memory_door;
 mod progress_disk;
 mod standard;
+mod stream;
+mod stream_link;
 mod tcp_door;
 mod tcp_link;
 
@@ -25,5 +29,7 @@ pub use file_disk::FileDisk;
 pub use memory_door::MemoryDoor;
 pub use progress_disk::ProgressDisk;
 pub use standard::{StdSink, StdSource};
+pub use stream::Stream;
+pub use stream_link::{Closing, StreamLink};
 pub use tcp_door::TcpDoor;
 pub use tcp_link::TcpLink;

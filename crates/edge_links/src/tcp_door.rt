@@ -1,17 +1,23 @@
 // A door through which the connections of a TCP listener come.
-ghost use Rattle.std.specs.Prelude.{◌≡◌, ◌≢◌, IsNone, IsTrue, false, is_some};
+ghost use Rattle.std.specs.Prelude.{◌≡◌, ◌≢◌, ◌+◌, IsNone, IsTrue, false, is_some};
+ghost use Rattle.edge_links.specs.Accepting.{is_kind_of_one_connection, is_number_of_one_connection, is_of_one_connection};
 ghost use Rattle.edge_links.specs.Door.{Answers, TakesBack};
-ghost use Rattle.edge_links.specs.Sockets.{faults_after_next, has_listener, listener_state};
+ghost use Rattle.edge_links.specs.Sockets.{Closes, faults_after_next, has_listener, last_closing, links_out, listener_state, unsent_links};
 
 use crate::door::{Door, Next};
+use crate::stream_link::{Closing, StreamLink};
 use crate::tcp_link::TcpLink;
+use pktline_core::Endpoint;
 use std::alloc::Global;
 use std::io;
 use std::io::ErrorKind;
-use std::net::TcpListener;
+use std::net::{TcpListener, TcpStream};
 
 // How many connections in a row may be left out before `next` has failed.
 const MOST_LEFT_OUT: u32 = 1024;
+
+// ENONET, EPROTO, ENOPROTOOPT, EOPNOTSUPP and EHOSTDOWN of Linux, which have no `ErrorKind`.
+const ONE_CONNECTION_NUMBERS: [i32; 5] = [64, 71, 92, 95, 112];
 
 /// A door through which the connections of a TCP listener come. Several doors may share one listener, each in
 /// a thread of its own. It tells nothing of the links that will come, and it never closes.
@@ -25,6 +31,8 @@ pub struct TcpDoor<'a> {
     listener: Option<&'a TcpListener>,
     faults: u64,
     out: u64,
+    unsent: u64,
+    last: Option<Closing<TcpStream>>,
 }
 
 impl<'a> TcpDoor<'a> {
@@ -33,13 +41,24 @@ impl<'a> TcpDoor<'a> {
     pub fn new(alloc: Global, listener: Option<&'a TcpListener>) -> TcpDoor<'a>
         ensures state { ⟦<TcpDoor<'a> as Door<TcpLink>>⟧.state result ≡ listener_state 0 0 }
         ensures listener { has_listener result ≡ is_some listener.entry }
+        ensures unsent { unsent_links result ≡ 0 }
     {
         TcpDoor {
             alloc,
             listener,
             faults: 0,
             out: 0,
+            unsent: 0,
+            last: None,
         }
+    }
+
+    /// How many links were taken back of which not all that was put could be sent, so that a client hasn't got
+    /// the whole reply.
+    pub fn unsent(&self) -> u64
+        ensures { result ≡ unsent_links self.now }
+    {
+        self.unsent
     }
 
     // Waits for a connection of which a link can be made.
@@ -62,11 +81,12 @@ impl<'a> TcpDoor<'a> {
     }
 }
 
-// Whether this error of an `accept` is of the connection that was to be accepted. The system has then taken
-// it off its queue, and may accept the next.
-fn is_of_one_connection(error: &io::Error) -> bool {
+// Whether an error of this kind is of the connection that was to be accepted.
+fn is_kind_of_one_connection(kind: ErrorKind) -> bool
+    ensures { result ≡ is_kind_of_one_connection kind }
+{
     matches!(
-        error.kind(),
+        kind,
         ErrorKind::Interrupted
             | ErrorKind::ConnectionAborted
             | ErrorKind::ConnectionReset
@@ -74,6 +94,24 @@ fn is_of_one_connection(error: &io::Error) -> bool {
             | ErrorKind::NetworkUnreachable
             | ErrorKind::NetworkDown
     )
+}
+
+// Whether an error of this number is of the connection that was to be accepted.
+fn is_number_of_one_connection(number: Option<i32>) -> bool
+    ensures { result ≡ is_number_of_one_connection number }
+{
+    match number {
+        Some(number) => ONE_CONNECTION_NUMBERS.contains(&number),
+        None => false,
+    }
+}
+
+// Whether this error of an `accept` is of the connection that was to be accepted. The system has then taken
+// it off its queue, and may accept the next.
+fn is_of_one_connection(error: &io::Error) -> bool
+    ensures { result ≡ is_of_one_connection error.now }
+{
+    is_kind_of_one_connection(error.kind()) || is_number_of_one_connection(error.raw_os_error())
 }
 
 impl<'a> Door<TcpLink> for TcpDoor<'a> {
@@ -85,6 +123,7 @@ impl<'a> Door<TcpLink> for TcpDoor<'a> {
         ensures open { result ≢ Next.Closed }
         ensures unbound { has_listener self.old ≡ false → result ≡ Next.Failed }
         ensures listener { has_listener self.new ≡ has_listener self.old }
+        ensures unsent { unsent_links self.new ≡ unsent_links self.old }
     {
         match self.accept() {
             Some(link) => {
@@ -98,14 +137,21 @@ impl<'a> Door<TcpLink> for TcpDoor<'a> {
         }
     }
 
-    /// Ends the connection, as `TcpLink::close` does.
+    /// Ends the connection, as `TcpLink::close` does. Where not all that was put could be sent, now or before,
+    /// it is counted.
     fn done(&mut self, link: TcpLink)
         requires { IsTrue (⟦<TcpDoor<'a> as Door<TcpLink>>⟧.state self.old).out }
         ensures taken { TakesBack (⟦<TcpDoor<'a> as Door<TcpLink>>⟧.state self.old) (⟦<TcpDoor<'a> as Door<TcpLink>>⟧.state self.new) link }
         ensures faults { (⟦<TcpDoor<'a> as Door<TcpLink>>⟧.state self.new).faults ≡ (⟦<TcpDoor<'a> as Door<TcpLink>>⟧.state self.old).faults }
         ensures listener { has_listener self.new ≡ has_listener self.old }
+        ensures out { links_out self.old ≡ links_out self.new + 1 }
+        ensures closed { Closes ⟦<StreamLink<TcpStream> as Endpoint>⟧.state (unsent_links self.old) (unsent_links self.new) link (last_closing self.new) }
     {
         self.out -= 1;
-        link.close();
+        let closing = link.close();
+        if !closing.sent {
+            self.unsent = self.unsent.saturating_add(1);
+        }
+        self.last = Some(closing);
     }
 }

@@ -25,5 +25,7 @@ pub use bodies::read_body;
 pub use body_fault::BodyFault;
 pub use fronts::{PUSH_FRONT, push_place};
 pub use laws::hold_laws;
-pub use records::{enter_record, look_record, permit_record, push_record};
+pub use records::{
+    enter_record, look_record, permit_record, push_record, write_enter, write_permit, write_push,
+};
 pub use request::{CallerRequest, Request};

@@ -18,14 +18,12 @@ use record_file::{RecordBuilder, RecordGroup};
 use ref_store::CommandList;
 use std::alloc::Global;
 
-// A record that has its caller, and the byte that says what was asked.
-fn begun(alloc: Global, caller: u64, kind: u8) -> Result<RecordBuilder, NoMemory>
-    ensures { IfOk result (λ builder. builder ≡ record { bodies = []; body = to_be_bytes w64 caller ++ kind ∷ [] }) }
+// Adds the caller, and the byte that says what was asked.
+fn begin(builder: &mut RecordBuilder, caller: u64, kind: u8) -> Result<(), NoMemory>
+    ensures { OnOk result (Adds builder.old builder.new (to_be_bytes w64 caller ++ kind ∷ [])) }
 {
-    let mut builder = RecordBuilder::new(alloc)?;
-    put_number(&mut builder, caller)?;
-    builder.push(kind)?;
-    Ok(builder)
+    put_number(builder, caller)?;
+    builder.push(kind)
 }
 
 fn want_byte(want: Want) -> u8
@@ -57,6 +55,24 @@ fn put_change(builder: &mut RecordBuilder, change: &PermChange) -> Result<(), No
     }
 }
 
+/// Writes an opening as the record that is being built, which may be one of a group.
+pub fn write_enter(
+    builder: &mut RecordBuilder,
+    caller: u64,
+    user: &UserName,
+    repo: &RepoName,
+    want: Want,
+) -> Result<(), NoMemory>
+    requires empty { builder.old.body ≡ [] }
+    ensures body { OnOk result (builder.new ≡ record { bodies = builder.old.bodies; body = body_of caller (Enter user.now repo.now want) }) }
+    ensures storable { OnOk result (IsStorable caller (Enter user.now repo.now want)) }
+{
+    begin(builder, caller, 1)?;
+    put_user(builder, user)?;
+    put_repo(builder, repo)?;
+    builder.push(want_byte(want))
+}
+
 /// The record of an opening.
 pub fn enter_record(
     alloc: Global,
@@ -68,14 +84,35 @@ pub fn enter_record(
     ensures body { IfOk result (λ group. group ≡ body_of caller (Enter user.now repo.now want) ∷ []) }
     ensures storable { IfOk result (λ group. IsStorable caller (Enter user.now repo.now want)) }
 {
-    let mut builder = begun(alloc, caller, 1)?;
-    put_user(&mut builder, user)?;
-    put_repo(&mut builder, repo)?;
-    builder.push(want_byte(want))?;
+    let mut builder = RecordBuilder::new(alloc)?;
+    write_enter(&mut builder, caller, user, repo, want)?;
     builder.finish()
 }
 
-/// The record of a push after the opening at a place. It costs the bytes of the pack's bodies.
+/// Writes a push after the opening at a place as the record that is being built, which may be one of a group.
+/// It costs the bytes of the pack's bodies.
+pub fn write_push(
+    builder: &mut RecordBuilder,
+    caller: u64,
+    place: u64,
+    pack: &ObjectList,
+    commands: &CommandList,
+    atomic: bool,
+) -> Result<(), NoMemory>
+    requires empty { builder.old.body ≡ [] }
+    requires within { AreWithinLimits commands.now }
+    requires fit { FitOnePack pack.now }
+    ensures body { OnOk result (builder.new ≡ record { bodies = builder.old.bodies; body = body_of caller (Push place pack.now commands.now atomic) }) }
+    ensures storable { OnOk result (IsStorable caller (Push place pack.now commands.now atomic)) }
+{
+    begin(builder, caller, 2)?;
+    put_number(builder, place)?;
+    builder.push(flag_byte(atomic))?;
+    put_commands(builder, commands)?;
+    put_pack(builder, pack)
+}
+
+/// The record of a push after the opening at a place.
 pub fn push_record(
     alloc: Global,
     caller: u64,
@@ -89,11 +126,8 @@ pub fn push_record(
     ensures body { IfOk result (λ group. group ≡ body_of caller (Push place pack.now commands.now atomic) ∷ []) }
     ensures storable { IfOk result (λ group. IsStorable caller (Push place pack.now commands.now atomic)) }
 {
-    let mut builder = begun(alloc, caller, 2)?;
-    put_number(&mut builder, place)?;
-    builder.push(flag_byte(atomic))?;
-    put_commands(&mut builder, commands)?;
-    put_pack(&mut builder, pack)?;
+    let mut builder = RecordBuilder::new(alloc)?;
+    write_push(&mut builder, caller, place, pack, commands, atomic)?;
     builder.finish()
 }
 
@@ -101,6 +135,25 @@ fn flag_byte(flag: bool) -> u8
     ensures { result ≡ flag_byte flag }
 {
     if flag { 1 } else { 0 }
+}
+
+/// Writes a change or a listing of roles as the record that is being built, which may be one of a group.
+pub fn write_permit(
+    builder: &mut RecordBuilder,
+    caller: u64,
+    user: &UserName,
+    repo: &RepoName,
+    change: &PermChange,
+) -> Result<(), NoMemory>
+    requires empty { builder.old.body ≡ [] }
+    requires short { HasShortRole change.now }
+    ensures body { OnOk result (builder.new ≡ record { bodies = builder.old.bodies; body = body_of caller (Permit user.now repo.now change.now) }) }
+    ensures storable { OnOk result (IsStorable caller (Permit user.now repo.now change.now)) }
+{
+    begin(builder, caller, 3)?;
+    put_user(builder, user)?;
+    put_repo(builder, repo)?;
+    put_change(builder, change)
 }
 
 /// The record of a change or a listing of roles.
@@ -115,10 +168,8 @@ pub fn permit_record(
     ensures body { IfOk result (λ group. group ≡ body_of caller (Permit user.now repo.now change.now) ∷ []) }
     ensures storable { IfOk result (λ group. IsStorable caller (Permit user.now repo.now change.now)) }
 {
-    let mut builder = begun(alloc, caller, 3)?;
-    put_user(&mut builder, user)?;
-    put_repo(&mut builder, repo)?;
-    put_change(&mut builder, change)?;
+    let mut builder = RecordBuilder::new(alloc)?;
+    write_permit(&mut builder, caller, user, repo, change)?;
     builder.finish()
 }
 
@@ -127,7 +178,8 @@ pub fn look_record(alloc: Global, caller: u64, user: &UserName) -> Result<Record
     ensures body { IfOk result (λ group. group ≡ body_of caller (Look user.now) ∷ []) }
     ensures storable { IfOk result (λ group. IsStorable caller (Look user.now)) }
 {
-    let mut builder = begun(alloc, caller, 4)?;
+    let mut builder = RecordBuilder::new(alloc)?;
+    begin(&mut builder, caller, 4)?;
     put_user(&mut builder, user)?;
     builder.finish()
 }

@@ -1,5 +1,5 @@
 -- `host`: workers at the hub of a journal on a disk, and how it ends.
-use Rattle.std.specs.Prelude.{◌≡◌, ◌⊎◌, ℕ, ◌+◌, ◌≤◌, Bool, true, false, IsTrue, List, [], length, take, Option, None, Some, Result, Ok, Err, slice_index_or}
+use Rattle.std.specs.Prelude.{◌≡◌, ◌⊎◌, ℕ, ◌+◌, ◌≤◌, Bool, true, false, IsTrue, List, [], length, take, drop, Option, None, Some, Result, Ok, Err, slice_index_or}
 use Rattle.std.specs.Io.KnownBytes.{Appends}
 use Rattle.base_types.specs.Counts.{HasRisen}
 use Rattle.pktline_core.specs.LinkState.{LinkState}
@@ -23,14 +23,14 @@ use Rattle.shell_program.specs.Status.{served_status}
 use Rattle.shell_program.specs.declared.script.ScriptFault.{ScriptFault}
 use Rattle.shell_program.specs.declared.status.Status.{Status}
 use Rattle.shell_program.specs.declared.status.Status.TheVariants.{NoMemory, DiskFault}
-use Rattle.stored_hub.specs.Stored.{HoldsLasting}
+use Rattle.stored_hub.specs.Stored.{ChangeNothing, HoldsLasting}
 
 -- a run
 -- modeled: whether the disk tells its bytes
 -- disk, disk': what it was, and what it is where it comes back
 -- sink, sink': the output
--- log, stored: the log, and how many of its events were answered; those of them that last are stored for
--- certain
+-- log, stored: the log, and how many of its events were answered; each of them that changed something is
+-- stored for certain
 -- status: how it ended
 pub record HostRun : Type 0 where
   pub modeled : Bool
@@ -53,22 +53,30 @@ pub record Opens (admin : Name) (modeled : Bool) (disk opened : DiskState) (befo
   pub stored : IsTrue modeled → IsStored admin before opened.file
   pub opening : IsTrue modeled → (bodies : List (List ℕ)) → Leaves (Holds (head_for admin) bodies) disk.file.pending → LeavesOnly (Holds (head_for admin) bodies) disk.file opened.file
 
--- From this moment on a crash at each moment leaves the lasting entries of a beginning of the log with at
--- least so many events; before it, at least those that were there at first. So what the first so many events
--- changed isn't lost.
+-- From this moment on a crash at each moment leaves the lasting entries of a beginning of the log, with each
+-- of the first so many events that changed something; before it, at least with those that were there at
+-- first. So what so many events changed isn't lost.
 pub record IsStoredSince (admin : Name) (log : List Entry) (first count : ℕ) (old new : FileState) : Type 0 where
   pub moment : FileState
   pub until : LeavesOnly (HoldsLasting admin first log first) old moment
   pub since : LeavesOnly (HoldsLasting admin first log count) moment new
 
--- The events were stored one by one, those that last: for each number of events there was a moment since
--- which what so many of them changed is stored. The file holds the lasting entries of the whole log, unless a
--- call of the disk failed; then perhaps its last event isn't stored.
+-- The file holds the lasting entries of a beginning of the log, behind which nothing changed, and nothing is
+-- pending.
+pub record StoresChanges (admin : Name) (first : ℕ) (log : List Entry) (file : FileState) : Type 0 where
+  pub count : ℕ
+  pub least : first ≤ count
+  pub there : count ≤ length log
+  pub unchanged : ChangeNothing (drop count log)
+  pub stored : IsStored admin (lasting first (take count log)) file
+
+-- For each number of events there was a moment since which what so many of them changed is stored. All that
+-- the log changed is, unless a call of the disk failed; then perhaps its last event isn't stored.
 pub record StoresEvents (admin : Name) (modeled : Bool) (old new : DiskState) (before log : List Entry) (stored : ℕ) : Type 0 where
   pub least : length before ≤ stored
   pub within : stored ≤ length log
   pub most : length log ≤ stored + 1
-  pub all : (HasRisen old.disk_faults new.disk_faults → ⊥) → (stored ≡ length log) × (IsTrue modeled → IsStored admin (lasting (length before) log) new.file)
+  pub all : (HasRisen old.disk_faults new.disk_faults → ⊥) → (stored ≡ length log) × (IsTrue modeled → StoresChanges admin (length before) log new.file)
   pub moments : IsTrue modeled → (count : ℕ) → length before ≤ count → count ≤ stored → IsStoredSince admin log (length before) count old.file new.file
 
 -- II. The end
@@ -118,8 +126,7 @@ module _ {L D G H : Type 0} (state : L → LinkState) (door : D → DoorState L)
     pub unasked : AsksNone
     pub no_log : run.log ≡ []
 
-  -- The posts were served at the hub, and the log goes on from the one of the journal. Whoever was answered
-  -- was answered by events of the log that are stored, or don't last.
+  -- The posts were served at the hub, and the log goes on from the one of the journal.
   pub record Hosts (opened : DiskState) (before : List Entry) : Type 0 where
     pub sessions : ℕ
     pub failed : Bool

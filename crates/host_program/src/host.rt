@@ -29,7 +29,7 @@ pub struct HostEnded<Y> {
     pub status: u8,
     /// The events that were answered, and at most one more, which wasn't.
     pub log: EntryList,
-    /// How many events of the log were answered. Those of them that last are stored for certain.
+    /// How many events of the log were answered. Each of them that changed something is stored for certain.
     pub stored: u64,
     /// None where there was no memory to share the hub.
     pub disk: Option<Y>,
@@ -130,10 +130,10 @@ fn end_refused<O: Sink, Y: Disk>(
 
 /// Serves the posts at the hub of this admin's journal, which is made where the disk's file is empty, each
 /// with a worker that serves so many links, and prints how many sessions there were and how many events the
-/// log has. An opening that made its repository, an opening for writing that was granted, a push of which a
-/// command is done, and a change of roles that is done are stored before they are answered. All other events
-/// change nothing, and aren't stored. A file that is no journal of this admin's hub is refused, and no door
-/// is asked.
+/// log has. An opening that made its repository, a push of which a command is done, and a change of roles that
+/// is done are stored before they are answered; granted openings for writing with the next of those. All
+/// other events change nothing, and aren't stored. A file that is no journal of this admin's hub is refused,
+/// and no door is asked.
 ///
 /// Where a call of the disk fails, each worker ends behind the session in which it is or its next one, which
 /// is answered as one for which there is no memory.

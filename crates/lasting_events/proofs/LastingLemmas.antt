@@ -164,7 +164,7 @@ pinned_again start before state (Looked user) = refl
 
 -- ---- entries that don't last
 
-passes_over : (event : Event) → lasts event ≡ false → ¬ MayChange event
+pub passes_over : (event : Event) → lasts event ≡ false → ¬ MayChange event
 passes_over (Entered user repo want answer) is = λ created. let clash : true ≡ false = ap (λ (a : EnterKept). opening_lasts a want) (sym created) ∙ is in absurd cc
 passes_over (Pushed place pack cs atomic os made) is = λ done. let clash : true ≡ false = sym (done_among os done.0 done.1) ∙ is in absurd cc
 passes_over (Permitted user repo asked answer) is = λ changes. let clash : true ≡ false = ap change_lasts (sym changes) ∙ is in absurd cc

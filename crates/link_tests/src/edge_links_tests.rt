@@ -251,9 +251,38 @@ fn a_tcp_door_gives_the_connections_of_its_listener(rt: HostRuntime) {
     assert_eq!(rt; serve_next(&mut door), b'l');
     let mut room = [0u8; 4];
     assert_eq!(rt; read_once(&rt, &mut client, &mut room), 0);
+    assert_eq!(rt; door.unsent(), 0);
     let mut unbound = TcpDoor::new(rt.alloc(), None);
     assert_eq!(rt; serve_next(&mut unbound), b'f');
     assert_eq!(rt; serve_next(&mut unbound), b'f');
+}
+
+// Serves the next link of a door, whose client then goes: what is sent first is answered by a reset, so that
+// what is left at the end can't be sent.
+fn serve_one_that_goes(rt: &impl Abort, door: &mut TcpDoor<'_>, client: TcpStream) {
+    match door.next() {
+        Next::Link(mut link) => {
+            drop(client);
+            write_to_none(rt, &mut link);
+            door.done(link);
+        }
+        Next::Closed | Next::Failed => panic!(rt; "no link"),
+    }
+}
+
+fn write_to_none(rt: &impl Abort, link: &mut TcpLink) {
+    let mut room = [0u8; 4];
+    assert!(rt; link.put(b"early") == Put::Took(5));
+    assert!(rt; link.take(&mut room) == Taken::End);
+    assert!(rt; link.put(b"late") == Put::Took(4));
+}
+
+#[test]
+fn a_tcp_door_counts_a_reply_that_could_not_be_sent(rt: HostRuntime) {
+    let (listener, client) = client_of(&rt).expect(&rt, "a client");
+    let mut door = TcpDoor::new(rt.alloc(), Some(&listener));
+    serve_one_that_goes(&rt, &mut door, client);
+    assert_eq!(rt; door.unsent(), 1);
 }
 
 // What is done on a disk with an empty file: four bytes are written and one more, one is cut off, and the

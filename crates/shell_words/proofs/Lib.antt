@@ -2,3 +2,4 @@ pub mod NumberLemmas
 mod CommandLemmas
 mod SpellingLemmas
 mod ReadingLemmas
+mod MatchLemmas

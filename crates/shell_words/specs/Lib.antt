@@ -3,3 +3,4 @@ pub mod Options
 pub mod Given
 pub mod Commands
 pub mod Spelling
+pub mod Matches

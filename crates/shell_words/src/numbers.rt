@@ -5,6 +5,18 @@ ghost use Rattle.shell_words.specs.Numbers.{number_in};
 use itoa::Buffer;
 use std::str;
 
+/// The greatest number of workers.
+pub(crate) const MAX_WORKERS: u64 = 8;
+
+/// The greatest number of sessions for each worker.
+pub(crate) const MAX_SESSIONS: u64 = 1_000_000;
+
+/// The greatest number of repositories that are loaded.
+pub(crate) const MAX_LOADED: u64 = 5_000;
+
+/// The greatest number at which a load starts.
+pub(crate) const LAST_START: u64 = 4_294_967_295;
+
 /// The number whose decimal digits the word is, as it would be printed, where it is one from `least` to
 /// `most`.
 pub(crate) fn number_in(least: u64, most: u64, word: &[u8]) -> Option<u64>

@@ -1,2 +1,3 @@
+pub mod WaitingLemmas
 pub mod StoredLemmas
 pub mod Crosses

@@ -1,6 +1,7 @@
-//! A hub of which the events that last are stored on a disk before they are answered, for callers that share
-//! it.
+//! A hub of which each event that changes something is stored on a disk before it is answered, for callers
+//! that share it.
 //!
+//! - `account`: what its file holds, and what waits to come into it;
 //! - `stored`: the hub, its disk, and its making;
 //! - `calls`: its calls;
 //! - `laws`: what holds of such hubs.
@@ -8,6 +9,7 @@
 //! `docs/JOURNAL.md` has the form of the file, and what a crash leaves of it.
 #![tactic(auto)]
 
+mod account;
 mod calls;
 mod laws;
 mod stored;

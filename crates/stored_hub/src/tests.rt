@@ -19,7 +19,7 @@ use wild_perms::PermsAnswer;
 const COMMIT: &[u8] =
     b"tree 4b825dc642cb6eb9a060e54bf8d69288fbee4904\nauthor Carol <carol@example.com> 1700000000 +0000\ncommitter Carol <carol@example.com> 1700000000 +0000\n\nfirst\n";
 
-// What came of three events that don't last, and two openings with a push each, of which the second is
+// What came of three events that aren't stored, and two openings with a push each, of which the second is
 // refused.
 #[derive(Drop)]
 struct Outcome {
@@ -145,37 +145,50 @@ fn run_calls(rt: &impl Abort, alloc: Global, failing: Vec<u64>) -> Outcome {
     }
 }
 
-// Opening makes six calls of the disk, and each of the three events that last four. No call is made for the
-// others, so a disk that would fail at the next one isn't asked.
+// Opening makes six calls of the disk, and a push that is done four, which store its opening too. No call is
+// made for the others, so a disk that would fail at the next one isn't asked.
 #[test]
-fn what_lasts_is_stored(rt: HostRuntime) {
+fn what_changes_is_stored(rt: HostRuntime) {
     let alloc = rt.alloc();
-    let failing = vec![in alloc; 18].expect(&rt, "memory for a number");
+    let failing = vec![in alloc; 10].expect(&rt, "memory for a number");
     let outcome = run_calls(&rt, alloc, failing);
     assert!(rt; outcome.answered == 7 && !outcome.stopped);
-    assert!(rt; outcome.stored == 7 && outcome.logged == 7 && outcome.found == 3);
+    assert!(rt; outcome.stored == 7 && outcome.logged == 7 && outcome.found == 2);
 }
 
-// The call that fails, how many events are answered, and how many are found.
+// The call that fails, and how many events are found: those of the push and its opening, or none.
 #[test]
 fn a_call_fails(rt: HostRuntime) {
     let alloc = rt.alloc();
-    for (number, answered, found) in [
-        (6, 3, 0),
-        (7, 3, 0),
-        (8, 3, 0),
-        (9, 3, 1),
-        (10, 4, 1),
-        (13, 4, 2),
-        (14, 5, 2),
-        (17, 5, 3),
-    ] {
+    for (number, found) in [(6, 0), (7, 0), (8, 0), (9, 2)] {
         let failing = vec![in alloc; number].expect(&rt, "memory for a number");
         let outcome = run_calls(&rt, alloc, failing);
-        assert!(rt; outcome.stopped && outcome.answered == answered);
-        assert!(rt;
-            outcome.stored == answered as u64 && outcome.logged == answered.saturating_add(1)
-        );
-        assert!(rt; outcome.found == found);
+        assert!(rt; outcome.stopped && outcome.answered == 4);
+        assert!(rt; outcome.stored == 4 && outcome.logged == 5 && outcome.found == found);
     }
+}
+
+// Where 64 openings wait, the next one is stored with them.
+#[test]
+fn many_openings(rt: HostRuntime) {
+    let alloc = rt.alloc();
+    let admin = user_name(&rt, alloc, "admin");
+    let disk = MemoryDisk::new(alloc, Vec::new(alloc), 10_000, Vec::new(alloc));
+    let mut disk = disk.expect(&rt, "memory for a disk");
+    let (hub, writer) = match recover(alloc, &mut disk, &admin) {
+        Ok(recovered) => recovered.into_parts(),
+        Err(_) => panic!(rt; "no journal"),
+    };
+    let mut hub = StoredHub::new(alloc, disk, hub, writer);
+    for _ in 0..66 {
+        assert!(rt; pin(&rt, alloc, &mut hub).is_some());
+    }
+    let StoredParts { stored, disk, .. } = hub.into_parts();
+    let left = disk.stopped(64, 255);
+    let mut left = left.expect(&rt, "memory for a disk");
+    let found = match recover(alloc, &mut left, &admin) {
+        Ok(recovered) => recovered.into_hub().log().len(),
+        Err(_) => panic!(rt; "no journal"),
+    };
+    assert!(rt; stored == 66 && found == 65);
 }
