@@ -133,6 +133,7 @@ def is_taken(program, words, folder):
 def main(program, lists="2000", seed="1"):
     draws, program, differ, taken = random.Random(int(seed)), os.path.abspath(program), 0, 0
     held = socket.socket()
+    held.setsockopt(socket.SOL_SOCKET, socket.SO_REUSEADDR, 1)
     try:
         held.bind(PORT)
         held.listen()
