@@ -1,3 +1,4 @@
 pub mod Perms
 pub mod Info
 pub mod Session
+pub mod Protocol

@@ -3,7 +3,8 @@
 //! - `buffer`: what sessions read their packets into;
 //! - `perms`: changes and listings of roles;
 //! - `info`: what there is to see;
-//! - `serving`: a session, by what its first packet asks for.
+//! - `serving`: a session, by what its first packet asks for;
+//! - `protocol`: sessions, as what a worker serves over its links.
 //!
 //! Pushes are of the crate `receive_pack`, fetches of `upload_pack`, and what they share of `session_core`.
 //! The rules are in `docs/SESSIONS.md`.
@@ -12,7 +13,9 @@
 mod buffer;
 mod info;
 mod perms;
+mod protocol;
 mod serving;
 
 pub use buffer::SessionBuffer;
+pub use protocol::GitSessions;
 pub use serving::session;

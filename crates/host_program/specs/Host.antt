@@ -15,6 +15,7 @@ use Rattle.hub_journal.specs.Events.{head_for}
 use Rattle.hub_journal.specs.Recovery.{AreEventsOf, IsNoJournal, ReportsFaults}
 use Rattle.hub_journal.specs.declared.open_fault.OpenFault.{OpenFault}
 use Rattle.lasting_events.specs.Lasting.{lasting}
+use Rattle.git_session.specs.Protocol as git
 use Rattle.session_workers.specs.declared.post.Post.{Post}
 use Rattle.session_workers.specs.ServesAll.{ServesAll}
 use Rattle.shell_program.specs.Keep.{EndsUnopened, IsStored}
@@ -131,7 +132,7 @@ module _ {L D G H : Type 0} (state : L → LinkState) (door : D → DoorState L)
     pub sessions : ℕ
     pub failed : Bool
     pub lacked : Bool
-    pub serves : ServesAll state door true (hub_of admin before) (hub_of admin (take run.stored run.log)) old new each sessions failed lacked
+    pub serves : ServesAll git.sessions state door true (hub_of admin before) (hub_of admin (take run.stored run.log)) old new each sessions failed lacked
     pub disk' : DiskState
     pub back : run.disk' ≡ Some disk'
     pub stores : StoresEvents admin run.modeled opened disk' before run.log run.stored

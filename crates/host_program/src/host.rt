@@ -10,6 +10,7 @@ ghost use Rattle.host_program.specs.Host.{EndsHost, Hosts, SharesNone, host_stat
 
 use conf_lex::UserName;
 use edge_links::Door;
+use git_session::GitSessions;
 use hub::EntryList;
 use hub_journal::{OpenFault, Recovered, recover};
 use pktline_core::{Link, Sink};
@@ -84,7 +85,7 @@ fn serve_open<
         sessions,
         door_failed,
         no_memory,
-    } = serve_all(rt, alloc, hub, posts, each);
+    } = serve_all::<L, D, G, R, StoredHub<Y>, GitSessions>(rt, alloc, hub, posts, each);
     let Some(hub) = hub else {
         return HostEnded {
             status: Status::NoMemory.number(),

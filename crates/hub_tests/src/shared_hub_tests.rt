@@ -6,7 +6,7 @@ ghost use Rattle.shared_hub.specs.Shared.{IsHubPass};
 mod caller;
 mod objects;
 
-use caller::{Act, Asks, Caller, Job, Told, job_of};
+use caller::{Act, Asks, Caller, FirstOutcome, Job, job_of};
 use git_object::ObjectId;
 use hub::{EnterKept, Entry, Event, Hub, UserName};
 use shared_hub::{EventHub, NoMemory, SharedHub, SharedPass};
@@ -40,7 +40,7 @@ fn at_once<'a, 'b, R: Threads + Wait + Sync, H: EventHub + Send>(
 }
 
 // What a caller leaves: its pass, and what its last push was told.
-type Left<H> = (SharedPass<H>, Told);
+type Left<H> = (SharedPass<H>, FirstOutcome);
 
 // What two callers do, step by step: in each both act at once, and the next begins when both have come to
 // their end.
@@ -74,7 +74,7 @@ fn two_callers<R: Threads + Wait + Sync>(
     hub: Hub,
     jobs: (&Job, &Job),
     steps: &[(Act, Act)],
-) -> Result<(Hub, Told, Told), NoMemory> {
+) -> Result<(Hub, FirstOutcome, FirstOutcome), NoMemory> {
     let (shared, mut first) = SharedHub::new(alloc, hub)?;
     let second = shared.split(alloc, &mut first)?;
     let (one, other) = in_steps(rt, alloc, &shared, (first, second), jobs, steps);
@@ -144,7 +144,7 @@ static ROWS: [Row; 3] = [
 ];
 
 // Whether two are told these numbers, in this order, and a stale one the other's new value.
-fn are(one: &Told, other: &Told, new: ObjectId, numbers: (u8, u8)) -> bool {
+fn are(one: &FirstOutcome, other: &FirstOutcome, new: ObjectId, numbers: (u8, u8)) -> bool {
     one.0 == numbers.0 && other.0 == numbers.1 && (other.0 != 11 || other.1 == new)
 }
 
@@ -177,7 +177,7 @@ fn steps_of(at_once: bool) -> &'static [(Act, Act)] {
 }
 
 // Whether two callers that push these values are told what their row says.
-fn are_told(told: (&Told, &Told), row: &Row, news: (ObjectId, ObjectId)) -> bool {
+fn are_told(told: (&FirstOutcome, &FirstOutcome), row: &Row, news: (ObjectId, ObjectId)) -> bool {
     let numbers = (row.3, row.4);
     are(told.0, told.1, news.0, numbers) || (row.2 && are(told.1, told.0, news.1, numbers))
 }

@@ -2,7 +2,7 @@
 use Rattle.std.proofs.Common.{◌≡◌, ℕ, zero, suc, ◌+◌, ◌<◌, ◌≤◌, Bool, true, false, ◌&&◌, List, [], ◌∷◌, ◌++◌, take, length, get_or, refl, sym, ◌∙◌, ap, arith, subst}
 use Rattle.std.specs.Prelude.{Option, Some, None, if◌then◌else◌, Result, Ok, Err, IfOk}
 use Rattle.base_types.specs.declared.no_memory.NoMemory.{NoMemory}
-use Rattle.push_judging.specs.declared.rows.Told.{Told}
+use Rattle.push_judging.specs.declared.rows.JudgedCommand.{JudgedCommand}
 use Rattle.std.specs.List.{AllZip}
 use Rattle.std.proofs.lemmas.List.{take_more}
 use Rattle.git_object.specs.Content.{Content}
@@ -104,7 +104,7 @@ last_row Row None row = Passes None row refl
 last_row Row (Some o) row = Counts o row
 
 -- what follows of a value follows of a result
-pub told_along : (r : Result Told NoMemory) (P Q : Told → Type 0) → ((t : Told) → P t → Q t) → IfOk r P → IfOk r Q
+pub told_along : (r : Result JudgedCommand NoMemory) (P Q : JudgedCommand → Type 0) → ((t : JudgedCommand) → P t → Q t) → IfOk r P → IfOk r Q
 told_along (Ok t) P Q follows p = follows t p
 told_along (Err e) P Q follows p = tt
 

@@ -15,7 +15,7 @@ ghost use Rattle.push_judging.specs.Counting.{Counts, TellsOfSeveral};
 ghost use Rattle.push_judging.specs.Judged.{AreFactsOf, IsJudgement, conf_of, confs_of};
 ghost use Rattle.push_judging.specs.Rows.{IsCheckOf, Tells};
 
-use crate::rows::{Told, by_command, by_conf, by_new_value, by_rules};
+use crate::rows::{JudgedCommand, by_command, by_conf, by_new_value, by_rules};
 use ancestry::{Closures, Facts, Findings, Known, Walks, closures_of};
 use base_types::{NameMap, NoMemory, Text};
 use git_object::{ObjectId, ObjectList};
@@ -131,11 +131,11 @@ pub fn judge(
     ensures { IfOk result (IsJudgement pin.now.pinned pack.now commands.now) }
 {
     let lens = Lens::new(alloc, pin.repo(), pack)?;
-    let AllTold {
+    let AllJudged {
         told,
         facts,
         findings,
-    } = tell_all(alloc, pin, &lens, pack, commands.as_slice())?;
+    } = judge_all(alloc, pin, &lens, pack, commands.as_slice())?;
     let pending = is_pending(&told.outcomes, atomic);
     let pack = prepared_pack(
         alloc,
@@ -157,19 +157,19 @@ pub fn judge(
 
 // What all commands are told, the facts of their changes, and what walks found out.
 #[derive(Drop)]
-struct AllTold {
+struct AllJudged {
     told: CommandOutcomes,
     facts: Vec<Facts>,
     findings: Findings,
 }
 
-fn tell_all(
+fn judge_all(
     alloc: Global,
     pin: &Pin,
     lens: &Lens,
     pack: &ObjectList,
     commands: &[Command],
-) -> Result<AllTold, NoMemory>
+) -> Result<AllJudged, NoMemory>
     requires { lens.now ≡ pin.now.pinned.repository.objects ++ pack.now }
     ensures outcomes { IfOk result (λ all. (ps : Patterns) → AreTrue ps → JudgesAll ps pin.now.pinned pack.now commands.now all.told.outcomes.items) }
     ensures confs { IfOk result (λ all. all.told.confs.items ≡ confs_of pin.now.pinned pack.now commands.now all.told.outcomes.items) }
@@ -180,16 +180,16 @@ fn tell_all(
     let known = known_with(alloc, pin, pack)?;
     let facts = facts_of_all(alloc, lens, &known, commands)?;
     let mut walks = Walks::knowing(alloc, lens, known);
-    let told = tell_each(alloc, pin, lens, pack, commands, &names, &facts, &mut walks)?;
+    let told = judge_each(alloc, pin, lens, pack, commands, &names, &facts, &mut walks)?;
     let findings = walks.into_findings()?;
-    Ok(AllTold {
+    Ok(AllJudged {
         told,
         facts,
         findings,
     })
 }
 
-fn tell_each(
+fn judge_each(
     alloc: Global,
     pin: &Pin,
     lens: &Lens,
@@ -221,7 +221,7 @@ fn tell_each(
         let command = &commands[k];
         let facts = &all_facts[k];
         let twice = is_named_twice(names, command);
-        let Told { outcome, conf } = tell(
+        let JudgedCommand { outcome, conf } = judge_command(
             alloc, pin, lens, pack, &mut check, walks, facts, twice, command,
         )?;
         outcomes.push(outcome)?;
@@ -231,7 +231,7 @@ fn tell_each(
 }
 
 // What one command is told.
-fn tell(
+fn judge_command(
     alloc: Global,
     pin: &Pin,
     lens: &Lens,
@@ -241,7 +241,7 @@ fn tell(
     facts: &Facts,
     twice: bool,
     command: &Command,
-) -> Result<Told, NoMemory>
+) -> Result<JudgedCommand, NoMemory>
     requires lens { lens.now ≡ pin.now.pinned.repository.objects ++ pack.now }
     requires walks { walks.old ≡ lens.now }
     requires check { IsCheckOf (pinned_in_force pin.now.pinned) pin.now.pinned check.old }
@@ -253,13 +253,13 @@ fn tell(
     ensures check { check.new ≡ check.old }
 {
     if let Some(outcome) = by_command(pin, twice, command) {
-        return Ok(Told::refused(outcome));
+        return Ok(JudgedCommand::refused(outcome));
     }
     if let Some(outcome) = by_new_value(walks, command)? {
-        return Ok(Told::refused(outcome));
+        return Ok(JudgedCommand::refused(outcome));
     }
     if let Some(outcome) = by_rules(alloc, check, facts, command)? {
-        return Ok(Told::refused(outcome));
+        return Ok(JudgedCommand::refused(outcome));
     }
     by_conf(alloc, pin, lens, pack, command)
 }

@@ -6,7 +6,7 @@ ghost use Rattle.push_judging.specs.Judged.{AreTold, IsJudgement, conf_kept};
 ghost use Rattle.push_judging.specs.Rows.{IsCheckOf, TellsNow};
 
 use crate::judging::{CommandOutcomes, Judged};
-use crate::rows::{Told, by_rules_now};
+use crate::rows::{JudgedCommand, by_rules_now};
 use ancestry::Facts;
 use base_types::NoMemory;
 use git_object::ObjectList;
@@ -43,7 +43,7 @@ impl Judged {
             self.lens(),
         );
         let commands = request.commands.as_slice();
-        tell_each_now(
+        judge_each_again(
             alloc,
             pin,
             &request.pack,
@@ -57,7 +57,7 @@ impl Judged {
 }
 
 // What each command is told.
-fn tell_each_now(
+fn judge_each_again(
     alloc: Global,
     pin: &Pin,
     pack: &ObjectList,
@@ -81,7 +81,7 @@ fn tell_each_now(
     let mut confs = Vec::with_capacity(alloc, commands.len())?;
     for k in 0..commands.len() {
         let command = &commands[k];
-        let Told { outcome, conf } = tell_now(
+        let JudgedCommand { outcome, conf } = judge_command_again(
             alloc,
             check,
             &all_facts[k],
@@ -96,26 +96,26 @@ fn tell_each_now(
 }
 
 // What one command is told, of which the opening said this, and which would have put this conf in force.
-fn tell_now(
+fn judge_command_again(
     alloc: Global,
     check: &mut UpdateCheck<'_>,
     facts: &Facts,
     command: &Command,
     said: &Option<Outcome>,
     puts: &Option<ConfInForce>,
-) -> Result<Told, NoMemory>
+) -> Result<JudgedCommand, NoMemory>
     requires { AreFacts check.old.objects command.now.name command.now.old command.now.new facts.now }
     ensures check { check.new ≡ check.old }
     ensures said { IfOk result (λ told. (ps : Patterns) → AreTrue ps → TellsNow ps check.old check.old.objects command.now said.now told.outcome) }
     ensures conf { IfOk result (λ told. told.conf ≡ conf_kept puts.now told.outcome) }
 {
     if let Some(outcome) = said {
-        return Ok(Told::refused(outcome.clone()?));
+        return Ok(JudgedCommand::refused(outcome.clone()?));
     }
     if let Some(outcome) = by_rules_now(alloc, check, facts, command)? {
-        return Ok(Told::refused(outcome));
+        return Ok(JudgedCommand::refused(outcome));
     }
-    Ok(Told::free(conf_copy(puts)?))
+    Ok(JudgedCommand::free(conf_copy(puts)?))
 }
 
 fn conf_copy(conf: &Option<ConfInForce>) -> Result<Option<ConfInForce>, NoMemory>

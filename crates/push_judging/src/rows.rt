@@ -28,31 +28,31 @@ const CONF_BRANCH: &[u8] = b"refs/heads/master";
 /// What one command is told before the refs are asked, if anything, and the conf that it would put in force,
 /// if it would.
 #[derive(Drop)]
-pub struct Told {
+pub struct JudgedCommand {
     pub outcome: Option<Outcome>,
     pub conf: Option<ConfInForce>,
 }
 
-impl Told {
-    fn nothing() -> Told
+impl JudgedCommand {
+    fn nothing() -> JudgedCommand
         ensures { result ≡ record { outcome = None; conf = None } }
     {
-        Told::free(None)
+        JudgedCommand::free(None)
     }
 
-    pub fn free(conf: Option<ConfInForce>) -> Told
+    pub fn free(conf: Option<ConfInForce>) -> JudgedCommand
         ensures { result ≡ record { outcome = None; conf = conf } }
     {
-        Told {
+        JudgedCommand {
             outcome: None,
             conf,
         }
     }
 
-    pub fn refused(outcome: Outcome) -> Told
+    pub fn refused(outcome: Outcome) -> JudgedCommand
         ensures { result ≡ record { outcome = Some outcome; conf = None } }
     {
-        Told {
+        JudgedCommand {
             outcome: Some(outcome),
             conf: None,
         }
@@ -190,13 +190,13 @@ pub fn by_conf(
     lens: &Lens,
     pack: &ObjectList,
     command: &Command,
-) -> Result<Told, NoMemory>
+) -> Result<JudgedCommand, NoMemory>
     requires { lens.now ≡ pin.now.pinned.repository.objects ++ pack.now }
     ensures said { IfOk result (λ told. (ps : Patterns) → AreTrue ps → ByConf ps pin.now.pinned lens.now command.now told.outcome) }
     ensures conf { IfOk result (λ told. told.conf ≡ conf_of pin.now.pinned pack.now command.now told.outcome) }
 {
     if !is_of_conf(pin.repo_name(), command) {
-        return Ok(Told::nothing());
+        return Ok(JudgedCommand::nothing());
     }
     match compile_at(alloc, lens, command.new) {
         Ok(policy) => renewed(alloc, pin, pack, command, policy),
@@ -211,27 +211,27 @@ fn renewed(
     pack: &ObjectList,
     command: &Command,
     policy: Policy,
-) -> Result<Told, NoMemory>
+) -> Result<JudgedCommand, NoMemory>
     requires { (ps : Patterns) → AreTrue ps → ComesTo ps (pin.now.pinned.repository.objects ++ pack.now) command.now.new (Ok policy) }
     ensures { IfOk result (λ told. told ≡ record { outcome = None; conf = Some (conf_at pin.now.pinned pack.now command.now) }) }
 {
     let objects = Lens::new(alloc, pin.repo(), pack)?;
     let conf = pin.conf().renewed(alloc, objects, command.new, policy)?;
-    Ok(Told {
+    Ok(JudgedCommand {
         outcome: None,
         conf: Some(conf),
     })
 }
 
 // A conf that has a fault, unless memory ran out.
-fn refused_by(fault: PolicyFault) -> Result<Told, NoMemory>
+fn refused_by(fault: PolicyFault) -> Result<JudgedCommand, NoMemory>
     ensures ok { IfOk result (λ told. told ≡ record { outcome = Some (outcome.ConfRefused fault); conf = None }) }
     ensures memory { OnOk result (is_no_memory fault ≡ false) }
 {
     if is_no_memory(&fault) {
         return Err(NoMemory);
     }
-    Ok(Told::refused(Outcome::ConfRefused(fault)))
+    Ok(JudgedCommand::refused(Outcome::ConfRefused(fault)))
 }
 
 fn is_no_memory(fault: &PolicyFault) -> bool

@@ -1,5 +1,6 @@
 mod FirstLemmas
 mod ShortLemmas
+pub mod HaltLemmas
 pub mod LinkLemmas
 pub mod StepLemmas
 pub mod LineLemmas

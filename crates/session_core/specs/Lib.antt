@@ -9,3 +9,4 @@ pub mod Recorded
 pub mod Opening
 pub mod Gate
 pub mod Parts
+pub mod Protocol

@@ -7,6 +7,7 @@
 //! - `denials`: the texts of denials;
 //! - `opening`: an opening;
 //! - `gate`: what stands between an opening and what follows;
+//! - `protocol`: what a worker serves over a link;
 //! - `laws`: what holds of the rules by which a session is told its denials.
 //!
 //! The rules are in `docs/SESSIONS.md`.
@@ -21,6 +22,7 @@ mod laws;
 mod lines;
 mod opening;
 mod packets;
+mod protocol;
 
 pub use asking::ask;
 pub use denials::{fitting, push_denial, shown};
@@ -31,3 +33,4 @@ pub use laws::hold_laws;
 pub use lines::without_feed;
 pub use opening::enter;
 pub use packets::{end_by, malformed, refuse, say, say_flush};
+pub use protocol::Protocol;

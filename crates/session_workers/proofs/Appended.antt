@@ -9,11 +9,9 @@ use Rattle.hub_history.specs.declared.entry.Entry.{Entry}
 use Rattle.ref_store.specs.Refs.{Name}
 use Rattle.hub.specs.Desk.{IsOfAnother, entries_of}
 use Rattle.interaction_tree.specs.Requests.{OwnEntry}
-use Rattle.interaction_tree.specs.Endings.{TakesTurn}
 use Rattle.interaction_tree.proofs.DeskLemmas.{others_not_own}
-use Rattle.session_core.specs.End.{halt_of}
+use Rattle.session_core.specs.Protocol.{Meaning}
 use Rattle.session_core.proofs.RulebookLemmas.{rulebook_front}
-use Rattle.git_session.specs.Session.{session}
 use Rattle.session_workers.specs.Served.{IsSession, Served, ServedLatest, ServedLink}
 
 -- no entry of others bears the number
@@ -32,37 +30,37 @@ entries_appended caller start log more within others =
     ∙ ap (λ (l : List Entry). entries_of caller start log ++ l) (none_bear caller more others)
     ∙ append-nil (entries_of caller start log)
 
-module _ (admin : Name) (caller start : ℕ) where
-  session_appended : (place : ℕ) (log more : List Entry) (one : ServedLink) → place ≤ length log → AllByRecursion (IsOfAnother caller) more → IsSession admin caller place log one → IsSession admin caller place (log ++ more) one
+module _ {E : Type 0} (protocol : Meaning E) (admin : Name) (caller start : ℕ) where
+  session_appended : (place : ℕ) (log more : List Entry) (one : ServedLink E) → place ≤ length log → AllByRecursion (IsOfAnother caller) more → IsSession protocol admin caller place log one → IsSession protocol admin caller place (log ++ more) one
   session_appended place log more one within others s = record {
-    turn = λ book is. subst (λ (own : List OwnEntry). TakesTurn one.given one.back own (session book admin) (halt_of one.end)) (sym (others_not_own caller place log more within others)) (s.turn book (rulebook_front admin log more book is));
+    turn = λ book is. subst (λ (own : List OwnEntry). protocol.takes book admin one.given one.back own one.end) (sym (others_not_own caller place log more within others)) (s.turn book (rulebook_front admin log more book is));
     cause = s.cause;
     tells = s.tells;
     sure = s.sure;
   }
 
-  latest_appended : (log more : List Entry) (links : List ServedLink) → start ≤ length log → AllByRecursion (IsOfAnother caller) more → ServedLatest admin caller start log links → ServedLatest admin caller start (log ++ more) links
+  latest_appended : (log more : List Entry) (links : List (ServedLink E)) → start ≤ length log → AllByRecursion (IsOfAnother caller) more → ServedLatest protocol admin caller start log links → ServedLatest protocol admin caller start (log ++ more) links
   latest_appended log more [] within others served = entries_appended caller start log more within others ∙ served
   latest_appended log more (one ∷ earlier) within others served = (
     served.0,
     served.1,
     (let len = length-append log more in let le = served.2 in omega (arith, len, le)),
-    subst (λ (l : List Entry). ServedLatest admin caller start l earlier) (sym (take-append-le served.0 log more served.2)) served.3,
+    subst (λ (l : List Entry). ServedLatest protocol admin caller start l earlier) (sym (take-append-le served.0 log more served.2)) served.3,
     session_appended served.0 log more one served.2 others served.4,
   )
 
   -- appended entries of others don't change it
-  pub served_appended : (log more : List Entry) (links : List ServedLink) → start ≤ length log → AllByRecursion (IsOfAnother caller) more → Served admin caller start log links → Served admin caller start (log ++ more) links
+  pub served_appended : (log more : List Entry) (links : List (ServedLink E)) → start ≤ length log → AllByRecursion (IsOfAnother caller) more → Served protocol admin caller start log links → Served protocol admin caller start (log ++ more) links
   served_appended log more links within others served = latest_appended log more (reverse links) within others served
 
   -- one session more, from the end of the log before it on
-  pub served_more : (before more : List Entry) (links : List ServedLink) (one : ServedLink) → start ≤ length before → Served admin caller start before links → IsSession admin caller (length before) (before ++ more) one
-      → Served admin caller start (before ++ more) (links ++ one ∷ [])
+  pub served_more : (before more : List Entry) (links : List (ServedLink E)) (one : ServedLink E) → start ≤ length before → Served protocol admin caller start before links → IsSession protocol admin caller (length before) (before ++ more) one
+      → Served protocol admin caller start (before ++ more) (links ++ one ∷ [])
   served_more before more links one within served s =
-      subst (λ (l : List ServedLink). ServedLatest admin caller start (before ++ more) l) (sym (reverse-append links (one ∷ []))) (
+      subst (λ (l : List (ServedLink E)). ServedLatest protocol admin caller start (before ++ more) l) (sym (reverse-append links (one ∷ []))) (
         length before,
         within,
         (let len = length-append before more in omega (arith, len)),
-        subst (λ (l : List Entry). ServedLatest admin caller start l (reverse links)) (sym (take-append_seam before more)) served,
+        subst (λ (l : List Entry). ServedLatest protocol admin caller start l (reverse links)) (sym (take-append_seam before more)) served,
         s,
       )

@@ -10,7 +10,7 @@ use Rattle.hub_history.specs.declared.entry.Entry.{Entry}
 use Rattle.ref_store.specs.Refs.{Name}
 use Rattle.hub.specs.Desk.{DeskView, entries_of}
 use Rattle.edge_links.specs.Door.{DoorState}
-use Rattle.session_core.specs.declared.end.SessionEnd.{SessionEnd}
+use Rattle.session_core.specs.Protocol.{Meaning}
 use Rattle.shared_hub.specs.declared.kept.KeptEntry.{KeptEntry}
 use Rattle.shared_hub.specs.Kept.{admin_in, log_in}
 use Rattle.shared_hub.specs.Desk.{desk_of}
@@ -19,7 +19,7 @@ use Rattle.shared_hub.proofs.ListLemmas.{log_in-append}
 use Rattle.session_workers.specs.declared.worker.NextServed.TheVariants as next
 use Rattle.session_workers.specs.declared.worker.Tally.{Tally}
 use Rattle.session_workers.specs.Served.{IsSession, Served}
-use Rattle.session_workers.specs.Visits.{GainsBack, HasDone, HasServed, HasWorked, LosesFront, ServesLink, ServesNext, ServesNone, Visit, back_of, have_lacked, is_lack, link_of, served_link}
+use Rattle.session_workers.specs.Visits.{GainsBack, HasDone, HasServed, HasWorked, LosesFront, ServesLink, ServesNext, ServesNone, Visit, back_of, have_lacked, link_of, served_link}
 use Rattle.session_workers.proofs.Appended.{served_more}
 use Rattle.session_workers.proofs.DoorLemmas.{loses_none, gains_none, loses_more, gains_more, keeps_front, keeps_back}
 
@@ -56,15 +56,15 @@ or_false true = refl
 or_false false = refl
 
 -- what was served so far, and how it was counted
-pub record SoFar {L : Type 0} (state : L → LinkState) (admin : Name) (caller start : ℕ) (log : List Entry) (old new : DoorState L) (count : ℕ) (lacked : Bool) : Type 0 where
-  pub visits : List (Visit L)
-  pub served : HasServed state admin caller start log old new visits
+pub record SoFar {L E : Type 0} (protocol : Meaning E) (state : L → LinkState) (admin : Name) (caller start : ℕ) (log : List Entry) (old new : DoorState L) (count : ℕ) (lacked : Bool) : Type 0 where
+  pub visits : List (Visit L E)
+  pub served : HasServed protocol state admin caller start log old new visits
   pub counted : count ≡ length visits
-  pub lacked_is : lacked ≡ have_lacked visits
+  pub lacked_is : lacked ≡ have_lacked protocol visits
 
-module _ {L : Type 0} (state : L → LinkState) where
+module _ {L E : Type 0} (protocol : Meaning E) (state : L → LinkState) where
   -- nothing served yet
-  pub none_served : (admin : Name) (caller start : ℕ) (log : List Entry) (door : DoorState L) → entries_of caller start log ≡ [] → SoFar state admin caller start log door door 0 false
+  pub none_served : (admin : Name) (caller start : ℕ) (log : List Entry) (door : DoorState L) → entries_of caller start log ≡ [] → SoFar protocol state admin caller start log door door 0 false
   none_served admin caller start log door none = record {
     visits = [];
     served = record { given = loses_none door.left; back = gains_none door.served; served = none; faults = omega arith };
@@ -72,43 +72,43 @@ module _ {L : Type 0} (state : L → LinkState) where
     lacked_is = refl;
   }
 
-  one_more : (admin : Name) (caller start : ℕ) (desk desk' : DeskView) (old mid new : DoorState L) (count : ℕ) (lacked : Bool) (end : SessionEnd)
+  one_more : (admin : Name) (caller start : ℕ) (desk desk' : DeskView) (old mid new : DoorState L) (count : ℕ) (lacked : Bool) (end : E)
       → desk.admin ≡ admin → desk.caller ≡ caller → start ≤ length desk.seen
-      → SoFar state admin caller start desk.seen old mid count lacked
-      → ServesNext state mid new desk desk' (next.Served end)
-      → SoFar state admin caller start desk'.seen old new (count + 1) (lacked || is_lack end)
+      → SoFar protocol state admin caller start desk.seen old mid count lacked
+      → ServesNext protocol state mid new desk desk' (next.Served end)
+      → SoFar protocol state admin caller start desk'.seen old new (count + 1) (lacked || protocol.lacks end)
   one_more admin caller start desk desk' old mid new count lacked end admin_is caller_is within so_far one =
       let visits = so_far.visits in
-      let visit : Visit L = one.0 in
-      let serves : ServesLink state mid new desk desk' visit = one.2 in
+      let visit : Visit L E = one.0 in
+      let serves : ServesLink protocol state mid new desk desk' visit = one.2 in
       let before = so_far.served in
-      let is_session : IsSession admin caller (length desk.seen) (desk.seen ++ serves.more) (served_link state visit) =
-      subst (λ l. IsSession admin caller (length desk.seen) l (served_link state visit)) serves.seen
-      (subst (λ a. IsSession a caller (length desk.seen) desk'.seen (served_link state visit)) admin_is
-      (subst (λ n. IsSession desk.admin n (length desk.seen) desk'.seen (served_link state visit)) caller_is serves.session)) in
-      let served : Served admin caller start (desk.seen ++ serves.more) (map (served_link state) visits ++ served_link state visit ∷ []) =
-      served_more admin caller start desk.seen serves.more (map (served_link state) visits) (served_link state visit) within before.served is_session in
-      let last : List (Visit L) = visit ∷ [] in
+      let is_session : IsSession protocol admin caller (length desk.seen) (desk.seen ++ serves.more) (served_link state visit) =
+      subst (λ l. IsSession protocol admin caller (length desk.seen) l (served_link state visit)) serves.seen
+      (subst (λ a. IsSession protocol a caller (length desk.seen) desk'.seen (served_link state visit)) admin_is
+      (subst (λ n. IsSession protocol desk.admin n (length desk.seen) desk'.seen (served_link state visit)) caller_is serves.session)) in
+      let served : Served protocol admin caller start (desk.seen ++ serves.more) (map (served_link state) visits ++ served_link state visit ∷ []) =
+      served_more protocol admin caller start desk.seen serves.more (map (served_link state) visits) (served_link state visit) within before.served is_session in
+      let last : List (Visit L E) = visit ∷ [] in
       record {
         visits = visits ++ last;
         served = record {
           given = subst (λ l. LosesFront old.left new.left l) (sym (map-append link_of visits last)) (loses_more old.left mid.left new.left (map link_of visits) (visit.link ∷ []) before.given serves.given);
           back = subst (λ l. GainsBack old.served new.served l) (sym (map-append back_of visits last)) (gains_more old.served mid.served new.served (map back_of visits) (visit.back ∷ []) before.back serves.back);
           served =
-              subst (λ l. Served admin caller start desk'.seen l) (sym (map-append (served_link state) visits last))
-              (subst (λ l. Served admin caller start l (map (served_link state) visits ++ served_link state visit ∷ [])) (sym serves.seen) served);
+              subst (λ l. Served protocol admin caller start desk'.seen l) (sym (map-append (served_link state) visits last))
+              (subst (λ l. Served protocol admin caller start l (map (served_link state) visits ++ served_link state visit ∷ [])) (sym serves.seen) served);
           faults = omega (arith, before.faults, serves.faults);
         };
         counted = ap (λ k. k + 1) so_far.counted ∙ sym (length-append visits last);
         lacked_is =
-            ap (λ b. b || is_lack end) so_far.lacked_is
-            ∙ ap (λ b. have_lacked visits || b) (ap is_lack (sym one.1) ∙ sym (or_false (is_lack visit.end)))
-            ∙ sym (list_any-append (λ (v : Visit L). is_lack v.end) visits last);
+            ap (λ b. b || protocol.lacks end) so_far.lacked_is
+            ∙ ap (λ b. have_lacked protocol visits || b) (ap protocol.lacks (sym one.1) ∙ sym (or_false (protocol.lacks visit.end)))
+            ∙ sym (list_any-append (λ (v : Visit L E). protocol.lacks v.end) visits last);
       }
 
   -- no further link
   pub none_more : (admin : Name) (caller start : ℕ) (log : List Entry) (old mid new : DoorState L) (count : ℕ) (lacked : Bool) (desk desk' : DeskView)
-      → SoFar state admin caller start log old mid count lacked → ServesNone mid new desk desk' → SoFar state admin caller start log old new count lacked
+      → SoFar protocol state admin caller start log old mid count lacked → ServesNone mid new desk desk' → SoFar protocol state admin caller start log old new count lacked
   none_more admin caller start log old mid new count lacked desk desk' so_far none = record {
     visits = so_far.visits;
     served = record {
@@ -123,8 +123,8 @@ module _ {L : Type 0} (state : L → LinkState) where
 
   -- what a worker did, with its tally
   pub worked : (may_stop : Bool) (admin : Name) (caller start : ℕ) (log : List Entry) (each : ℕ) (old new : DoorState L) (tally : Tally)
-      → SoFar state admin caller start log old new tally.sessions tally.no_memory → HasDone (may_stop && tally.no_memory) old new each tally.sessions tally.door_failed → tally.sessions ≤ each
-      → HasWorked state may_stop admin caller start log each old new tally
+      → SoFar protocol state admin caller start log old new tally.sessions tally.no_memory → HasDone (may_stop && tally.no_memory) old new each tally.sessions tally.door_failed → tally.sessions ≤ each
+      → HasWorked protocol state may_stop admin caller start log each old new tally
   worked may_stop admin caller start log each old new tally so_far done most = record {
     visits = so_far.visits;
     served = so_far.served;
@@ -134,10 +134,10 @@ module _ {L : Type 0} (state : L → LinkState) where
   }
 
   -- one session more, of the pass with which the work began
-  pub one_served : {H : Type 0} (began p q : PassState (KeptEntry H)) (old mid new : DoorState L) (count : ℕ) (lacked : Bool) (end : SessionEnd) → IsSamePass began p
-      → SoFar state (admin_in began.at_new) began.caller (start_of began) (log_seen p) old mid count lacked
-      → ServesNext state mid new (desk_of p) (desk_of q) (next.Served end)
-      → SoFar state (admin_in began.at_new) began.caller (start_of began) (log_seen q) old new (count + 1) (lacked || is_lack end)
+  pub one_served : {H : Type 0} (began p q : PassState (KeptEntry H)) (old mid new : DoorState L) (count : ℕ) (lacked : Bool) (end : E) → IsSamePass began p
+      → SoFar protocol state (admin_in began.at_new) began.caller (start_of began) (log_seen p) old mid count lacked
+      → ServesNext protocol state mid new (desk_of p) (desk_of q) (next.Served end)
+      → SoFar protocol state (admin_in began.at_new) began.caller (start_of began) (log_seen q) old new (count + 1) (lacked || protocol.lacks end)
   one_served {H} began p q old mid new count lacked end same so_far one =
       one_more (admin_in began.at_new) began.caller (start_of began) (desk_of p) (desk_of q) old mid new count lacked end
       (ap admin_in same.at_new) same.caller (subst (λ (l : List (KeptEntry H)). length (log_in l) ≤ length (log_seen p)) same.at_new (starts_within p)) so_far one

@@ -10,6 +10,7 @@ use Rattle.edge_links.specs.Door.{DoorState}
 use Rattle.shared_hub.specs.declared.kept.KeptEntry.{KeptEntry}
 use Rattle.shared_hub.specs.Kept.{admin_in}
 use Rattle.shared_hub.specs.Shared.{IsHubPass, log_at_new, log_seen}
+use Rattle.session_core.specs.Protocol.{Meaning}
 use Rattle.session_workers.specs.declared.post.Post.{Post}
 use Rattle.session_workers.specs.Visits.{HasWorked}
 
@@ -28,14 +29,14 @@ abbrev pub MayWork : {D G H : Type 0} → TableId → Post D G H → Type 0
 MayWork lock post = HoldsFresh lock post.pass
 
 -- what the worker of a post did with the post's pass and at its door
-pub record HasWorkedAt {L D G H : Type 0} (state : L → LinkState) (door : D → DoorState L) (may_stop : Bool) (each : ℕ) (old new : Post D G H) : Type 0 where
+pub record HasWorkedAt {L D G H E : Type 0} (protocol : Meaning E) (state : L → LinkState) (door : D → DoorState L) (may_stop : Bool) (each : ℕ) (old new : Post D G H) : Type 0 where
   pub began : PassState (KeptEntry H)
   pub ended : PassState (KeptEntry H)
   pub had : old.pass ≡ Some began
   pub has : new.pass ≡ Some ended
   pub same_pass : IsSamePass began ended
   pub hub : IsHubPass ended
-  pub worked : HasWorked state may_stop (admin_in began.at_new) began.caller (length (log_at_new began)) (log_seen ended) each (door old.door) (door new.door) new.tally
+  pub worked : HasWorked protocol state may_stop (admin_in began.at_new) began.caller (length (log_at_new began)) (log_seen ended) each (door old.door) (door new.door) new.tally
 
 -- the pass of a place as it is handed out, where so many were made
 abbrev pub pass_at : {H : Type 0} → TableId → List (KeptEntry H) → ℕ → ℕ → PassState (KeptEntry H)

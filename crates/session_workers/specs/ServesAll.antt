@@ -7,39 +7,40 @@ use Rattle.hub_history.specs.declared.entry.Entry.{Entry}
 use Rattle.hub_history.specs.History.{IsLegal}
 use Rattle.ref_store.specs.Refs.{Name}
 use Rattle.hub.specs.Hub.{HubView}
+use Rattle.session_core.specs.Protocol.{Meaning}
 use Rattle.session_workers.specs.declared.post.Post.{Post}
 use Rattle.session_workers.specs.Visits.{HasDone, HasServed, Visit, have_lacked}
 
 -- visits: a post's links, in the order in which they were served
 -- failed: whether its door failed
-pub record PostTally (L : Type 0) : Type 0 where
-  pub visits : List (Visit L)
+pub record PostTally (L E : Type 0) : Type 0 where
+  pub visits : List (Visit L E)
   pub failed : Bool
 
-abbrev pub count_of : {L : Type 0} → PostTally L → ℕ
+abbrev pub count_of : {L E : Type 0} → PostTally L E → ℕ
 count_of did = length did.visits
 
 -- A post's links were given, served and given back, and the entries of its place past the start are those of
 -- their sessions. Then it had served as many as it should, or its door was closed, or failed, or a hub that
 -- may stop may have done so, which leaves a session out of memory.
-pub record PostServed {L : Type 0} (state : L → LinkState) (may_stop : Bool) (admin : Name) (place start : ℕ) (log : List Entry) (each : ℕ) (old new : DoorState L) (did : PostTally L) : Type 0 where
-  pub served : HasServed state admin place start log old new did.visits
-  pub done : HasDone (may_stop && have_lacked did.visits) old new each (count_of did) did.failed
+pub record PostServed {L E : Type 0} (protocol : Meaning E) (state : L → LinkState) (may_stop : Bool) (admin : Name) (place start : ℕ) (log : List Entry) (each : ℕ) (old new : DoorState L) (did : PostTally L E) : Type 0 where
+  pub served : HasServed protocol state admin place start log old new did.visits
+  pub done : HasDone (may_stop && have_lacked protocol did.visits) old new each (count_of did) did.failed
   pub most : count_of did ≤ each
 
 -- The hub that comes back goes on from the one that was handed in, by entries that bear places of posts, and
 -- is legal; and each post was served, over the log of the hub that comes back.
-pub record ServesAll {L D G H : Type 0} (state : L → LinkState) (door : D → DoorState L) (may_stop : Bool) (hub after : HubView) (old new : List (Post D G H)) (each sessions : ℕ) (door_failed no_memory : Bool) : Type 0 where
+pub record ServesAll {L D G H E : Type 0} (protocol : Meaning E) (state : L → LinkState) (door : D → DoorState L) (may_stop : Bool) (hub after : HubView) (old new : List (Post D G H)) (each sessions : ℕ) (door_failed no_memory : Bool) : Type 0 where
   pub admin : after.admin ≡ hub.admin
   pub legal : IsLegal after.admin after.log
   pub since : List Entry
   pub begins : hub.log ++ since ≡ after.log
   pub places : All (λ (e : Entry). e.caller < length old) since
   -- what each post did
-  pub did : List (PostTally L)
+  pub did : List (PostTally L E)
   pub each_did : length did ≡ length old
-  pub posts : (k : ℕ) (d : Post D G H) (c : PostTally L) → k < length old
-      → PostServed state may_stop hub.admin k (length hub.log) after.log each (door (slice_index_or old k d).door) (door (slice_index_or new k d).door) (slice_index_or did k c)
+  pub posts : (k : ℕ) (d : Post D G H) (c : PostTally L E) → k < length old
+      → PostServed protocol state may_stop hub.admin k (length hub.log) after.log each (door (slice_index_or old k d).door) (door (slice_index_or new k d).door) (slice_index_or did k c)
   pub sessions_is : sessions ≡ sum_by count_of did
-  pub failed_is : door_failed ≡ list_any (λ (c : PostTally L). c.failed) did
-  pub lacked_is : no_memory ≡ list_any (λ (c : PostTally L). have_lacked c.visits) did
+  pub failed_is : door_failed ≡ list_any (λ (c : PostTally L E). c.failed) did
+  pub lacked_is : no_memory ≡ list_any (λ (c : PostTally L E). have_lacked protocol c.visits) did

@@ -8,7 +8,7 @@ use crate::hand::{clear, gather, hand_out};
 use crate::post::{Post, serve_posts};
 use edge_links::Door;
 use pktline_core::Link;
-use session_core::Gate;
+use session_core::{Gate, Protocol};
 use shared_hub::{EventHub, SharedHub};
 use std::alloc::Global;
 use std::snapshot::Snapshot;
@@ -76,10 +76,13 @@ pub fn serve_all<
     G: Gate + Send,
     R: Threads + Wait + Sync,
     H: EventHub + Send + Drop,
+    P: Protocol + Send,
 >(rt: &R, alloc: Global, hub: H, posts: &mut [Post<D, G, H>], each: u64) -> ServedAll<H>
+where
+    P::End: Send,
     requires few { length posts.old < 2 ^ 32 }
     requires fits { length posts.old * each < 2 ^ 64 }
-    ensures served { IfSome result.hub (λ after. ServesAll L.state D.state H.may_stop (H.view hub) (H.view after) posts.old posts.new each result.sessions result.door_failed result.no_memory) }
+    ensures served { IfSome result.hub (λ after. ServesAll P.meaning L.state D.state H.may_stop (H.view hub) (H.view after) posts.old posts.new each result.sessions result.door_failed result.no_memory) }
     ensures goes { IfSome result.hub (λ after. H.goes_on hub after) }
     ensures none { IfNone result.hub ((result.sessions ≡ 0) × (result.door_failed ≡ false) × IsTrue result.no_memory) }
     ensures unasked { IfNone result.hub ((k : ℕ) (d : _) → (slice_index_or posts.new k d).door ≡ (slice_index_or posts.old k d).door) }
@@ -104,7 +107,7 @@ pub fn serve_all<
         clear(posts);
         return without_memory();
     };
-    serve_posts(rt, alloc, &shared, posts, each);
+    serve_posts::<L, D, G, R, H, P>(rt, alloc, &shared, posts, each);
     let sessions = sessions_of(posts);
     let door_failed = have_failed(posts);
     let no_memory = have_lacked(posts);

@@ -1,7 +1,9 @@
 // Laws of the definitions.
 ghost use Rattle.session_workers.specs.Laws.{ServedStays};
 
+use session_core::Protocol;
+
 /// The law holds, of every log.
-pub fn hold_laws()
-    ensures stays { ServedStays }
+pub fn hold_laws<P: Protocol>()
+    ensures stays { ServedStays P.meaning }
 {}

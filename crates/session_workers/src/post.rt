@@ -5,7 +5,7 @@ ghost use Rattle.session_workers.specs.Passes.{HasWorkedAt, IsIdle, MayWork};
 use crate::worker::{Tally, work};
 use edge_links::Door;
 use pktline_core::Link;
-use session_core::Gate;
+use session_core::{Gate, Protocol};
 use shared_hub::{EventHub, SharedHub, SharedPass};
 use std::alloc::Global;
 use std::sync::Wait;
@@ -41,7 +41,7 @@ impl<D, G, H: EventHub> Post<D, G, H> {
 }
 
 // What the worker of a post does.
-fn serve_post<L: Link, D: Door<L>, G: Gate, R: Wait, H: EventHub>(
+fn serve_post<L: Link, D: Door<L>, G: Gate, R: Wait, H: EventHub, P: Protocol>(
     rt: &R,
     alloc: Global,
     hub: &SharedHub<H>,
@@ -49,12 +49,20 @@ fn serve_post<L: Link, D: Door<L>, G: Gate, R: Wait, H: EventHub>(
     each: u64,
 )
     requires { MayWork hub.now post.old }
-    ensures { HasWorkedAt L.state D.state H.may_stop each post.old post.new }
+    ensures { HasWorkedAt P.meaning L.state D.state H.may_stop each post.old post.new }
 {
     let Some(pass) = post.pass.take() else {
         unreachable!()
     };
-    let (pass, tally) = work(rt, alloc, hub, pass, &mut post.door, &mut post.gate, each);
+    let (pass, tally) = work::<L, D, G, R, H, P>(
+        rt,
+        alloc,
+        hub,
+        pass,
+        &mut post.door,
+        &mut post.gate,
+        each,
+    );
     post.pass = Some(pass);
     post.tally = tally;
 }
@@ -66,15 +74,18 @@ pub fn serve_posts<
     G: Gate + Send,
     R: Threads + Wait + Sync,
     H: EventHub + Send,
+    P: Protocol + Send,
 >(rt: &R, alloc: Global, hub: &SharedHub<H>, posts: &mut [Post<D, G, H>], each: u64)
+where
+    P::End: Send,
     requires some { 0 < length posts.old }
     requires may { All (λ post. MayWork hub.now post) posts.old }
-    ensures worked { (k : ℕ) (d : _) → k < length posts.old → HasWorkedAt L.state D.state H.may_stop each (slice_index_or posts.old k d) (slice_index_or posts.new k d) }
+    ensures worked { (k : ℕ) (d : _) → k < length posts.old → HasWorkedAt P.meaning L.state D.state H.may_stop each (slice_index_or posts.old k d) (slice_index_or posts.new k d) }
 {
     let threads = posts.len();
     let worker = |_index: usize, post: &mut Post<D, G, H>|
         requires { MayWork hub.now post.old }
-        ensures { HasWorkedAt L.state D.state H.may_stop each post.old post.new }
-    { serve_post(rt, alloc, hub, post, each) };
+        ensures { HasWorkedAt P.meaning L.state D.state H.may_stop each post.old post.new }
+    { serve_post::<L, D, G, R, H, P>(rt, alloc, hub, post, each) };
     thread::for_each_mut(rt, posts, threads, &worker);
 }

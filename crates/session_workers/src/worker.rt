@@ -3,22 +3,21 @@ ghost use Rattle.std.specs.Prelude.{◌≡◌, ◌&&◌, ◌||◌, [], IsTrue, l
 ghost use Rattle.turn_lock.specs.Lock.{IsSamePass};
 ghost use Rattle.shared_hub.specs.Kept.{admin_in};
 ghost use Rattle.shared_hub.specs.Shared.{IsHubPass, log_at_new, log_seen};
-ghost use Rattle.session_workers.specs.Visits.{HasWorked, ServesNext, is_lack};
+ghost use Rattle.session_workers.specs.Visits.{HasWorked, ServesNext};
 
 use edge_links::{Door, Next};
-use git_session::{SessionBuffer, session};
 use hub::Desk;
 use pktline_core::Link;
-use session_core::{Gate, SessionEnd};
+use session_core::{Gate, Protocol};
 use shared_hub::{EventHub, SharedDesk, SharedHub, SharedPass};
 use std::alloc::Global;
 use std::sync::Wait;
 
 /// How one turn at a door went.
 #[derive(Clone, Copy, Debug)]
-pub enum NextServed {
+pub enum NextServed<E> {
     /// A link was served, with this end, and given back.
-    Served(SessionEnd),
+    Served(E),
     Closed,
     Failed,
 }
@@ -41,19 +40,19 @@ impl Tally {
 }
 
 // Serves the next link of a door, if there is one, and gives it back.
-fn serve_next<L: Link, K: Desk, D: Door<L>, G: Gate>(
+fn serve_next<L: Link, K: Desk, D: Door<L>, G: Gate, P: Protocol>(
     alloc: Global,
     door: &mut D,
     gate: &mut G,
     desk: &mut K,
-    buffer: &mut SessionBuffer,
-) -> NextServed
-    ensures next { ServesNext L.state (D.state door.old) (D.state door.new) (K.view desk.old) (K.view desk.new) result }
+    protocol: &mut P,
+) -> NextServed<P::End>
+    ensures next { ServesNext P.meaning L.state (D.state door.old) (D.state door.new) (K.view desk.old) (K.view desk.new) result }
     ensures goes { K.goes_on desk.old desk.new }
 {
     match door.next() {
         Next::Link(mut link) => {
-            let end = session(alloc, &mut link, desk, gate, buffer);
+            let end = protocol.serve(alloc, &mut link, desk, gate);
             door.done(link);
             NextServed::Served(end)
         }
@@ -62,31 +61,27 @@ fn serve_next<L: Link, K: Desk, D: Door<L>, G: Gate>(
     }
 }
 
-// Whether a session with this end ran out of memory.
-fn is_out_of_memory(end: SessionEnd) -> bool
-    ensures { result ≡ is_lack end }
+// Whether memory ran out, in a session with this end or before.
+fn lacks<P: Protocol>(before: bool, end: P::End) -> bool
+    ensures { result ≡ before || P.meaning.lacks end }
 {
-    matches!(end, SessionEnd::NoMemory)
-}
-
-// Whether memory has lacked, in a session with this end or before.
-fn lacks(before: bool, end: SessionEnd) -> bool
-    ensures { result ≡ before || is_lack end }
-{
-    before || is_out_of_memory(end)
+    before || P::is_out_of_memory(end)
 }
 
 // Whether the hub has stopped, which a session with this end may tell: it then ends each further session so.
-fn has_stopped_by<R: Wait, H: EventHub>(desk: &mut SharedDesk<'_, R, H>, end: SessionEnd) -> bool
-    ensures may { IsTrue result → IsTrue (H.may_stop && is_lack end) }
+fn has_stopped_by<R: Wait, H: EventHub, P: Protocol>(
+    desk: &mut SharedDesk<'_, R, H>,
+    end: P::End,
+) -> bool
+    ensures may { IsTrue result → IsTrue (H.may_stop && P.meaning.lacks end) }
     ensures same { desk.new ≡ desk.old }
 {
-    is_out_of_memory(end) && desk.has_stopped()
+    P::is_out_of_memory(end) && desk.has_stopped()
 }
 
 /// Serves the links of a door until so many are served, the door is closed or it failed, or the hub has
 /// stopped.
-pub fn work<'a, L: Link, D: Door<L>, G: Gate, R: Wait, H: EventHub>(
+pub fn work<'a, L: Link, D: Door<L>, G: Gate, R: Wait, H: EventHub, P: Protocol>(
     rt: &'a R,
     alloc: Global,
     hub: &'a SharedHub<H>,
@@ -100,17 +95,17 @@ pub fn work<'a, L: Link, D: Door<L>, G: Gate, R: Wait, H: EventHub>(
     requires fresh { pass.since ≡ [] }
     ensures same_pass { IsSamePass pass result.0 }
     ensures hub { IsHubPass result.0 }
-    ensures worked { HasWorked L.state H.may_stop (admin_in pass.at_new) pass.caller (length (log_at_new pass)) (log_seen result.0) each (D.state door.old) (D.state door.new) result.1 }
+    ensures worked { HasWorked P.meaning L.state H.may_stop (admin_in pass.at_new) pass.caller (length (log_at_new pass)) (log_seen result.0) each (D.state door.old) (D.state door.new) result.1 }
 {
     let mut desk = SharedDesk::new(rt, hub, pass);
-    let mut buffer = SessionBuffer::new();
+    let mut protocol = P::new();
     let mut tally = Tally::NONE;
     for sessions in 0..each {
         tally.sessions = sessions;
-        match serve_next(alloc, door, gate, &mut desk, &mut buffer) {
+        match serve_next(alloc, door, gate, &mut desk, &mut protocol) {
             NextServed::Served(end) => {
-                tally.no_memory = lacks(tally.no_memory, end);
-                if has_stopped_by(&mut desk, end) {
+                tally.no_memory = lacks::<P>(tally.no_memory, end);
+                if has_stopped_by::<R, H, P>(&mut desk, end) {
                     tally.sessions = sessions + 1;
                     return (desk.into_pass(), tally);
                 }

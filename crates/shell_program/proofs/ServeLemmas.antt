@@ -11,6 +11,8 @@ use Rattle.hub_history.specs.declared.entry.Entry.{Entry}
 use Rattle.hub_history.specs.History.{IsLegal}
 use Rattle.ref_store.specs.Refs.{Name}
 use Rattle.hub.specs.Hub.{HubView}
+use Rattle.session_core.specs.declared.end.SessionEnd.{SessionEnd}
+use Rattle.git_session.specs.Protocol as git
 use Rattle.session_workers.specs.declared.post.Post.{Post}
 use Rattle.session_workers.specs.Visits.{HasDone, have_lacked}
 use Rattle.session_workers.specs.ServesAll.{PostTally, ServesAll, count_of}
@@ -39,10 +41,10 @@ at_any {X} f (x ∷ xs) some = go (f x) refl some (λ any. at_any f xs any) wher
 
 module _ {L D G : Type 0} (state : L → LinkState) (door : D → DoorState L) (admin : Name) (each : ℕ) (old new : List (Post D G HubView)) (sink sink' : LinkState) (log : List Entry) where
   -- the hub that comes back, by its log
-  pub posts_served : (after : HubView) (sessions : ℕ) (failed lacked : Bool) → ServesAll state door false (new_hub admin) after old new each sessions failed lacked → log ≡ after.log
+  pub posts_served : (after : HubView) (sessions : ℕ) (failed lacked : Bool) → ServesAll git.sessions state door false (new_hub admin) after old new each sessions failed lacked → log ≡ after.log
       → ServesPosts state door admin each old new sink sink' log sessions failed lacked
   posts_served after sessions failed lacked serves log_is =
-      subst (λ (h : HubView). ServesAll state door false (new_hub admin) h old new each sessions failed lacked) (λ i. record { admin = serves.admin i; log = sym log_is i }) serves
+      subst (λ (h : HubView). ServesAll git.sessions state door false (new_hub admin) h old new each sessions failed lacked) (λ i. record { admin = serves.admin i; log = sym log_is i }) serves
 
   pub ends_served : (sessions : ℕ) (failed lacked : Bool) (printed : Result (Unit {0}) ScriptFault) → ServesPosts state door admin each old new sink sink' log sessions failed lacked
       → OnOk printed (Appends sink.written sink'.written (served_line sessions (length log))) → IfErr printed (StopsPrinting sink sink' (served_line sessions (length log)))
@@ -58,13 +60,13 @@ module _ {L D G : Type 0} (state : L → LinkState) (door : D → DoorState L) (
 
   a_door_failed : (sessions : ℕ) (lacked : Bool) → ServesPosts state door admin each old new sink sink' log sessions true lacked → ADoorFailed door old new
   a_door_failed sessions lacked serves =
-      let at = at_any (λ (c : PostTally L). c.failed) serves.did (sym serves.failed_is) in
+      let at = at_any (λ (c : PostTally L SessionEnd). c.failed) serves.did (sym serves.failed_is) in
       let within : at.place < length old = (let less = at.within in let same = serves.each_did in omega (arith, less, same)) in (
         at.place,
         within,
         λ d.
             let served = serves.posts at.place d at.item within in
-            subst (λ (b : Bool). HasDone (false && have_lacked (get_or serves.did at.place at.item).visits) (door (get_or old at.place d).door) (door (get_or new at.place d).door) each (count_of (get_or serves.did at.place at.item)) b) at.is served.done,
+            subst (λ (b : Bool). HasDone (false && have_lacked git.sessions (get_or serves.did at.place at.item).visits) (door (get_or old at.place d).door) (door (get_or new at.place d).door) each (count_of (get_or serves.did at.place at.item)) b) at.is served.done,
       )
 
   pub surely_served : (sessions : ℕ) (failed lacked : Bool) (printed : Result (Unit {0}) ScriptFault) → ServesPosts state door admin each old new sink sink' log sessions failed lacked
@@ -81,10 +83,10 @@ module _ {L D G : Type 0} (state : L → LinkState) (door : D → DoorState L) (
   surely_served sessions failed lacked (Err fault.NoMemory) serves err doors writes = inr refl
 
 module _ {L D G : Type 0} (state : L → LinkState) (door : D → DoorState L) (admin : Name) (each : ℕ) (old new : List (Post D G HubView)) (sink sink' : LinkState) (log : List Entry) (hub after : HubView) (sessions events : ℕ) (failed lacked : Bool) (printed : Result (Unit {0}) ScriptFault) (number : ℕ)
-    (hub_is : hub ≡ new_hub admin) (all : ServesAll state door false hub after old new each sessions failed lacked) (log_is : log ≡ after.log) (counted : events ≡ length log)
+    (hub_is : hub ≡ new_hub admin) (all : ServesAll git.sessions state door false hub after old new each sessions failed lacked) (log_is : log ≡ after.log) (counted : events ≡ length log)
     (err : IfErr printed (StopsPrinting sink sink' (served_line sessions events))) (number_is : number ≡ status_number (served_status printed failed lacked)) where
   serves : ServesPosts state door admin each old new sink sink' log sessions failed lacked
-  serves = posts_served state door admin each old new sink sink' log after sessions failed lacked (subst (λ (h : HubView). ServesAll state door false h after old new each sessions failed lacked) hub_is all) log_is
+  serves = posts_served state door admin each old new sink sink' log after sessions failed lacked (subst (λ (h : HubView). ServesAll git.sessions state door false h after old new each sessions failed lacked) hub_is all) log_is
 
   stopped : IfErr printed (StopsPrinting sink sink' (served_line sessions (length log)))
   stopped = subst (λ (n : ℕ). IfErr printed (StopsPrinting sink sink' (served_line sessions n))) counted err

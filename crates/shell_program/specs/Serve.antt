@@ -7,6 +7,7 @@ use Rattle.edge_links.specs.Door.{DoorState}
 use Rattle.hub_history.specs.declared.entry.Entry.{Entry}
 use Rattle.ref_store.specs.Refs.{Name}
 use Rattle.hub.specs.Hub.{HubView}
+use Rattle.git_session.specs.Protocol as git
 use Rattle.session_workers.specs.declared.post.Post.{Post}
 use Rattle.session_workers.specs.ServesAll.{ServesAll}
 use Rattle.shell_program.specs.RunningScripts.{MayLackAfter, WritesPart}
@@ -26,7 +27,7 @@ new_hub admin = record { admin = admin; log = [] }
 module _ {L D G : Type 0} (state : L → LinkState) (door : D → DoorState L) (admin : Name) (each : ℕ) (old new : List (Post D G HubView)) (sink sink' : LinkState) (log : List Entry) where
   -- The posts were served at a new hub, which has this log afterwards.
   abbrev pub ServesPosts : ℕ → Bool → Bool → Type 0
-  ServesPosts sessions failed lacked = ServesAll state door false (new_hub admin) (record { admin = admin; log = log }) old new each sessions failed lacked
+  ServesPosts sessions failed lacked = ServesAll git.sessions state door false (new_hub admin) (record { admin = admin; log = log }) old new each sessions failed lacked
 
   -- so it was, and the line was printed
   abbrev pub PrintsServed : ℕ → Bool → Bool → Type 0

@@ -15,6 +15,7 @@ use crate::status::{Status, served_status};
 use base_types::NoMemory;
 use conf_lex::UserName;
 use edge_links::Door;
+use git_session::GitSessions;
 use hub::Hub;
 use itoa::Buffer;
 use pktline_core::{Link, Sink};
@@ -87,7 +88,7 @@ pub fn run_serve<
         sessions,
         door_failed,
         no_memory,
-    } = serve_all(rt, alloc, hub, posts, each);
+    } = serve_all::<L, D, G, R, Hub, GitSessions>(rt, alloc, hub, posts, each);
     let Some(hub) = hub else {
         return Ended::without_log(alloc, Status::NoMemory);
     };

@@ -1,6 +1,7 @@
 // Posts over memory doors, each with a worker on a thread of its own.
 use conf_lex::UserName;
 use edge_links::{Door, MemoryDoor, Next};
+use git_session::GitSessions;
 use hub::{Event, Hub, NoMemory, Outcome};
 use pktline_core::{Link, MemoryLink};
 use session_core::{Gate, OpenGate};
@@ -101,7 +102,13 @@ fn of_two_creates_at_once_one_is_done(rt: HostRuntime) -> Result<(), Fail> {
     let alloc = rt.alloc();
     let mut posts = posts_of(alloc, &first_push(alloc)?, 2, 1)?;
     assert!(rt; posts.len() == 2);
-    let served = serve_all(&rt, alloc, new_hub(alloc)?, &mut posts, 1);
+    let served = serve_all::<_, _, _, _, _, GitSessions>(
+        &rt,
+        alloc,
+        new_hub(alloc)?,
+        &mut posts,
+        1,
+    );
     assert!(rt; served.sessions == 2 && !served.door_failed && !served.no_memory);
     let hub = served.hub.ok_or("memory")?;
     assert!(rt; hub.log().len() == 4);
@@ -114,7 +121,13 @@ fn four_posts_serve_as_many_links_as_they_should(rt: HostRuntime) -> Result<(), 
     let alloc = rt.alloc();
     let mut posts = posts_of(alloc, &no_push(alloc)?, 4, 25)?;
     assert!(rt; posts.len() == 4);
-    let served = serve_all(&rt, alloc, new_hub(alloc)?, &mut posts, 20);
+    let served = serve_all::<_, _, _, _, _, GitSessions>(
+        &rt,
+        alloc,
+        new_hub(alloc)?,
+        &mut posts,
+        20,
+    );
     assert!(rt; served.sessions == 80 && !served.door_failed && !served.no_memory);
     let hub = served.hub.ok_or("memory")?;
     assert!(rt; hub.log().len() == 80);
@@ -141,7 +154,7 @@ fn a_door_that_fails_ends_its_worker_alone(rt: HostRuntime) -> Result<(), Fail> 
             sessions,
             door_failed,
             no_memory,
-        } = serve_all(&rt, alloc, new_hub(alloc)?, &mut posts, 3);
+        } = serve_all::<_, _, _, _, _, GitSessions>(&rt, alloc, new_hub(alloc)?, &mut posts, 3);
         let hub = hub.ok_or("memory")?;
         let served = call.min(2);
         assert!(rt; sessions == 2 + served && door_failed == (call < 3) && !no_memory);
@@ -228,7 +241,13 @@ fn two_sessions_are_served_at_once(rt: HostRuntime) -> Result<(), Fail> {
             posts.push(Post::new(door, gate))?;
         }
         assert!(rt; posts.len() == 2);
-        let served = serve_all(&rt, alloc, new_hub(alloc)?, &mut posts, 1);
+        let served = serve_all::<_, _, _, _, _, GitSessions>(
+            &rt,
+            alloc,
+            new_hub(alloc)?,
+            &mut posts,
+            1,
+        );
         assert!(rt; served.sessions == 2 && !served.no_memory);
         assert!(rt; posts[waiting].gate.seen);
     }

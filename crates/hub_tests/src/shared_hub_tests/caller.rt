@@ -106,9 +106,9 @@ fn push<D: Desk>(alloc: Global, desk: &mut D, pin: Pin, job: &Job) -> Result<Out
 }
 
 // The number of a lone outcome, and the value that a stale command met.
-pub type Told = (u8, ObjectId);
+pub type FirstOutcome = (u8, ObjectId);
 
-fn told(outcomes: &Result<OutcomeList, NoMemory>) -> Told {
+fn told(outcomes: &Result<OutcomeList, NoMemory>) -> FirstOutcome {
     let Ok(outcomes) = outcomes else {
         return (0, ObjectId::zero());
     };
@@ -138,7 +138,7 @@ pub struct Caller<'a, R: Wait, H: EventHub> {
     desk: SharedDesk<'a, R, H>,
     job: &'a Job,
     pin: Option<Pin>,
-    told: Told,
+    told: FirstOutcome,
 }
 
 impl<'a, R: Wait, H: EventHub> Model for Caller<'a, R, H> {
@@ -176,7 +176,7 @@ impl<'a, R: Wait, H: EventHub> Caller<'a, R, H> {
     }
 
     /// Its pass, and what its last push was told.
-    pub fn into_parts(self) -> (SharedPass<H>, Told)
+    pub fn into_parts(self) -> (SharedPass<H>, FirstOutcome)
         ensures pass { result.0 ≡ self.entry }
         ensures hub { IsHubPass result.0 }
     {

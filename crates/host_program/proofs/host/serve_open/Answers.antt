@@ -4,6 +4,7 @@ use denote.Exit.{no}
 use denote.Param.{param}
 use denote.Param.Send.{arg_send, param_send}
 use Rattle.hub.specs.Hub.{HubView}
+use Rattle.git_session.specs.Protocol as git
 use Rattle.session_workers.specs.declared.post.Post.{Post}
 use Rattle.session_workers.specs.ServesAll.{ServesAll}
 use Rattle.shell_program.specs.Serve.{served_line}
@@ -33,7 +34,7 @@ returns-clause-ends g c =
     let sink' = g.O.Endpoint.state c.print_served-printed.new.output in
     let first : StoredView = record { hub = was.hub; start = was.start; written = was.account.written; store = record { stored = was.stored; writer = was.writer; disk = g.Y.Disk.state was.disk } } in
     let last : StoredView = record { hub = is.hub; start = is.start; written = is.account.written; store = record { stored = is.stored; writer = is.writer; disk = g.Y.Disk.state is.disk } } in
-    let served = subst (λ o. IfSome o (λ (after : StoredHub _ _). ServesAll g.L.Endpoint.state g.D.Door.state true (answered first) (answered (record { hub = after.hub; start = after.start; written = after.account.written; store = record { stored = after.stored; writer = after.writer; disk = g.Y.Disk.state after.disk } })) c.args.posts.now c.serve_all-hub.new.posts c.args.each all.sessions all.door_failed all.no_memory)) c.in-Some.is c.serve_all-hub.ensures.served in
+    let served = subst (λ o. IfSome o (λ (after : StoredHub _ _). ServesAll git.sessions g.L.Endpoint.state g.D.Door.state true (answered first) (answered (record { hub = after.hub; start = after.start; written = after.account.written; store = record { stored = after.stored; writer = after.writer; disk = g.Y.Disk.state after.disk } })) c.args.posts.now c.serve_all-hub.new.posts c.args.each all.sessions all.door_failed all.no_memory)) c.in-Some.is c.serve_all-hub.ensures.served in
     let goes = subst (λ o. IfSome o (λ (after : StoredHub _ _). ContinuesStored modeled first (record { hub = after.hub; start = after.start; written = after.account.written; store = record { stored = after.stored; writer = after.writer; disk = g.Y.Disk.state after.disk } }))) c.in-Some.is c.serve_all-hub.ensures.goes in (
       c.host_status.result,
       c.number-2.ensures,

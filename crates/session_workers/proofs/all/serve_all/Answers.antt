@@ -11,7 +11,7 @@ use Rattle.session_workers.proofs.all.serve_all.Goals as goal
 pub returns-then-is_empty-clause-served : goal.returns-then-is_empty-clause-served
 returns-then-is_empty-clause-served g c =
     let none : length c.args.posts.now ≡ 0 = search rules in
-    none_posts g.L.Endpoint.state g.D.Door.state g.H.EventHub.may_stop (g.H.EventHub.view c.args.hub) c.args.posts.now c.args.each c.sound.ensures.legal none
+    none_posts g.P.Protocol.meaning g.L.Endpoint.state g.D.Door.state g.H.EventHub.may_stop (g.H.EventHub.view c.args.hub) c.args.posts.now c.args.each c.sound.ensures.legal none
 
 pub serve_posts-requires-clause-may : goal.serve_posts-requires-clause-may
 serve_posts-requires-clause-may g c =
@@ -23,7 +23,7 @@ pub sessions_of-sessions-requires : goal.sessions_of-sessions-requires
 sessions_of-sessions-requires g c =
     let handed : length c.hand_out.new.posts ≡ length c.args.posts.now = c.hand_out.auto.posts in
     let worked : length c.serve_posts.new.posts ≡ length c.hand_out.new.posts = c.serve_posts.auto.posts in
-    let most = sessions_most g.L.Endpoint.state g.D.Door.state g.H.EventHub.may_stop c.args.each c.hand_out.new.posts c.serve_posts.new.posts worked c.serve_posts.ensures.worked in
+    let most = sessions_most g.P.Protocol.meaning g.L.Endpoint.state g.D.Door.state g.H.EventHub.may_stop c.args.each c.hand_out.new.posts c.serve_posts.new.posts worked c.serve_posts.ensures.worked in
     let within : length c.serve_posts.new.posts * c.args.each < 2 ^ 64 = subst (λ n. n * c.args.each < 2 ^ 64) (sym (worked ∙ handed)) c.requires.fits in
     omega (arith, most, within)
 
@@ -35,7 +35,7 @@ gather-pass-requires-clause-passes g c =
     let passes : (k : ℕ) (d : Post _ _ _) → k < length c.hand_out.new.posts → (slice_index_or c.hand_out.new.posts k d).pass ≡ Some (pass_at c.in-Ok.shared c.of-about.result.value.at_new (length c.serve_posts.new.posts) k) =
     λ k d less. c.in-Ok-hand_out.ensures.passes k d (omega (arith, less, handed))
     ∙ (λ i. Some (pass_at c.in-Ok.shared (sym about i).at_new (sym (worked ∙ handed) i) k)) in
-    passes_of g.L.Endpoint.state g.D.Door.state g.H.EventHub.may_stop c.args.each c.in-Ok.shared c.of-about.result.value.at_new (length c.serve_posts.new.posts) c.hand_out.new.posts c.serve_posts.new.posts worked passes c.serve_posts.ensures.worked
+    passes_of g.P.Protocol.meaning g.L.Endpoint.state g.D.Door.state g.H.EventHub.may_stop c.args.each c.in-Ok.shared c.of-about.result.value.at_new (length c.serve_posts.new.posts) c.hand_out.new.posts c.serve_posts.new.posts worked passes c.serve_posts.ensures.worked
 
 pub returns-clause-served : goal.returns-clause-served
 returns-clause-served g c =
@@ -54,7 +54,7 @@ returns-clause-served g c =
     let gathered : length c.gather-pass.new.posts ≡ length c.serve_posts.new.posts = c.gather-pass.auto.posts in
     let cleared : length c.clear-2.new.posts ≡ length c.gather-pass.new.posts = c.clear-2.auto.posts in
     rw (c.sessions_of-sessions.ensures, c.have_failed-door_failed.ensures, c.have_lacked-no_memory.ensures)
-    (all_served g.L.Endpoint.state g.D.Door.state g.H.EventHub.may_stop c.args.each lock c.args.hub (g.H.EventHub.view c.args.hub) (g.H.EventHub.view c.close.result) c.gather-pass.result c.args.posts.now c.hand_out.new.posts c.serve_posts.new.posts c.clear-2.new.posts
+    (all_served g.P.Protocol.meaning g.L.Endpoint.state g.D.Door.state g.H.EventHub.may_stop c.args.each lock c.args.hub (g.H.EventHub.view c.args.hub) (g.H.EventHub.view c.close.result) c.gather-pass.result c.args.posts.now c.hand_out.new.posts c.serve_posts.new.posts c.clear-2.new.posts
     whole c.close.ensures.seen c.close.ensures.begins handed (worked ∙ handed) (cleared ∙ gathered ∙ worked ∙ handed) c.in-Ok-hand_out.ensures.doors passes c.serve_posts.ensures.worked
     (λ k d. c.clear-2.ensures.doors k d ∙ c.gather-pass.ensures.doors k d) c.gather-pass.ensures.follows)
 

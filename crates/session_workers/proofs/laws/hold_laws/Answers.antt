@@ -2,4 +2,4 @@ use Rattle.session_workers.proofs.Appended.{served_appended}
 use Rattle.session_workers.proofs.laws.hold_laws.Goals as goal
 
 pub returns : goal.returns
-returns c = record { stays = served_appended }
+returns g c = record { stays = served_appended g.P.Protocol.meaning }

@@ -11,20 +11,20 @@ returns-in-Link-clause-next g c =
     let gives = c.in-Link.ensures.answers in
     let takes = c.done.ensures.taken in
     let link = c.in-Link.link in
-    let back = c.session-end.new.link in (
-      record { link = link; back = back; end = c.session-end.result },
+    let back = c.serve-end.new.link in (
+      record { link = link; back = back; end = c.serve-end.result },
       refl,
       record {
         given = loses_one old.left mid.left new.left link gives.given.0 takes.left;
         back = gains_one old.served mid.served new.served back gives.served takes.served;
         faults = takes.faults ∙ gives.given.3;
-        more = c.session-end.ensures.grows.more;
-        seen = ap (λ (d : DeskView). d.seen) c.session-end.ensures.grows.new_is;
+        more = c.serve-end.ensures.grows.more;
+        seen = ap (λ (d : DeskView). d.seen) c.serve-end.ensures.grows.new_is;
         session = record {
-          turn = c.session-end.ensures.turn;
-          cause = c.session-end.ensures.causes;
-          tells = c.session-end.ensures.tells;
-          sure = c.session-end.ensures.sure;
+          turn = c.serve-end.ensures.turn;
+          cause = c.serve-end.ensures.causes;
+          tells = c.serve-end.ensures.tells;
+          sure = c.serve-end.ensures.sure;
         };
       },
     )

@@ -3,6 +3,7 @@ use denote.Param.Send.{arg_send, param_send}
 use Rattle.std.proofs.Common.{◌≡◌, ℕ, ◌∙◌, ap, inl, inr, refl, subst}
 use Rattle.std.specs.Prelude.{IfNone, IfSome, Some, false, slice_index_or}
 use Rattle.shared_hub.proofs.Crosses.{hub_send}
+use Rattle.git_session.specs.Protocol as git
 use Rattle.session_workers.specs.declared.post.Post.{Post}
 use Rattle.session_workers.specs.ServesAll.{ServesAll}
 use Rattle.shell_program.specs.Status.{status_number}
@@ -37,7 +38,7 @@ returns-in_default-hub-clause-legal g c = legal_none (Some c.args.admin.now) c.w
 pub returns-clause-ends : goal.returns-clause-ends
 returns-clause-ends g c =
     let all = c.serve_all-hub.result in
-    let served = subst (λ o. IfSome o (λ after. ServesAll g.L.Endpoint.state g.D.Door.state false c.in-Ok.hub after c.args.posts.now c.serve_all-hub.new.posts c.args.each all.sessions all.door_failed all.no_memory)) c.in-Some.is c.serve_all-hub.ensures.served in
+    let served = subst (λ o. IfSome o (λ after. ServesAll git.sessions g.L.Endpoint.state g.D.Door.state false c.in-Ok.hub after c.args.posts.now c.serve_all-hub.new.posts c.args.each all.sessions all.door_failed all.no_memory)) c.in-Some.is c.serve_all-hub.ensures.served in
     run_ends g.L.Endpoint.state g.D.Door.state c.args.admin.now c.args.each c.args.posts.now c.serve_all-hub.new.posts (g.O.Endpoint.state c.args.output.now) (g.O.Endpoint.state c.print_served-printed.new.output) c.into_log-log.result c.in-Ok.hub c.in-Some.hub
     all.sessions c.len.result all.door_failed all.no_memory c.print_served-printed.result c.number.result c.in-Ok.ensures served c.into_log-log.ensures c.len.ensures c.print_served-printed.ensures.err
     (c.number.ensures ∙ ap status_number c.served_status.ensures) c.print_served-printed.ensures.ok
@@ -52,7 +53,7 @@ returns-clause-tells g c =
 pub returns-clause-sure : goal.returns-clause-sure
 returns-clause-sure g c =
     let all = c.serve_all-hub.result in
-    let served = subst (λ o. IfSome o (λ after. ServesAll g.L.Endpoint.state g.D.Door.state false c.in-Ok.hub after c.args.posts.now c.serve_all-hub.new.posts c.args.each all.sessions all.door_failed all.no_memory)) c.in-Some.is c.serve_all-hub.ensures.served in
+    let served = subst (λ o. IfSome o (λ after. ServesAll git.sessions g.L.Endpoint.state g.D.Door.state false c.in-Ok.hub after c.args.posts.now c.serve_all-hub.new.posts c.args.each all.sessions all.door_failed all.no_memory)) c.in-Some.is c.serve_all-hub.ensures.served in
     run_sure g.L.Endpoint.state g.D.Door.state c.args.admin.now c.args.each c.args.posts.now c.serve_all-hub.new.posts (g.O.Endpoint.state c.args.output.now) (g.O.Endpoint.state c.print_served-printed.new.output) c.into_log-log.result c.in-Ok.hub c.in-Some.hub
     all.sessions c.len.result all.door_failed all.no_memory c.print_served-printed.result c.number.result c.in-Ok.ensures served c.into_log-log.ensures c.len.ensures c.print_served-printed.ensures.err
     (c.number.ensures ∙ ap status_number c.served_status.ensures)
@@ -60,7 +61,7 @@ returns-clause-sure g c =
 pub returns-clause-legal : goal.returns-clause-legal
 returns-clause-legal g c =
     let all = c.serve_all-hub.result in
-    let served = subst (λ o. IfSome o (λ after. ServesAll g.L.Endpoint.state g.D.Door.state false c.in-Ok.hub after c.args.posts.now c.serve_all-hub.new.posts c.args.each all.sessions all.door_failed all.no_memory)) c.in-Some.is c.serve_all-hub.ensures.served in
+    let served = subst (λ o. IfSome o (λ after. ServesAll git.sessions g.L.Endpoint.state g.D.Door.state false c.in-Ok.hub after c.args.posts.now c.serve_all-hub.new.posts c.args.each all.sessions all.door_failed all.no_memory)) c.in-Some.is c.serve_all-hub.ensures.served in
     run_legal g.L.Endpoint.state g.D.Door.state c.args.admin.now c.args.each c.args.posts.now c.serve_all-hub.new.posts (g.O.Endpoint.state c.args.output.now) (g.O.Endpoint.state c.print_served-printed.new.output) c.into_log-log.result c.in-Ok.hub c.in-Some.hub
     all.sessions c.len.result all.door_failed all.no_memory c.print_served-printed.result c.number.result c.in-Ok.ensures served c.into_log-log.ensures c.len.ensures c.print_served-printed.ensures.err
     (c.number.ensures ∙ ap status_number c.served_status.ensures)

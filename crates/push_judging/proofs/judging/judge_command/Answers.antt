@@ -5,32 +5,32 @@ use Rattle.vref.specs.Facts.{AreFacts}
 use Rattle.update_check.specs.Table.{Counts, Passes}
 use Rattle.hub_history.specs.declared.outcome.Outcome.{Outcome}
 use Rattle.hub_history.specs.Push.{ByConf, by_new_value}
-use Rattle.push_judging.specs.declared.rows.Told.{Told}
+use Rattle.push_judging.specs.declared.rows.JudgedCommand.{JudgedCommand}
 use Rattle.push_judging.specs.Judged.{conf_of}
 use Rattle.push_judging.specs.Rows.{SaysByRules, Tells}
 use Rattle.push_judging.proofs.RowLemmas.{by_check, conf_refused, last_row, told_along}
-use Rattle.push_judging.proofs.judging.tell.Goals as goal
+use Rattle.push_judging.proofs.judging.judge_command.Goals as goal
 
 pub returns-in-Some-clause-said : goal.returns-in-Some-clause-said
 returns-in-Some-clause-said c = λ ps ok.
-    subst (λ (t : Told). Tells ps c.args.pin.now.pinned c.args.pack.now c.args.twice c.args.command.now t.outcome) (sym c.refused.ensures)
+    subst (λ (t : JudgedCommand). Tells ps c.args.pin.now.pinned c.args.pack.now c.args.twice c.args.command.now t.outcome) (sym c.refused.ensures)
     (Counts c.in-Some.outcome (sym c.in-Some.is ∙ c.by_command.ensures))
 
 pub returns-in-Some-clause-conf : goal.returns-in-Some-clause-conf
 returns-in-Some-clause-conf c =
-    subst (λ (t : Told). t.conf ≡ conf_of c.args.pin.now.pinned c.args.pack.now c.args.command.now t.outcome) (sym c.refused.ensures)
+    subst (λ (t : JudgedCommand). t.conf ≡ conf_of c.args.pin.now.pinned c.args.pack.now c.args.command.now t.outcome) (sym c.refused.ensures)
     (sym (conf_refused c.args.pin.now.pinned c.args.pack.now c.args.command.now c.in-Some.outcome))
 
 pub returns-in-Some-2-clause-said : goal.returns-in-Some-2-clause-said
 returns-in-Some-2-clause-said c = λ ps ok.
     let objects : c.args.walks.now ≡ c.args.pin.now.pinned.repository.objects ++ c.args.pack.now = c.requires.walks ∙ c.requires.lens in
-    subst (λ (t : Told). Tells ps c.args.pin.now.pinned c.args.pack.now c.args.twice c.args.command.now t.outcome) (sym c.refused-in-Some-2.ensures)
+    subst (λ (t : JudgedCommand). Tells ps c.args.pin.now.pinned c.args.pack.now c.args.twice c.args.command.now t.outcome) (sym c.refused-in-Some-2.ensures)
     (Passes (Some c.in-Some-2.outcome) (sym c.in_default.is ∙ c.by_command.ensures)
     (Counts c.in-Some-2.outcome (sym c.in-Some-2.is ∙ c.in_ok-outcome.ensures.outcome ∙ ap (λ (os : List Content). by_new_value os c.args.command.now) objects)))
 
 pub returns-in-Some-2-clause-conf : goal.returns-in-Some-2-clause-conf
 returns-in-Some-2-clause-conf c =
-    subst (λ (t : Told). t.conf ≡ conf_of c.args.pin.now.pinned c.args.pack.now c.args.command.now t.outcome) (sym c.refused-in-Some-2.ensures)
+    subst (λ (t : JudgedCommand). t.conf ≡ conf_of c.args.pin.now.pinned c.args.pack.now c.args.command.now t.outcome) (sym c.refused-in-Some-2.ensures)
     (sym (conf_refused c.args.pin.now.pinned c.args.pack.now c.args.command.now c.in-Some-2.outcome))
 
 pub returns-in-Some-3-clause-said : goal.returns-in-Some-3-clause-said
@@ -41,7 +41,7 @@ returns-in-Some-3-clause-said c = λ ps ok.
     let says : SaysByRules ps c.args.check.now c.args.lens.now c.args.command.now (Some c.in-Some-3.outcome) =
     subst (λ (o : Option Outcome). SaysByRules ps c.args.check.now c.args.lens.now c.args.command.now o) c.in-Some-3.is
     (subst (λ (os : List Content). SaysByRules ps c.args.check.now os c.args.command.now c.in_ok-outcome-2.field-0) c.requires.among (c.in_ok-outcome-2.ensures.said ps ok)) in
-    subst (λ (t : Told). Tells ps pinned c.args.pack.now c.args.twice c.args.command.now t.outcome) (sym c.refused-in-Some-3.ensures)
+    subst (λ (t : JudgedCommand). Tells ps pinned c.args.pack.now c.args.twice c.args.command.now t.outcome) (sym c.refused-in-Some-3.ensures)
     (Passes (Some c.in-Some-3.outcome) (sym c.in_default.is ∙ c.by_command.ensures)
     (Passes (Some c.in-Some-3.outcome) (sym c.in_default-2.is ∙ c.in_ok-outcome.ensures.outcome ∙ ap (λ (os : List Content). by_new_value os c.args.command.now) objects)
     (Counts c.in-Some-3.outcome (by_check ps ok pinned c.args.check.now all c.args.command.now (Some c.in-Some-3.outcome) c.requires.check
@@ -49,7 +49,7 @@ returns-in-Some-3-clause-said c = λ ps ok.
 
 pub returns-in-Some-3-clause-conf : goal.returns-in-Some-3-clause-conf
 returns-in-Some-3-clause-conf c =
-    subst (λ (t : Told). t.conf ≡ conf_of c.args.pin.now.pinned c.args.pack.now c.args.command.now t.outcome) (sym c.refused-in-Some-3.ensures)
+    subst (λ (t : JudgedCommand). t.conf ≡ conf_of c.args.pin.now.pinned c.args.pack.now c.args.command.now t.outcome) (sym c.refused-in-Some-3.ensures)
     (sym (conf_refused c.args.pin.now.pinned c.args.pack.now c.args.command.now c.in-Some-3.outcome))
 
 pub returns-clause-said : goal.returns-clause-said

@@ -16,7 +16,7 @@ use Rattle.push_judging.specs.Judged.{AreFactsOf, conf_of, confs_of}
 use Rattle.push_judging.specs.Rows.{TellsNow}
 use Rattle.push_judging.proofs.LaterLemmas.{conf_here, conf_now, length-confs, told_more}
 use Rattle.push_judging.proofs.RowLemmas.{as_many, confs_more, zip_at}
-use Rattle.push_judging.proofs.later.tell_each_now.Goals as goal
+use Rattle.push_judging.proofs.later.judge_each_again.Goals as goal
 
 pub bounds-all_facts-k : goal.bounds-all_facts-k
 bounds-all_facts-k c =
@@ -39,8 +39,8 @@ bounds-puts-k c =
     as_many (Judges ps c.args.pin.now.pinned c.args.pack.now c.args.commands.now) c.args.commands.now c.args.judged.now.outcomes (c.requires.judged.outcomes ps c.some_patterns_are_true.ensures.1) in
     omega (arith, c.loop-k-test.true, ap length c.confs-puts.ensures, ap length c.requires.judged.confs, length-confs c.args.pin.now.pinned c.args.pack.now c.args.commands.now c.args.judged.now.outcomes many)
 
-pub tell_now-requires : goal.tell_now-requires
-tell_now-requires c =
+pub judge_command_again-requires : goal.judge_command_again-requires
+judge_command_again-requires c =
     let none : Facts = record { change = Create; tag = false; commits = false; forward = false; merge = false } in
     let objects : c.loop-k.check.objects ≡ c.args.pin.now.pinned.repository.objects ++ c.args.pack.now = ap (λ (v : CheckView). v.objects) c.loop-k.invariant.check ∙ c.requires.among ∙ c.requires.judged.objects in
     let all : AreFactsOf (c.args.pin.now.pinned.repository.objects ++ c.args.pack.now) c.args.commands.now c.facts-all_facts.result.now =

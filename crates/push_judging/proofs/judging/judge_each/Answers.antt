@@ -12,14 +12,14 @@ use Rattle.hub_history.specs.State.{Conf}
 use Rattle.push_judging.specs.Judged.{confs_of}
 use Rattle.push_judging.specs.Rows.{Tells}
 use Rattle.push_judging.proofs.RowLemmas.{as_many, confs_more, judged_more, take_all, zip_at}
-use Rattle.push_judging.proofs.judging.tell_each.Goals as goal
+use Rattle.push_judging.proofs.judging.judge_each.Goals as goal
 
 pub bounds-all_facts-k : goal.bounds-all_facts-k
 bounds-all_facts-k c =
     omega (arith, c.loop-k-test.true, as_many (λ (change : Command) (facts : Facts). AreFacts c.args.lens.now change.name change.old change.new facts) c.args.commands.now c.args.all_facts.now c.requires.facts)
 
-pub tell-requires-clause-facts : goal.tell-requires-clause-facts
-tell-requires-clause-facts c =
+pub judge_command-requires-clause-facts : goal.judge_command-requires-clause-facts
+judge_command-requires-clause-facts c =
     let none : Facts = record { change = Create; tag = false; commits = false; forward = false; merge = false } in
     subst (λ (change : Command). AreFacts c.args.lens.now change.name change.old change.new (get_or c.args.all_facts.now c.loop-k.k none)) (sym c.index-commands-k.is)
     (zip_at (λ (change : Command) (facts : Facts). AreFacts c.args.lens.now change.name change.old change.new facts) c.args.commands.now c.args.all_facts.now c.loop-k.k c.index-commands-k.result none c.requires.facts c.loop-k-test.true)
