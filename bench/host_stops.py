@@ -1,10 +1,11 @@
 #!/usr/bin/env python3
-"""host_stops.py PROGRAM [TIMES [CLIENTS]]: kills PROGRAM at random moments of `host`, so many times (50); `.ci/run` does so ten times.
+"""host_stops.py PROGRAM [TIMES [CLIENTS [SECONDS]]]: kills PROGRAM within so many seconds (1) of `host`, so many times (50); `.ci/run` does so ten times.
 
-So many clients (4) push over TCP, each session two new refs in one push, until the server is killed (SIGKILL); beside them one fetches what the last run
-left, and one makes a wild repository and gives roles in it. The next run goes on over the same journal. Then the refs are asked for: those of each push
-that was answered have to be there with their values, of a push whose answer didn't come both or none, at most one push of each client, and no other; and
-each role that was given, at most one more of a run. Its status is 1 where that isn't so.
+So many clients (4) push over TCP until the server is killed (SIGKILL), each session two new refs in one push, which deletes those of the client's last
+one; beside them one fetches what the last run left, and one makes a wild repository and gives roles in it. The next run goes on over the same journal.
+Then the refs are asked for: of each client those of the last push that was answered have to be there with their values, or those of the one behind it
+whose answer didn't come, both and the others gone, and no other ref; and each role that was given, at most one more of a run. Its status is 1 where that
+isn't so.
 """
 import hashlib
 import os
@@ -17,7 +18,7 @@ import tempfile
 import threading
 import time
 
-from push_costs import EMPTY, EMPTY_ID, admin_push, commit, object_id, packet, push
+from push_costs import EMPTY, EMPTY_ID, ZERO, admin_push, commit, object_id, packet, push
 from stops import ADVERTISE, refs_of
 
 CONF = b"repo gitolite-admin\n    RW+ = admin\nrepo testing\n    RW+ = @all\nrepo wild/..*\n    C = @all\n    RW+ = CREATOR\n    R = READERS\n"
@@ -45,11 +46,13 @@ def converse(port, sent):
     return b"".join(got)
 
 
-def pushed(word):
-    """The two refs of a push, and its session."""
+def pushed(word, gone):
+    """The two refs of a push that deletes these, and its session."""
     made = [commit(b"%s %d\n" % (word.encode(), n), EMPTY_ID) for n in range(2)]
     refs = {"refs/heads/r%s-%d" % (word, n): object_id(made[n]) for n in range(2)}
-    return refs, push(list(refs.items()), made + [EMPTY])
+    session = push(list(refs.items()), made + [EMPTY])
+    deletes = b"".join(packet(("%s %s %s" % (old.hex(), ZERO, name)).encode()) for name, old in gone.items())
+    return refs, session.replace(b"0000PACK", deletes + b"0000PACK", 1)
 
 
 class Server:
@@ -107,21 +110,22 @@ class Giver(threading.Thread):
 
 
 class Client(threading.Thread):
-    """Pushes until no whole answer comes: what was answered, and what wasn't."""
+    """Pushes until no whole answer comes: the refs of the last push that was answered, and those of the one that wasn't."""
 
-    def __init__(self, port, name):
+    def __init__(self, port, name, kept):
         super().__init__()
-        self.port, self.kept, self.open = port, {}, {}
+        self.port, self.kept, self.open, self.pushes = port, kept, {}, 0
         self.words = ("%s-%d" % (name, n) for n in range(1_000_000))
 
     def run(self):
         for word in self.words:
-            refs, session = pushed(word)
+            refs, session = pushed(word, self.kept)
             reply = converse(self.port, session)
-            if not all(b"ok %s\n" % ref.encode() in reply for ref in refs):
+            if not all(b"ok %s\n" % ref.encode() in reply for ref in (*refs, *self.kept)):
                 self.open = refs
                 return
-            self.kept.update(refs)
+            self.kept = refs
+            self.pushes += 1
 
 
 def roles_of(port):
@@ -129,8 +133,21 @@ def roles_of(port):
     return set(re.findall(rb"READERS (u[0-9-]+)", converse(port, LIST_ROLES)))
 
 
-def run(program, room, turn, clients, kept, left_open, roles):
-    """Checks what is there, and pushes until the server is killed: the refs that are to be there, and those of which nobody knows; the same of roles."""
+def settled(there, left):
+    """What each client's refs came to, by what it left: those of its last push that was answered, or of the one behind it. None where that isn't so."""
+    settled, rest = [], dict(there)
+    for kept, behind in left:
+        found = [refs for refs in (kept, behind) if refs and all(rest.get(name) == value for name, value in refs.items())]
+        if len(found) > 1 or (not found and kept):
+            return None
+        for name in found[0] if found else ():
+            del rest[name]
+        settled.append(found[0] if found else {})
+    return None if rest else settled
+
+
+def run(program, room, turn, clients, seconds, left, roles):
+    """Checks what is there, and pushes until the server is killed: how much was pushed and fetched."""
     server = Server(program, room)
     if turn == 0:
         converse(server.port, admin_push(CONF))
@@ -140,52 +157,46 @@ def run(program, room, turn, clients, kept, left_open, roles):
         return "roles: %s lost, %s more" % (sorted(given - there), sorted(there - given - perhaps))
     given |= there
     perhaps.clear()
-    for name, value in server.refs.items():
-        if name not in kept and not any(refs.get(name) == value for refs in left_open):
-            return "a ref that nobody pushed: %s" % name
-    if lost := [name for name, value in kept.items() if server.refs.get(name) != value]:
-        return "lost: %s" % lost
-    for refs in left_open:
-        if 0 < sum(name in server.refs for name in refs) < len(refs):
-            return "in part: %s" % sorted(refs)
-    kept.update(server.refs)
+    kept = settled(server.refs, left)
+    if kept is None:
+        return "refs: %s where %s" % (server.refs, left)
     if clients == 0:
         server.kill()
         return server.opened
-    pushers = [Client(server.port, "%d-%d" % (turn, n)) for n in range(clients)]
+    pushers = [Client(server.port, "%d-%d" % (turn, n), kept[n] if kept else {}) for n in range(clients)]
     reader, giver = Reader(server.port, server.refs), Giver(server.port, turn)
     for client in (*pushers, reader, giver):
         client.start()
-    time.sleep(random.uniform(0, 1))
+    time.sleep(random.uniform(0, seconds))
     server.kill()
     for client in (*pushers, reader, giver):
         client.join()
-    for pusher in pushers:
-        kept.update(pusher.kept)
-    left_open[:] = [pusher.open for pusher in pushers]
+    left[:] = [(pusher.kept, pusher.open) for pusher in pushers]
     given.update(giver.given)
     perhaps.update(filter(None, [giver.open]))
-    return reader.whole
+    return sum(pusher.pushes for pusher in pushers), reader.whole
 
 
-def main(program, times, clients):
+def main(program, times, clients, seconds):
     with tempfile.TemporaryDirectory() as room:
-        kept, left_open, roles, fetched = {}, [], (set(), set()), 0
+        left, roles, pushes, fetches = [], (set(), set()), 0, 0
         for turn in range(times):
-            found = run(program, room, turn, clients, kept, left_open, roles)
+            found = run(program, room, turn, clients, seconds, left, roles)
             if isinstance(found, str):
                 print("run %d: %s" % (turn, found))
                 return 1
-            fetched += found
-        opened = run(program, room, times, 0, kept, left_open, roles)
+            pushes += found[0]
+            fetches += found[1]
+        opened = run(program, room, times, 0, seconds, left, roles)
         if isinstance(opened, str):
             print("at the end: %s" % opened)
             return 1
         size = os.path.getsize(os.path.join(room, "stops.journal"))
-        print("%d stops, %d clients, %d refs, %d roles, %d fetches, a journal of %d bytes, opened in %.3f s: nothing lost, nothing in part, nothing more" % (
-            times, clients, len(kept), len(roles[0]), fetched, size, opened))
+        print("%d stops, %d clients, %d pushes, %d roles, %d fetches, a journal of %d bytes, opened in %.3f s: nothing lost, nothing in part, nothing more" % (
+            times, clients, pushes, len(roles[0]), fetches, size, opened))
     return 0
 
 
 if __name__ == "__main__":
-    sys.exit(main(os.path.realpath(sys.argv[1]), int(sys.argv[2]) if sys.argv[2:] else 50, int(sys.argv[3]) if sys.argv[3:] else 4))
+    given = sys.argv[2:]
+    sys.exit(main(os.path.realpath(sys.argv[1]), int(given[0]) if given else 50, int(given[1]) if given[1:] else 4, float(given[2]) if given[2:] else 1.0))

@@ -7,7 +7,7 @@ use edge_links::{FileDisk, ProgressDisk, StdSink, StdSource};
 use host_program::{ProgramWords, VERSION, host_main, read_words};
 use record_file::Disk;
 use report_input::run_report;
-use shell_program::{Status, posts_at, words_given};
+use shell_program::{Status, posts_at, unsent_at, words_given};
 use std::alloc::Global;
 use std::env;
 use std::fs::{File, Files};
@@ -43,6 +43,13 @@ fn open_disk<R: Files<File = File> + Eprint>(rt: &R, path: &str) -> Option<FileD
             let _said = eprintln!(rt; "cerolimau: {path}: {error}");
             None
         }
+    }
+}
+
+// Says how many replies couldn't be sent whole, if there are some.
+fn say_unsent<R: Eprint>(rt: &R, unsent: u64) {
+    if unsent > 0 {
+        let _said = eprintln!(rt; "cerolimau: {unsent} replies could not be sent whole");
     }
 }
 
@@ -101,5 +108,6 @@ fn main(rt: HostRuntime) -> ExitCode {
         words.sessions,
         disk,
     );
+    say_unsent(&rt, unsent_at(posts.as_slice()));
     ExitCode::from(ended.status)
 }

@@ -19,7 +19,7 @@ use std::alloc::{AllocError, Global};
 use wild_perms::{RoleEntry, RoleList};
 
 // A packet of a line, and a flush.
-fn tell<L: Link>(link: &mut L, line: &[u8]) -> Result<(), SessionEnd>
+fn write_line<L: Link>(link: &mut L, line: &[u8]) -> Result<(), SessionEnd>
     requires { length line.now ≤ 65516 }
     ensures runs { RunsLink (L.state link.old) (L.state link.new) (write (flat_map packet (line.now ∷ []) ++ spelling Flush)) result }
     ensures tells { TellsLink (L.state link.old) (L.state link.new) result }
@@ -82,11 +82,11 @@ pub fn permit<L: Link, K: Desk>(
     ensures lets_in { LetsIn (K.view desk.old) (K.view desk.new) [] }
 {
     match desk.permit(alloc, user, repo, change) {
-        Permitted::Changed => tell(link, b"perms: changed\n"),
-        Permitted::AlreadySo => tell(link, b"perms: already so\n"),
-        Permitted::NotWild => tell(link, b"perms: not a wild repository of yours\n"),
-        Permitted::NotCreator => tell(link, b"perms: not a wild repository of yours\n"),
-        Permitted::NoSuchRole => tell(link, b"perms: no such role\n"),
+        Permitted::Changed => write_line(link, b"perms: changed\n"),
+        Permitted::AlreadySo => write_line(link, b"perms: already so\n"),
+        Permitted::NotWild => write_line(link, b"perms: not a wild repository of yours\n"),
+        Permitted::NotCreator => write_line(link, b"perms: not a wild repository of yours\n"),
+        Permitted::NoSuchRole => write_line(link, b"perms: no such role\n"),
         Permitted::Listed(roles) => tell_roles(alloc, link, &roles),
         Permitted::NoMemory => Err(SessionEnd::NoMemory),
     }

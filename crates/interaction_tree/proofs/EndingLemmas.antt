@@ -1,5 +1,5 @@
 -- What code keeps that ran an interaction, by its end.
-use Rattle.std.proofs.Common.{◌≡◌, ◌⊎◌, inl, inr, ℕ, false, List, [], ◌++◌, Option, None, Some, Err, refl, subst}
+use Rattle.std.proofs.Common.{◌≡◌, ◌⊎◌, inl, inr, ℕ, false, List, [], ◌++◌, Option, None, Some, Err, refl, ap, subst}
 use Rattle.std.specs.Bool.{⊤}
 use Rattle.std.specs.Io.KnownBytes.{IsAtEnd, Consumes}
 use Rattle.base_types.specs.Counts.{HasRisen}
@@ -9,7 +9,8 @@ use Rattle.interaction_tree.specs.Interaction.{Interaction}
 use Rattle.interaction_tree.specs.Traces.{Halt, Reading, Writing, Memory, Ended, Failed}
 use Rattle.interaction_tree.specs.Runs.{Runs}
 use Rattle.interaction_tree.specs.Order.{IsOrdered}
-use Rattle.interaction_tree.specs.Endings.{IsInput, TakesTurn}
+use Rattle.interaction_tree.specs.Turns.{Turn}
+use Rattle.interaction_tree.specs.Endings.{IsInput, TakesTurn, used_of}
 use Rattle.interaction_tree.specs.Growth.{own_since}
 use Rattle.interaction_tree.specs.Requests.{OwnEntry}
 use Rattle.interaction_tree.proofs.DeskLemmas.{made_since}
@@ -82,6 +83,19 @@ runs_meets a b d e t (Failed Memory) ordered p =
 
 pub runs_turn : {E A : Type 0} (a b : LinkState) (d e : DeskView) (t : Interaction E A) (halt : Halt E) → IsOrdered t → Runs a b d e t (Err halt) → TakesTurn a b (own_since d e) t halt
 runs_turn a b d e t halt ordered p = subst (λ (own : List OwnEntry). TakesTurn a b own t halt) (made_since d e p.own p.made) (runs_meets a b d e t halt ordered p)
+
+-- what was used of the input is what was read
+used_meets : {E A : Type 0} (a b : LinkState) (d e : DeskView) (t : Interaction E A) (halt : Halt E) (ordered : IsOrdered t) (p : Runs a b d e t (Err halt)) → used_of a b p.own t halt (runs_meets a b d e t halt ordered p) ≡ p.read
+unfolding runs_meets
+used_meets {E} {A} a b d e t (Ended end) ordered p = ap (λ (u : Turn E A). u.used) (trace_ended b.left end t p.read p.written p.own (left_of b.left) (none_left b.left) p.trace)
+used_meets a b d e t (Failed Reading) ordered p = refl
+used_meets a b d e t (Failed Writing) ordered p = refl
+used_meets a b d e t (Failed Memory) ordered p = refl
+
+pub runs_turn_read : {E A : Type 0} (a b : LinkState) (d e : DeskView) (t : Interaction E A) (halt : Halt E) → IsOrdered t → (p : Runs a b d e t (Err halt))
+    → (it : TakesTurn a b (own_since d e) t halt) × (used_of a b (own_since d e) t halt it ≡ p.read)
+runs_turn_read a b d e t halt ordered p =
+    subst (λ (own : List OwnEntry). (it : TakesTurn a b own t halt) × (used_of a b own t halt it ≡ p.read)) (made_since d e p.own p.made) (runs_meets a b d e t halt ordered p, used_meets a b d e t halt ordered p)
 
 pub ends_or_lacks : {E A : Type 0} (a b : LinkState) (own : List OwnEntry) (t : Interaction E A) (halt : Halt E) → (HasRisen a.read_faults b.read_faults → ⊥) → (HasRisen a.write_faults b.write_faults → ⊥) → TakesTurn a b own t halt
     → ((end : E) × (halt ≡ Ended end)) ⊎ (halt ≡ Failed Memory)

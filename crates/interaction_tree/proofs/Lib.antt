@@ -1,5 +1,6 @@
 pub mod FrontLemmas
 pub mod TraceLemmas
+pub mod LimitLemmas
 pub mod TurnLemmas
 pub mod WrittenLemmas
 pub mod OrderLemmas

@@ -90,7 +90,7 @@ module _ {E F : Type 0} (end_as : E → F) where
   still_as left (Err (Failed Memory)) (reads wanted cut f) read written p = p
   still_as left (Err (Failed Memory)) (asks request f) read written p = p
 
-  trace_as : {A : Type 0} (left : Option (List ℕ)) (out : Result A (Halt E)) (t : Interaction E A) (read written : List ℕ) (own : List OwnEntry) → IsTrace left out t read written own
+  pub trace_as : {A : Type 0} (left : Option (List ℕ)) (out : Result A (Halt E)) (t : Interaction E A) (read written : List ℕ) (own : List OwnEntry) → IsTrace left out t read written own
       → IsTrace left (outcome_as end_as out) (ending_as end_as t) read written own
   unfolding ending_as
   trace_as left out (gives a) read written own p = (still_as left out (gives a) read written p.0, p.1)
@@ -102,7 +102,7 @@ module _ {E F : Type 0} (end_as : E → F) where
   trace_as left out (asks request f) read written own (inl p) = inl (still_as left out (asks request f) read written p.0, p.1)
   trace_as left out (asks request f) read written own (inr p) = inr (p.0, p.1, p.2, p.3, trace_as left out (f p.0) read written p.1 p.4)
 
-  caused_as : {A : Type 0} (link link' : LinkState) (out : Result A (Halt E)) → IsCaused link link' out → IsCaused link link' (outcome_as end_as out)
+  pub caused_as : {A : Type 0} (link link' : LinkState) (out : Result A (Halt E)) → IsCaused link link' out → IsCaused link link' (outcome_as end_as out)
   caused_as link link' (Ok a) p = p
   caused_as link link' (Err (Ended e)) p = p
   caused_as link link' (Err (Failed Reading)) p = p

@@ -83,3 +83,10 @@ TakesTurn link link' own t (Ended end) = EndsAsDue link link' own t end
 TakesTurn link link' own t (Failed Reading) = FailsReading link link' own t
 TakesTurn link link' own t (Failed Writing) = FailsWriting link link' own t
 TakesTurn link link' own t (Failed Memory) = LacksMemory link link' own t
+
+-- the bytes that were used, by the end
+abbrev pub used_of : {E A : Type 0} (link link' : LinkState) (own : List OwnEntry) (t : Interaction E A) (halt : Halt E) → TakesTurn link link' own t halt → List ℕ
+used_of link link' own t (Ended end) it = (turn t it.input own).used
+used_of link link' own t (Failed Reading) it = it.part
+used_of link link' own t (Failed Writing) it = it.part
+used_of link link' own t (Failed Memory) it = it.part

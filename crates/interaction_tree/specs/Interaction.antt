@@ -1,7 +1,7 @@
 -- What a session does, as an interaction tree: what it writes, reads and asks, one step after the other, each
 -- by the replies before it.
-use Rattle.std.specs.Prelude.{ℕ, List}
-use Rattle.interaction_tree.specs.Wanted.{Wanted, Fault, Reply}
+use Rattle.std.specs.Prelude.{ℕ, zero, suc, ◌-◌, List, [], Result, Ok, Err}
+use Rattle.interaction_tree.specs.Wanted.{Wanted, Within, Value, Fault, Reply, front_of, by_front}
 use Rattle.hub_history.specs.Requests.{Request}
 use Rattle.interaction_tree.specs.Requests.{OwnEntry}
 
@@ -56,3 +56,26 @@ ending_as end_as (ends e) = ends (end_as e)
 ending_as end_as (writes bytes t) = writes bytes (ending_as end_as t)
 ending_as end_as (reads wanted cut f) = reads wanted (λ fault. cut_as end_as (cut fault)) (λ reply. ending_as end_as (f reply))
 ending_as end_as (asks request f) = asks request (λ own. ending_as end_as (f own))
+
+-- the end of an input inside what is wanted
+abbrev pub cutting_off : {E A : Type 0} → CutOff E → Interaction E A
+cutting_off cut = writes cut.bytes (ends cut.end)
+
+-- by what was read of a part: the one where the part ended inside what is wanted, the other where that was
+-- decided
+abbrev pub by_part : {V F X : Type 0} → (F → X) → (Result V F → X) → Result (Result V F) F → X
+by_part cut decided (Ok (Ok value)) = decided (Ok value)
+by_part cut decided (Ok (Err fault)) = cut fault
+by_part cut decided (Err fault) = decided (Err fault)
+
+-- the same interaction over the first so many bytes of the input, as if it ended there
+unfoldable pub limits : {E A : Type 0} → ℕ → Interaction E A → Interaction E A
+limits most (gives a) = gives a
+limits most (ends e) = ends e
+limits most (writes bytes t) = writes bytes (limits most t)
+limits zero (reads wanted cut f) = by_front (front_of wanted []) (λ fault. cutting_off (cut fault)) (λ used found. limits zero (f (record { used = used; found = found })))
+limits (suc most) (reads wanted cut f) = reads (Within most wanted) cut (λ reply. by_part
+    (λ fault. cutting_off (cut fault))
+    (λ found. limits (suc most - reply.used) (f (record { used = reply.used; found = found })))
+    reply.found)
+limits most (asks request f) = asks request (λ own. limits most (f own))

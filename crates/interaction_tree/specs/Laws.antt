@@ -1,5 +1,6 @@
 -- Laws of interactions, which hold of every protocol.
-use Rattle.std.specs.Prelude.{◌≡◌, ◌⊎◌, ◌≤◌, ⊤, ℕ, ◌+◌, Bool, IsTrue, List, [], ◌++◌, length, drop, map, Result, Ok, Err}
+use Rattle.std.specs.Prelude.{◌≡◌, ◌⊎◌, ◌≤◌, ⊤, ℕ, ◌+◌, Bool, IsTrue, List, [], ◌++◌, length, take, drop, map, Option, Result, Ok, Err}
+use Rattle.std.specs.Option.{option_map}
 use Rattle.std.specs.List.{AllByRecursion}
 use Rattle.std.specs.Io.KnownBytes.{IsAtEnd}
 use Rattle.base_types.specs.Counts.{HasRisen}
@@ -20,14 +21,14 @@ use Rattle.hub.specs.Desk.{DeskView, IsOfAnother, IsSound, MakesEntry}
 use Rattle.interaction_tree.specs.Wanted.{Wanted, Packet, Pack, Value, Fault, front_of, Reply, shown}
 use Rattle.hub_history.specs.Requests.{Request, request_of}
 use Rattle.interaction_tree.specs.Requests.{Answers, Agrees, AsLogged, OwnEntry, asked, own_in}
-use Rattle.interaction_tree.specs.Interaction.{CutOff, Interaction, gives, ends, writes, reads, ◌>>=◌, write, read, ask, ending_as}
-use Rattle.interaction_tree.specs.Turns.{Extent, Ended, turn_over, turn, and_then, turn_as}
+use Rattle.interaction_tree.specs.Interaction.{CutOff, Interaction, gives, ends, writes, reads, ◌>>=◌, write, read, ask, ending_as, limits}
+use Rattle.interaction_tree.specs.Turns.{Extent, Closed, Ended, turn_over, turn, and_then, turn_as}
 use Rattle.interaction_tree.specs.Alone.{turn_alone, IsAlone}
-use Rattle.interaction_tree.specs.Traces.{Memory, Halt, Failed, outcome_as}
+use Rattle.interaction_tree.specs.Traces.{Reading, Memory, Halt, Failed, IsTrace, outcome_as}
 use Rattle.interaction_tree.specs.Runs.{MakesAll, Runs, TakesOnly, WritesOnly}
 use Rattle.interaction_tree.specs.Steps.{written_as, packet_as, IsOfPack}
 use Rattle.interaction_tree.specs.Order.{EntriesFirst, IsOrdered}
-use Rattle.interaction_tree.specs.Endings.{TakesTurn}
+use Rattle.interaction_tree.specs.Endings.{TakesTurn, used_of}
 use Rattle.interaction_tree.specs.Growth.{GrowsBy, own_since}
 
 -- I. What follows of code that ran an interaction
@@ -35,6 +36,12 @@ use Rattle.interaction_tree.specs.Growth.{GrowsBy, own_since}
 -- Code that ran an interaction without a value took its turn, whichever of the four ends it came to.
 abbrev pub RunsTakeTurns : Type 0 → Type 0 → Type 0
 RunsTakeTurns E A = (link link' : LinkState) (desk desk' : DeskView) (t : Interaction E A) (halt : Halt E) → IsOrdered t → Runs link link' desk desk' t (Err halt) → TakesTurn link link' (own_since desk desk') t halt
+
+-- and what the turn uses of the input is what was read
+abbrev pub TurnsUseTheRead : Type 0 → Type 0 → Type 0
+TurnsUseTheRead E A =
+    (link link' : LinkState) (desk desk' : DeskView) (t : Interaction E A) (halt : Halt E) → IsOrdered t → (ran : Runs link link' desk desk' t (Err halt))
+    → (turn : TakesTurn link link' (own_since desk desk') t halt) × (used_of link link' (own_since desk desk') t halt turn ≡ ran.read)
 
 -- Over a link whose counts don't rise it ends as the interaction does, or memory lacks.
 abbrev pub EndsOrLacks : Type 0 → Type 0 → Type 0
@@ -169,3 +176,21 @@ OrdersEndAs E F A = (end_as : E → F) (t : Interaction E A) → IsOrdered t →
 -- One and then another have other ends where each has.
 abbrev pub BothEndAs : Type 0 → Type 0 → Type 0 → Type 0 → Type 0
 BothEndAs E F A B = (end_as : E → F) (t : Interaction E A) (k : A → Interaction E B) → ending_as end_as (t >>= k) ≡ ending_as end_as t >>= λ a. ending_as end_as (k a)
+
+-- VI. A part of an input
+
+-- Over an input that has all of its part, the turn is that over the part alone.
+abbrev pub TurnsOfParts : Type 0 → Type 0 → Type 0
+TurnsOfParts E A =
+    (extent : Extent) (t : Interaction E A) (most : ℕ) (input : List ℕ) (own : List OwnEntry) → most ≤ length input → turn_over extent (limits most t) input own ≡ turn_over Closed t (take most input) own
+
+-- Code that went along an interaction over the part of the input that is left (`rest` bytes behind what it
+-- read) went along the limited one, but where a read failed behind the last of them.
+abbrev pub TracesOfParts : Type 0 → Type 0 → Type 0
+TracesOfParts E A =
+    (left : Option (List ℕ)) (out : Result A (Halt E)) (t : Interaction E A) (rest most : ℕ) (read written : List ℕ) (own : List OwnEntry)
+    → length read + rest ≡ most → (rest ≡ 0 → out ≡ Err (Failed Reading) → ⊥) → IsTrace (option_map (take rest) left) out t read written own → IsTrace left out (limits most t) read written own
+
+-- It keeps the order.
+abbrev pub OrdersOfParts : Type 0 → Type 0 → Type 0
+OrdersOfParts E A = (most : ℕ) (t : Interaction E A) → IsOrdered t → IsOrdered (limits most t)

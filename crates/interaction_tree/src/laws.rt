@@ -1,9 +1,10 @@
 // Laws of interactions, which hold of every protocol.
-ghost use Rattle.interaction_tree.specs.Laws.{AloneAsLogged, BeginningsAgree, BothEndAs, CutOffsRun, EndsOrLacks, EntriesGrow, EntriesRun, HaltsCompose, LogsHaveAnswers, NothingRuns, OnlyCallersAreAlone, OrdersCompose, OrdersEndAs, OthersAreNotOwn, PacketsRun, PacksRun, ReadingsRun, RefusedPacksRun, RunsCompose, RunsEndAs, RunsTakeTurns, TurnsCompose, TurnsEndAs, WritesRun};
+ghost use Rattle.interaction_tree.specs.Laws.{AloneAsLogged, BeginningsAgree, BothEndAs, CutOffsRun, EndsOrLacks, EntriesGrow, EntriesRun, HaltsCompose, LogsHaveAnswers, NothingRuns, OnlyCallersAreAlone, OrdersCompose, OrdersEndAs, OrdersOfParts, OthersAreNotOwn, PacketsRun, PacksRun, ReadingsRun, RefusedPacksRun, RunsCompose, RunsEndAs, RunsTakeTurns, TracesOfParts, TurnsCompose, TurnsEndAs, TurnsOfParts, TurnsUseTheRead, WritesRun};
 
 /// What follows of code that ran an interaction; a call does nothing.
 pub fn turns_hold<E, A>()
     ensures turns { RunsTakeTurns E A }
+    ensures used { TurnsUseTheRead E A }
     ensures sure { EndsOrLacks E A }
     ensures grow { EntriesGrow }
     ensures others { OthersAreNotOwn }
@@ -39,4 +40,11 @@ pub fn ends_may_differ<E, F, A, B>()
     ensures runs { RunsEndAs E F A }
     ensures order { OrdersEndAs E F A }
     ensures both { BothEndAs E F A B }
+{}
+
+/// An interaction may go over a part of an input; a call does nothing.
+pub fn parts_hold<E, A>()
+    ensures turns { TurnsOfParts E A }
+    ensures traces { TracesOfParts E A }
+    ensures order { OrdersOfParts E A }
 {}

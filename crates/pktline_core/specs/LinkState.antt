@@ -8,8 +8,8 @@ pub data Limits : Type 0 where
   -- it is no limit
   Whole : Limits
   -- it limits the link behind the reference of this name: these bytes are behind its end, where they are
-  -- told; and what that link holds back itself
-  Limited : GName → Option (List ℕ) → Limits → Limits
+  -- told; so many bytes will that link have given there; and what that link holds back itself
+  Limited : GName → Option (List ℕ) → ℕ → Limits → Limits
 
 pub record LinkState : Type 0 where
   -- the bytes that are left to be read, where the link tells them

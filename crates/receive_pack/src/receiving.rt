@@ -23,7 +23,7 @@ ghost use Rattle.receive_pack.specs.Receiving.{commanding, pushing, reading_pack
 
 use crate::changes::{Capabilities, all_delete, first_capabilities};
 use crate::commands::{first_in, take_commands};
-use crate::reports::{ReportedPush, refuse_pack, tell};
+use crate::reports::{ReportedPush, refuse_pack, write_report};
 use crate::text::ref_line;
 use git_object::{ObjectId, ObjectList};
 use hub::{Desk, NoMemory, Pin, Pushed, Want, judge};
@@ -109,7 +109,7 @@ fn push<L: Link, K: Desk>(
             outcomes,
             made: _,
             conf: later,
-        } => tell(
+        } => write_report(
             alloc,
             link,
             capabilities,

@@ -31,7 +31,7 @@ pub struct ReportedPush {
 
 /// The report of a push, where the client asked for one, by the rules that were in force at its opening and
 /// by those just before it.
-pub fn tell<L: Link>(
+pub fn write_report<L: Link>(
     alloc: Global,
     link: &mut L,
     capabilities: Capabilities,

@@ -13,7 +13,7 @@ held_back false most left = None
 -- The link behind the reference of this name, with the first so many of the bytes that it has left. The
 -- others are held back.
 abbrev pub limited : GName → ℕ → LinkState → LinkState
-limited name most link = record link { left = option_map (take most) link.left; limits = Limited name (held_back link.tells most link.left) link.limits }
+limited name most link = record link { left = option_map (take most) link.left; limits = Limited name (held_back link.tells most link.left) (link.given + most) link.limits }
 
 -- Where a link tells its bytes, so does the limited one.
 pub first_told : (most : ℕ) (left : Option (List ℕ)) → is_some left ≡ true → is_some (option_map (take most) left) ≡ true

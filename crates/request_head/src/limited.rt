@@ -1,5 +1,5 @@
 // A link whose input ends after so many bytes.
-ghost use Rattle.std.specs.Prelude.{◌≡◌, ◌^◌, ◌<◌};
+ghost use Rattle.std.specs.Prelude.{◌≡◌, ◌^◌, ◌<◌, nat_eq};
 ghost use Rattle.pktline_core.specs.Links.{IsLater};
 ghost use Rattle.request_head.specs.Limits.{TakesOf, first_told, limited};
 
@@ -21,6 +21,13 @@ impl<'a, L: Link> Limited<'a, L> {
         ensures state { ⟦<Limited<'a, L> as Endpoint>⟧.state result ≡ limited link.entry.ghost_name most (L.state link.old) }
     {
         Limited { link, most }
+    }
+
+    /// Whether all of these bytes were given.
+    pub fn is_spent(&self) -> bool
+        ensures { result ≡ nat_eq self.now.most 0 }
+    {
+        self.most == 0
     }
 }
 

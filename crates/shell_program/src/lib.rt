@@ -34,7 +34,7 @@ mod words;
 pub use keep::end_unopened;
 pub use laws::hold_laws;
 pub use lone::{Ended, lone_main};
-pub use posts::posts_at;
+pub use posts::{posts_at, unsent_at};
 pub use program::shell_main;
 pub use script::ScriptFault;
 pub use serve::print_served;

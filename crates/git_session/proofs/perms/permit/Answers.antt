@@ -9,23 +9,23 @@ use Rattle.git_session.proofs.perms.permit.Goals as goal
 
 pub returns-in-Changed-clause-runs : goal.returns-in-Changed-clause-runs
 unfolding perms_reply
-returns-in-Changed-clause-runs g c = permitted_then _ _ _ _ c.args.user.now c.args.repo.now c.args.change perms.Changed kept.Changed _ refl c.in-Changed.ensures.answers (c.tell.ensures.runs _)
+returns-in-Changed-clause-runs g c = permitted_then _ _ _ _ c.args.user.now c.args.repo.now c.args.change perms.Changed kept.Changed _ refl c.in-Changed.ensures.answers (c.write_line.ensures.runs _)
 
 pub returns-in-AlreadySo-clause-runs : goal.returns-in-AlreadySo-clause-runs
 unfolding perms_reply
-returns-in-AlreadySo-clause-runs g c = permitted_then _ _ _ _ c.args.user.now c.args.repo.now c.args.change perms.AlreadySo kept.AlreadySo _ refl c.in-AlreadySo.ensures.answers (c.tell-in-AlreadySo.ensures.runs _)
+returns-in-AlreadySo-clause-runs g c = permitted_then _ _ _ _ c.args.user.now c.args.repo.now c.args.change perms.AlreadySo kept.AlreadySo _ refl c.in-AlreadySo.ensures.answers (c.write_line-in-AlreadySo.ensures.runs _)
 
 pub returns-in-NotWild-clause-runs : goal.returns-in-NotWild-clause-runs
 unfolding perms_reply
-returns-in-NotWild-clause-runs g c = permitted_then _ _ _ _ c.args.user.now c.args.repo.now c.args.change perms.NotWild kept.NotWild _ refl c.in-NotWild.ensures.answers (c.tell-in-NotWild.ensures.runs _)
+returns-in-NotWild-clause-runs g c = permitted_then _ _ _ _ c.args.user.now c.args.repo.now c.args.change perms.NotWild kept.NotWild _ refl c.in-NotWild.ensures.answers (c.write_line-in-NotWild.ensures.runs _)
 
 pub returns-in-NotCreator-clause-runs : goal.returns-in-NotCreator-clause-runs
 unfolding perms_reply
-returns-in-NotCreator-clause-runs g c = permitted_then _ _ _ _ c.args.user.now c.args.repo.now c.args.change perms.NotCreator kept.NotCreator _ refl c.in-NotCreator.ensures.answers (c.tell-in-NotCreator.ensures.runs _)
+returns-in-NotCreator-clause-runs g c = permitted_then _ _ _ _ c.args.user.now c.args.repo.now c.args.change perms.NotCreator kept.NotCreator _ refl c.in-NotCreator.ensures.answers (c.write_line-in-NotCreator.ensures.runs _)
 
 pub returns-in-NoSuchRole-clause-runs : goal.returns-in-NoSuchRole-clause-runs
 unfolding perms_reply
-returns-in-NoSuchRole-clause-runs g c = permitted_then _ _ _ _ c.args.user.now c.args.repo.now c.args.change perms.NoSuchRole kept.NoSuchRole _ refl c.in-NoSuchRole.ensures.answers (c.tell-in-NoSuchRole.ensures.runs _)
+returns-in-NoSuchRole-clause-runs g c = permitted_then _ _ _ _ c.args.user.now c.args.repo.now c.args.change perms.NoSuchRole kept.NoSuchRole _ refl c.in-NoSuchRole.ensures.answers (c.write_line-in-NoSuchRole.ensures.runs _)
 
 pub returns-in-Listed-clause-runs : goal.returns-in-Listed-clause-runs
 unfolding perms_reply

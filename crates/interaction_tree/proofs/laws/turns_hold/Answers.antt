@@ -1,4 +1,4 @@
-use Rattle.interaction_tree.proofs.EndingLemmas.{runs_turn, ends_or_lacks}
+use Rattle.interaction_tree.proofs.EndingLemmas.{runs_turn, runs_turn_read, ends_or_lacks}
 use Rattle.interaction_tree.proofs.DeskLemmas.{makes_grows, makes_alone, others_not_own}
 use Rattle.interaction_tree.proofs.AnswerLemmas.{agrees_front, logged}
 use Rattle.interaction_tree.proofs.AloneLemmas.{alone_is}
@@ -27,3 +27,6 @@ returns-clause-sure g c = λ link link' own t halt reads writes turn. ends_or_la
 
 pub returns-clause-others : goal.returns-clause-others
 returns-clause-others g c = λ caller place log others within of_others. others_not_own caller place log others within of_others
+
+pub returns-clause-used : goal.returns-clause-used
+returns-clause-used g c = λ link link' desk desk' t halt ordered ran. runs_turn_read link link' desk desk' t halt ordered ran

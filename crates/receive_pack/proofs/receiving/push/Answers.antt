@@ -21,7 +21,7 @@ returns-in-Settled-clause-runs g c =
     pushed_then laws.one laws.openings _ _ _ _ c.args.pin c.args.capabilities c.args.pack c.args.commands c.in-Ok-reported_push.told c.in-Settled.outcomes _ _ c.policy.result.now c.policy-in-Settled.result.now _ c.requires.stands
     (λ patterns matching. subst (λ (conf : Conf). AreInForce patterns conf c.policy.result.now) (c.in-Ok.ensures.cases ∙ c.conf.ensures) (c.policy.ensures patterns matching))
     (λ patterns matching. c.policy-in-Settled.ensures patterns matching)
-    c.in-Ok-reported_push.ensures c.in-Settled.ensures.answers (c.tell.ensures.runs _)
+    c.in-Ok-reported_push.ensures c.in-Settled.ensures.answers (c.write_report.ensures.runs _)
 
 pub returns-clause-runs : goal.returns-clause-runs
 returns-clause-runs g c = rw c.in-NoMemory.ensures.answers.1 (memory_by _ _ _)

@@ -1,7 +1,7 @@
 use Rattle.std.proofs.lemmas.List.{append-nil}
 use Rattle.std.proofs.lemmas.Result.{err_from_is_err_and}
 use Rattle.session_core.proofs.StepLemmas.{says, says_exits}
-use Rattle.git_session.proofs.perms.tell.Goals as goal
+use Rattle.git_session.proofs.perms.write_line.Goals as goal
 
 pub returns-in_err-say-clause-runs : goal.returns-in_err-say-clause-runs
 returns-in_err-say-clause-runs g c = λ desk.

@@ -1,0 +1,4 @@
+pub mod End
+pub mod Requests
+pub mod Running
+pub mod Protocol
