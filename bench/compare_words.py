@@ -4,16 +4,16 @@
 Each of LISTS random lists (2,000, drawn from SEED, 1) is a command that is spelled right, mostly with one to three slips: words that are left out, doubled,
 swapped or changed, numbers that are out of their limits or have a sign or zeros, flags of another command, `--flag=value`, empty words, bytes that are no text,
 `--help`, `-h` and `--`. A list that is no command has to end with the usage and status 1, and one that is a command with any other status. A command that is
-taken does nothing here: its input is empty, its folder is a new one, and the port of `serve` is held, so that no client comes. It ends with 1 where a list is
+taken does nothing here: its input is empty, its folder is a new one, and the ports of `serve` and `http` are held, so that no client comes. It ends with 1 where a list is
 taken otherwise.
 """
 import os, random, re, socket, subprocess, sys, tempfile
 
-PORT = ("127.0.0.1", 9418)
-USAGE = b"usage: gitolite_shell script --admin NAME | serve --admin NAME --workers K --sessions N | check | load N START | keep --admin NAME | access\n"
+PORTS = 9418, 8418
+USAGE = b"usage: gitolite_shell script --admin NAME | serve --admin NAME --workers K --sessions N | http --admin NAME --workers K --sessions N | check | load N START | keep --admin NAME | access\n"
 
 # the commands: their options, and the limits of their numbers
-OPTIONS = {b"script": [b"--admin"], b"keep": [b"--admin"], b"serve": [b"--admin", b"--workers", b"--sessions"]}
+OPTIONS = {b"script": [b"--admin"], b"keep": [b"--admin"], b"serve": [b"--admin", b"--workers", b"--sessions"], b"http": [b"--admin", b"--workers", b"--sessions"]}
 LIMITS = {b"--workers": (1, 8), b"--sessions": (1, 1_000_000)}
 LOAD_LIMITS = [(1, 5_000), (0, 4_294_967_295)]
 
@@ -62,7 +62,7 @@ def is_command(words):
 USERS = [b"ann", b"a", b"Ann-1", b"a-._@+9", b"0", b"x" * 64, b"CREATORS"]
 NO_USERS = [b"", b".ann", b"-ann", b"x" * 65, b"CREATOR", b"READERS", b"ann bob", b"ann/bob", b"\xc3\xa4nn", b"ann\n", b"@all", b"--admin", b"="]
 OTHERS = [b"--help", b"-h", b"--version", b"-V", b"help", b"--", b"-", b"", b"-a", b"--admin", b"--admin=", b"--adm", b"--admins=ann", b"-admin", b"--workers", b"--workers=1", b"--sessions=1", b"--=1",
-          b"ann", b"1", b"=", b"\xff", b"check", b"script", b"Check", b" check", b"--admin=ann", b"\xc3\xa9", b"--sessions", b"--start=1", b"--count=1", b"-1"]
+          b"ann", b"1", b"=", b"\xff", b"check", b"script", b"http", b"https", b"Check", b" check", b"--admin=ann", b"\xc3\xa9", b"--sessions", b"--start=1", b"--count=1", b"-1"]
 
 
 def draw_number(draws, limits):
@@ -81,7 +81,7 @@ def draw_option(draws, flag):
 
 
 def draw_words(draws):
-    verb = draws.choice([b"script", b"keep", b"serve", b"serve", b"serve", b"load", b"load", b"check", b"access"])
+    verb = draws.choice([b"script", b"keep", b"serve", b"serve", b"http", b"http", b"load", b"load", b"check", b"access"])
     if verb in OPTIONS:
         flags = list(OPTIONS[verb])
         draws.shuffle(flags)
@@ -130,15 +130,21 @@ def is_taken(program, words, folder):
     return True if 0 <= ran.returncode <= 10 and USAGE not in ran.stdout else None
 
 
-def main(program, lists="2000", seed="1"):
-    draws, program, differ, taken = random.Random(int(seed)), os.path.abspath(program), 0, 0
+def hold(port):
+    """A socket that keeps a port from the program."""
     held = socket.socket()
     held.setsockopt(socket.SOL_SOCKET, socket.SO_REUSEADDR, 1)
     try:
-        held.bind(PORT)
+        held.bind(("127.0.0.1", port))
         held.listen()
     except OSError:
         pass  # somebody else holds it, which serves as well
+    return held
+
+
+def main(program, lists="2000", seed="1"):
+    draws, program, differ, taken = random.Random(int(seed)), os.path.abspath(program), 0, 0
+    held = [hold(port) for port in PORTS]
     for _ in range(int(lists)):
         words = draw_words(draws)
         with tempfile.TemporaryDirectory(prefix="compare-words-") as folder:
@@ -148,6 +154,8 @@ def main(program, lists="2000", seed="1"):
         if ours != theirs:
             differ += 1
             print("taken: %s, here: %s: %r" % (ours, theirs, words))
+    for socket_held in held:
+        socket_held.close()
     print("%s lists, %d of them commands, %d differ" % (lists, taken, differ))
     return 1 if differ else 0
 

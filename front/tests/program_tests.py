@@ -6,7 +6,7 @@ import subprocess
 from cerolimau.packets import packet
 
 SCRIPT = "script", "--admin", "admin"
-USAGE = b"usage: gitolite_shell script --admin NAME | serve --admin NAME --workers K --sessions N | check | load N START | keep --admin NAME | access\n"
+USAGE = b"usage: gitolite_shell script --admin NAME | serve --admin NAME --workers K --sessions N | http --admin NAME --workers K --sessions N | check | load N START | keep --admin NAME | access\n"
 EMPTY = b"session 0\n\n"
 SERVED = b"session 1 truncated 0\n\n"
 
@@ -25,7 +25,7 @@ def words(here):
     """Words that are no command."""
     for given in (), ("script",), ("script", "--admin"), ("script", "--admin", "a", "b"), ("--help",), ("-h",), ("help",), ("--version",), ("check", "a"):
         ends(here, given, 1, USAGE)
-    for given in ("script", "--admin", ""), ("script", "--admin", "-a"), ("serve", "--admin", "a"), ("check", "--admin"), ("Check",), ("load", "3"):
+    for given in ("script", "--admin", ""), ("script", "--admin", "-a"), ("serve", "--admin", "a"), ("http", "--admin", "a"), ("check", "--admin"), ("Check",), ("load", "3"):
         ends(here, given, 1, USAGE)
     for given in (b"\xff",), ("serve", "--admin", "a", "--workers", "9", "--sessions", "1"), ("load", "0", "1"), ("load", "5001", "1"), ("load", "01", "1"), ("serve", "--admin", "ann", "--workers", "1", "--sessions", "0"):
         ends(here, given, 1, USAGE)

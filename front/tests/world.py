@@ -13,7 +13,7 @@ FRONT = pathlib.Path(__file__).resolve().parent.parent
 sys.path.insert(0, str(FRONT))
 
 ADDRESS = "127.0.0.1", 9418
-HOST = "host", "--admin", "admin", "--journal"
+HOST = "host", "--admin", "admin", "--http-port", "8418", "--journal"
 SECONDS = 300  # that one command of a test may take
 CONF = """\
 @staff = ann bob

@@ -1,6 +1,5 @@
 //! A session whole: from its first packet to its end.
 //!
-//! - `buffer`: what sessions read their packets into;
 //! - `perms`: changes and listings of roles;
 //! - `info`: what there is to see;
 //! - `serving`: a session, by what its first packet asks for;
@@ -10,12 +9,10 @@
 //! The rules are in `docs/SESSIONS.md`.
 #![tactic(auto)]
 
-mod buffer;
 mod info;
 mod perms;
 mod protocol;
 mod serving;
 
-pub use buffer::SessionBuffer;
 pub use protocol::GitSessions;
 pub use serving::session;

@@ -1,41 +1,33 @@
 // Sessions, as a protocol.
 ghost use Rattle.git_session.specs.Protocol.{is_lack, sessions};
 
-use crate::buffer::SessionBuffer;
 use crate::serving::session;
 use hub::Desk;
 use pktline_core::Link;
-use session_core::{Gate, Protocol, SessionEnd};
+use session_core::{Gate, PacketBuffer, Protocol, SessionEnd};
 use std::alloc::Global;
 
 /// Serves each link by one session.
-#[derive(Drop)]
-pub struct GitSessions {
-    buffer: SessionBuffer,
-}
+#[derive(Clone, Copy, Debug)]
+pub struct GitSessions;
 
 impl Protocol for GitSessions {
     type End = SessionEnd;
 
-    ghost meaning = { sessions };
+    ghost meaning = { λ protocol. sessions };
 
-    fn new() -> GitSessions {
-        GitSessions {
-            buffer: SessionBuffer::new(),
-        }
-    }
-
-    fn is_out_of_memory(end: SessionEnd) -> bool {
+    fn is_out_of_memory(self, end: SessionEnd) -> bool {
         matches!(end, SessionEnd::NoMemory)
     }
 
     fn serve<L: Link, K: Desk, G: Gate>(
-        &mut self,
+        self,
         alloc: Global,
         link: &mut L,
         desk: &mut K,
         gate: &mut G,
+        buffer: &mut PacketBuffer,
     ) -> SessionEnd {
-        session(alloc, link, desk, gate, &mut self.buffer)
+        session(alloc, link, desk, gate, buffer)
     }
 }

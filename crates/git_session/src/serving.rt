@@ -11,14 +11,13 @@ ghost use Rattle.session_core.specs.Readers.{IsReady};
 ghost use Rattle.session_core.specs.Rulebook.{ByRulebook, RunsByRulebook};
 ghost use Rattle.git_session.specs.Session.{fetched_outcome, fetching_from, pushing_into, served, serving, session};
 
-use crate::buffer::SessionBuffer;
 use crate::info::look;
 use crate::perms::permit;
 use conf_lex::{RepoName, UserName};
 use hub::{Desk, Want};
 use pktline_core::{Link, PktReader};
 use receive_pack::receive;
-use session_core::{Asked, Gate, Service, SessionEnd, ask, enter};
+use session_core::{Asked, Gate, PacketBuffer, Service, SessionEnd, ask, enter};
 use std::alloc::Global;
 use upload_pack::{FetchEnd, upload};
 
@@ -124,7 +123,7 @@ pub fn session<L: Link, K: Desk, G: Gate>(
     link: &mut L,
     desk: &mut K,
     gate: &mut G,
-    buffer: &mut SessionBuffer,
+    buffer: &mut PacketBuffer,
 ) -> SessionEnd
     ensures turn { ByRulebook (K.view desk.old).admin (K.view desk.new).seen (λ book. TakesTurn (L.state link.old) (L.state link.new) (own_since (K.view desk.old) (K.view desk.new)) (session book ((K.view desk.old).admin)) (halt_of result)) }
     ensures tells { TellsEnd (L.state link.old) (L.state link.new) result }

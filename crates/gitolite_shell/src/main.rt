@@ -3,7 +3,7 @@
 #![tactic(auto)]
 
 use edge_links::{FileDisk, StdSink, StdSource};
-use shell_program::{Status, behind_name, posts_at, shell_main, words_given};
+use shell_program::{ServerProtocol, Status, add_posts, behind_name, shell_main, words_given};
 use std::alloc::Global;
 use std::env;
 use std::fs::{File, Files};
@@ -11,8 +11,10 @@ use std::io::BufReader;
 use std::net::TcpListener;
 use std::process::ExitCode;
 
-// Where the program serves.
-const ADDRESS: &str = "127.0.0.1:9418";
+// Where `serve` serves, and where `http` does.
+const GIT_ADDRESS: &str = "127.0.0.1:9418";
+
+const HTTP_ADDRESS: &str = "127.0.0.1:8418";
 
 // The file of `keep`, in the folder where the program runs.
 const JOURNAL: &str = "gitolite.journal";
@@ -20,11 +22,12 @@ const JOURNAL: &str = "gitolite.journal";
 // How many workers may serve at most.
 const POSTS: usize = 8;
 
-// How many posts the words want: all where they begin with `serve`, otherwise none.
-fn posts_wanted(words: &[String]) -> usize {
+// Where the words want to serve: nowhere where they begin neither with `serve` nor with `http`.
+fn address_wanted(words: &[String]) -> Option<&'static str> {
     match words.first() {
-        Some(word) if word.as_str() == "serve" => POSTS,
-        _ => 0,
+        Some(word) if word.as_str() == "serve" => Some(GIT_ADDRESS),
+        Some(word) if word.as_str() == "http" => Some(HTTP_ADDRESS),
+        _ => None,
     }
 }
 
@@ -54,14 +57,24 @@ fn main(rt: HostRuntime) -> ExitCode {
     let Ok(reader) = BufReader::new(alloc, rt.stdin()) else {
         return out_of_memory();
     };
-    let count = posts_wanted(words);
+    let mut count = 0;
     let mut listener = None;
-    if count > 0 {
-        listener = TcpListener::bind(&rt, ADDRESS).ok();
+    if let Some(address) = address_wanted(words) {
+        count = POSTS;
+        listener = TcpListener::bind(&rt, address).ok();
     }
-    let Ok(mut posts) = posts_at(alloc, count, listener.as_ref()) else {
+    let mut posts = Vec::new(alloc);
+    // what they serve is set by the command
+    let added = add_posts(
+        alloc,
+        &mut posts,
+        count,
+        listener.as_ref(),
+        ServerProtocol::Git,
+    );
+    if added.is_err() {
         return out_of_memory();
-    };
+    }
     let mut disk = disk_wanted(&rt, words);
     let mut input = StdSource::new(reader);
     let mut output = StdSink::new(rt.stdout());

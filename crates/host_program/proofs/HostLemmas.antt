@@ -22,9 +22,10 @@ use Rattle.hub_journal.specs.declared.open_fault.OpenFault.TheVariants as refusa
 use Rattle.hub_journal.proofs.JournalLemmas.{weaker}
 use Rattle.lasting_events.specs.Lasting.{lasting}
 use Rattle.lasting_events.proofs.LastingLemmas.{lasting_first}
-use Rattle.git_session.specs.Protocol as git
 use Rattle.session_workers.specs.declared.post.Post.{Post}
 use Rattle.session_workers.specs.ServesAll.{ServesAll}
+use Rattle.shell_program.specs.Protocols.{meaning_of}
+use Rattle.shell_program.specs.declared.protocols.ServerProtocol.{ServerProtocol}
 use Rattle.shell_program.specs.Keep.{EndsUnopened, IsStored}
 use Rattle.shell_program.specs.Serve.{StopsPrinting, served_line}
 use Rattle.shell_program.specs.declared.script.ScriptFault.{ScriptFault}
@@ -131,11 +132,11 @@ line_printed sink sink' line (Ok unit) ok err = ok
 line_printed sink sink' line (Err why) ok err = err
 
 -- the posts were served
-pub hosted : {L D G H : Type 0} (state : L → LinkState) (door : D → DoorState L) (each : ℕ) (old new : List (Post D G H)) (modeled : Bool) (hub : HubView) (writer : WriterState) (opened : DiskState) (first last : StoredView)
+pub hosted : {L D G H : Type 0} (state : L → LinkState) (door : D → DoorState L) (each : ℕ) (old new : List (Post D G H ServerProtocol)) (modeled : Bool) (hub : HubView) (writer : WriterState) (opened : DiskState) (first last : StoredView)
     (disk' : Option DiskState) (sink sink' : LinkState) (log : List Entry) (count : ℕ) (status : Status) (sessions : ℕ) (failed lacked broken : Bool) (printed : Result (Unit {0}) ScriptFault)
     → first.hub ≡ hub → first.start ≡ length hub.log → first.written ≡ length hub.log → first.store.stored ≡ length hub.log → first.store.writer ≡ writer → writer.broken ≡ false → first.store.disk ≡ opened
     → (IsTrue modeled → IsDurable (head_for hub.admin) (bodies_in hub.log) writer.end opened.file) → HasStored last → ContinuesStored modeled first last
-    → ServesAll git.sessions state door true (answered first) (answered last) old new each sessions failed lacked
+    → ServesAll meaning_of state door true (answered first) (answered last) old new each sessions failed lacked
     → log ≡ last.hub.log → count ≡ last.store.stored → disk' ≡ Some last.store.disk → broken ≡ last.store.writer.broken
     → Prints sink sink' (served_line sessions count) printed → status ≡ host_status broken printed failed lacked
     → Hosts state door hub.admin each old new (record { modeled = modeled; disk = opened; disk' = disk'; sink = sink; sink' = sink'; log = log; stored = count; status = status }) opened hub.log
@@ -147,8 +148,8 @@ hosted state door each old new modeled hub writer opened first last disk' sink s
       failed = failed;
       lacked = lacked;
       serves =
-          subst (λ (h : HubView). ServesAll git.sessions state door true (hub_of hub.admin hub.log) h old new each sessions failed lacked) (λ i. record { admin = on.on.admin i; log = take (sym count_is i) (sym log_is i) })
-          (subst (λ (h : HubView). ServesAll git.sessions state door true h (answered last) old new each sessions failed lacked) (ap answered same ∙ first_answered hub writer.end opened) serves);
+          subst (λ (h : HubView). ServesAll meaning_of state door true (hub_of hub.admin hub.log) h old new each sessions failed lacked) (λ i. record { admin = on.on.admin i; log = take (sym count_is i) (sym log_is i) })
+          (subst (λ (h : HubView). ServesAll meaning_of state door true h (answered last) old new each sessions failed lacked) (ap answered same ∙ first_answered hub writer.end opened) serves);
       disk' = last.store.disk;
       back = back;
       stores =
@@ -169,7 +170,7 @@ reported T (refusal.BadRecord offset) old new told = told
 reported T refusal.DiskFault old new told = told
 reported T refusal.NoMemory old new told = told
 
-module _ {L D G H : Type 0} (state : L → LinkState) (door : D → DoorState L) (admin : Name) (each : ℕ) (old new : List (Post D G H)) (run : HostRun) where
+module _ {L D G H : Type 0} (state : L → LinkState) (door : D → DoorState L) (admin : Name) (each : ℕ) (old new : List (Post D G H ServerProtocol)) (run : HostRun) where
   -- what is said of the end says nothing of the disk before it was opened
   none_behind : (opened : DiskState) → SharesNone state door admin each old new (record run { disk = opened }) → SharesNone state door admin each old new run
   none_behind opened none = record { gone = none.gone; status = none.status; unprinted = none.unprinted; unasked = none.unasked; no_log = none.no_log }

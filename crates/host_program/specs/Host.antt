@@ -15,12 +15,13 @@ use Rattle.hub_journal.specs.Events.{head_for}
 use Rattle.hub_journal.specs.Recovery.{AreEventsOf, IsNoJournal, ReportsFaults}
 use Rattle.hub_journal.specs.declared.open_fault.OpenFault.{OpenFault}
 use Rattle.lasting_events.specs.Lasting.{lasting}
-use Rattle.git_session.specs.Protocol as git
 use Rattle.session_workers.specs.declared.post.Post.{Post}
 use Rattle.session_workers.specs.ServesAll.{ServesAll}
 use Rattle.shell_program.specs.Keep.{EndsUnopened, IsStored}
+use Rattle.shell_program.specs.Protocols.{meaning_of}
 use Rattle.shell_program.specs.Serve.{StopsPrinting, served_line}
 use Rattle.shell_program.specs.Status.{served_status}
+use Rattle.shell_program.specs.declared.protocols.ServerProtocol.{ServerProtocol}
 use Rattle.shell_program.specs.declared.script.ScriptFault.{ScriptFault}
 use Rattle.shell_program.specs.declared.status.Status.{Status}
 use Rattle.shell_program.specs.declared.status.Status.TheVariants.{NoMemory, DiskFault}
@@ -100,10 +101,10 @@ TellsFault false old new = new.disk_faults ≡ old.disk_faults
 abbrev pub hub_of : Name → List Entry → HubView
 hub_of admin log = record { admin = admin; log = log }
 
-module _ {L D G H : Type 0} (state : L → LinkState) (door : D → DoorState L) (admin : Name) (each : ℕ) (old new : List (Post D G H)) (run : HostRun) where
+module _ {L D G H : Type 0} (state : L → LinkState) (door : D → DoorState L) (admin : Name) (each : ℕ) (old new : List (Post D G H ServerProtocol)) (run : HostRun) where
   -- no door was asked
   abbrev pub AsksNone : Type 0
-  AsksNone = (k : ℕ) (d : Post D G H) → (slice_index_or new k d).door ≡ (slice_index_or old k d).door
+  AsksNone = (k : ℕ) (d : Post D G H ServerProtocol) → (slice_index_or new k d).door ≡ (slice_index_or old k d).door
 
   -- The journal wasn't opened, for this reason. Whatever records the file held, a crash at each moment leaves
   -- them.
@@ -127,12 +128,12 @@ module _ {L D G H : Type 0} (state : L → LinkState) (door : D → DoorState L)
     pub unasked : AsksNone
     pub no_log : run.log ≡ []
 
-  -- The posts were served at the hub, and the log goes on from the one of the journal.
+  -- The posts were served at the hub, each by its protocol, and the log goes on from the one of the journal.
   pub record Hosts (opened : DiskState) (before : List Entry) : Type 0 where
     pub sessions : ℕ
     pub failed : Bool
     pub lacked : Bool
-    pub serves : ServesAll git.sessions state door true (hub_of admin before) (hub_of admin (take run.stored run.log)) old new each sessions failed lacked
+    pub serves : ServesAll meaning_of state door true (hub_of admin before) (hub_of admin (take run.stored run.log)) old new each sessions failed lacked
     pub disk' : DiskState
     pub back : run.disk' ≡ Some disk'
     pub stores : StoresEvents admin run.modeled opened disk' before run.log run.stored

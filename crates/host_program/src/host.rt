@@ -10,14 +10,15 @@ ghost use Rattle.host_program.specs.Host.{EndsHost, Hosts, SharesNone, host_stat
 
 use conf_lex::UserName;
 use edge_links::Door;
-use git_session::GitSessions;
 use hub::EntryList;
 use hub_journal::{OpenFault, Recovered, recover};
 use pktline_core::{Link, Sink};
 use record_file::Disk;
 use session_core::Gate;
 use session_workers::{Post, ServedAll, serve_all};
-use shell_program::{ScriptFault, Status, end_unopened, print_served, served_status};
+use shell_program::{
+    ScriptFault, ServerProtocol, Status, end_unopened, print_served, served_status,
+};
 use std::alloc::Global;
 use std::sync::Wait;
 use std::thread::Threads;
@@ -63,7 +64,7 @@ fn serve_open<
     rt: &R,
     alloc: Global,
     output: &mut O,
-    posts: &mut [Post<D, G, StoredHub<Y>>],
+    posts: &mut [Post<D, G, StoredHub<Y>, ServerProtocol>],
     each: u64,
     disk: Y,
     recovered: Recovered,
@@ -85,7 +86,7 @@ fn serve_open<
         sessions,
         door_failed,
         no_memory,
-    } = serve_all::<L, D, G, R, StoredHub<Y>, GitSessions>(rt, alloc, hub, posts, each);
+    } = serve_all::<L, D, G, R, StoredHub<Y>, ServerProtocol>(rt, alloc, hub, posts, each);
     let Some(hub) = hub else {
         return HostEnded {
             status: Status::NoMemory.number(),
@@ -129,8 +130,8 @@ fn end_refused<O: Sink, Y: Disk>(
     }
 }
 
-/// Serves the posts at the hub of this admin's journal, which is made where the disk's file is empty, each
-/// with a worker that serves so many links, and prints how many sessions there were and how many events the
+/// Serves the posts at the hub of this admin's journal, which is made where the disk's file is empty, each by
+/// its protocol and with a worker that serves so many links, and prints how many sessions there were and how many events the
 /// log has. An opening that made its repository, a push of which a command is done, and a change of roles that
 /// is done are stored before they are answered; granted openings for writing with the next of those. All
 /// other events change nothing, and aren't stored. A file that is no journal of this admin's hub is refused,
@@ -150,7 +151,7 @@ pub fn host_main<
     alloc: Global,
     admin: &UserName,
     output: &mut O,
-    posts: &mut [Post<D, G, StoredHub<Y>>],
+    posts: &mut [Post<D, G, StoredHub<Y>, ServerProtocol>],
     each: u64,
     disk: Y,
 ) -> HostEnded<Y>

@@ -6,6 +6,7 @@ use pktline_core::MemoryLink;
 use record_file::MemoryDisk;
 use session_core::OpenGate;
 use session_workers::Post;
+use shell_program::ServerProtocol;
 use std::alloc::Global;
 use std::process::Abort;
 use std::sync::Wait;
@@ -29,7 +30,7 @@ const TRAILER: [u8; 20] = [
 // How many links each of the two doors has.
 const LINKS: usize = 2;
 
-type MemoryPost = Post<MemoryDoor<MemoryLink>, OpenGate, StoredHub<MemoryDisk>>;
+type MemoryPost = Post<MemoryDoor<MemoryLink>, OpenGate, StoredHub<MemoryDisk>, ServerProtocol>;
 
 // What came of a run, and how many events are found again.
 #[derive(Drop)]
@@ -69,7 +70,7 @@ fn posts_of(alloc: Global, input: &[u8]) -> Result<Vec<MemoryPost>, NoMemory> {
             links.push(memory_link(alloc, input.to_vec(alloc)?))?;
         }
         let door = MemoryDoor::new(alloc, links, Vec::new(alloc))?;
-        posts.push(Post::new(door, OpenGate))?;
+        posts.push(Post::new(door, OpenGate, ServerProtocol::Git))?;
     }
     Ok(posts)
 }
@@ -181,7 +182,7 @@ fn stopped_after_each_call(rt: HostRuntime) {
         let pushed = links.push(memory_link(alloc, input));
         pushed.expect(&rt, "memory for a link");
         let door = MemoryDoor::new(alloc, links, Vec::new(alloc)).expect(&rt, "memory for a door");
-        let pushed = posts.push(Post::new(door, OpenGate));
+        let pushed = posts.push(Post::new(door, OpenGate, ServerProtocol::Git));
         pushed.expect(&rt, "memory for a post");
     }
     assert!(rt; posts.len() == 4);
@@ -259,17 +260,69 @@ fn a_full_disk(rt: HostRuntime) {
     assert!(rt; found == 0);
 }
 
-// The words of a call, its name first, and what they come to: workers, port, sessions; of `report` three
-// zeros.
-fn words(rt: &impl Abort, alloc: Global, words: &[&str]) -> Option<(usize, u16, u64)> {
+// A request for the refs of the repository of `push_input`.
+const REQUEST: &[u8] =
+    b"GET /testing/info/refs?service=git-upload-pack HTTP/1.1\r\nHost: a\r\nX-Git-User: carol\r\n\r\n";
+
+// What one post is told whose client writes this, by this protocol at this disk, and the disk behind it.
+fn told<R: Abort + Threads + Wait + Sync>(
+    rt: &R,
+    alloc: Global,
+    protocol: ServerProtocol,
+    input: &[u8],
+    disk: MemoryDisk,
+) -> (Vec<u8>, MemoryDisk) {
+    let admin = admin(rt, alloc);
+    let input = input.to_vec(alloc).expect(rt, "memory for an input");
+    let links = vec![in alloc; memory_link(alloc, input)].expect(rt, "memory for a link");
+    let door = MemoryDoor::new(alloc, links, Vec::new(alloc)).expect(rt, "memory for a door");
+    let mut posts: Vec<MemoryPost> = Vec::new(alloc);
+    let pushed = posts.push(Post::new(door, OpenGate, protocol));
+    pushed.expect(rt, "memory for a post");
+    assert!(rt; posts.len() == 1);
+    let mut output = memory_link(alloc, Vec::new(alloc));
+    let ended = host_main(rt, alloc, &admin, &mut output, &mut posts, 1, disk);
+    assert!(rt; ended.status == 0);
+    let link = posts[0]
+        .door
+        .served()
+        .get(0)
+        .expect(rt, "a link that was given back");
+    let written = link
+        .written()
+        .to_vec(alloc)
+        .expect(rt, "memory for a reply");
+    (written, ended.disk.expect(rt, "memory to share a hub"))
+}
+
+// A request is told what a session pushed before the server was started again.
+#[test]
+fn a_request_is_told_what_a_session_pushed(rt: HostRuntime) {
+    let alloc = rt.alloc();
+    let disk = MemoryDisk::new(alloc, Vec::new(alloc), 4000, Vec::new(alloc));
+    let disk = disk.expect(&rt, "memory for a disk");
+    let input = push_input(alloc).expect(&rt, "memory for a push");
+    let (report, disk) = told(&rt, alloc, ServerProtocol::Git, &input, disk);
+    assert!(rt; report.ends_with(b"000eunpack ok\n0019ok refs/heads/master\n0000"));
+    let (response, _) = told(&rt, alloc, ServerProtocol::Http, REQUEST, disk);
+    assert!(rt; response.starts_with(b"HTTP/1.1 200 OK\r\n"));
+    assert!(rt;
+        response.ends_with(b"003f1c73cda3964d5dd51bdaad94efd235c910cf59de refs/heads/master\n0000")
+    );
+}
+
+// The words of a call, its name first, and what they come to: workers, ports, sessions; of `report` zeros.
+fn words(rt: &impl Abort, alloc: Global, words: &[&str]) -> Option<(usize, u16, Option<u16>, u64)> {
     let mut given = Vec::new(alloc);
     for word in words {
         let word = String::from_str(alloc, word).expect(rt, "memory for a word");
         given.push(word).expect(rt, "memory for words");
     }
     match read_words(alloc, given.as_slice()) {
-        Ok(ProgramWords::Host(words)) => Some((words.workers, words.port, words.sessions)),
-        Ok(ProgramWords::Report) => Some((0, 0, 0)),
+        Ok(ProgramWords::Host(words)) => {
+            Some((words.workers, words.port, words.http_port, words.sessions))
+        },
+        Ok(ProgramWords::Report) => Some((0, 0, None, 0)),
         Err(_) => None,
     }
 }
@@ -278,7 +331,7 @@ fn words(rt: &impl Abort, alloc: Global, words: &[&str]) -> Option<(usize, u16, 
 fn words_of_host(rt: HostRuntime) {
     let alloc = rt.alloc();
     let few = words(&rt, alloc, &["cerolimau", "host", "--admin", "root"]);
-    assert!(rt; few == Some((8, 9418, 1_000_000_000_000_000)));
+    assert!(rt; few == Some((8, 9418, None, 1_000_000_000_000_000)));
     let all = [
         "cerolimau",
         "host",
@@ -287,12 +340,15 @@ fn words_of_host(rt: HostRuntime) {
         "2",
         "--port",
         "80",
+        "--http-port=81",
         "--sessions",
         "7",
     ];
-    assert!(rt; words(&rt, alloc, &all) == Some((2, 80, 7)));
+    assert!(rt; words(&rt, alloc, &all) == Some((2, 80, Some(81), 7)));
+    let far = ["cerolimau", "host", "--admin=root", "--http-port=65536"];
+    assert!(rt; words(&rt, alloc, &far) == None);
     assert!(rt; words(&rt, alloc, &["cerolimau", "host"]) == None);
     assert!(rt; words(&rt, alloc, &["cerolimau", "--help"]) == None);
-    assert!(rt; words(&rt, alloc, &["cerolimau", "report"]) == Some((0, 0, 0)));
+    assert!(rt; words(&rt, alloc, &["cerolimau", "report"]) == Some((0, 0, None, 0)));
     assert!(rt; words(&rt, alloc, &["cerolimau", "report", "a"]) == None);
 }

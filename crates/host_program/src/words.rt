@@ -23,6 +23,8 @@ pub struct HostWords {
     pub admin: UserName,
     pub workers: usize,
     pub port: u16,
+    /// The port where requests are served too, if there is one.
+    pub http_port: Option<u16>,
     /// The path of the journal's file.
     pub journal: String,
     /// How many sessions each worker serves.
@@ -52,7 +54,7 @@ fn workers_arg<'a>(alloc: Global) -> Arg<'a> {
         .value_name("K")
         .value_parser(value_parser!(u64).range(1..=1_000))
         .default_value("8")
-        .help("How many clients are served at once")
+        .help("How many clients are served at once at each port")
 }
 
 fn port_arg<'a>(alloc: Global) -> Arg<'a> {
@@ -62,6 +64,14 @@ fn port_arg<'a>(alloc: Global) -> Arg<'a> {
         .value_parser(value_parser!(u16))
         .default_value("9418")
         .help("The port of 127.0.0.1 where it listens")
+}
+
+fn http_port_arg<'a>(alloc: Global) -> Arg<'a> {
+    Arg::new(alloc, "http-port")
+        .long("http-port")
+        .value_name("P")
+        .value_parser(value_parser!(u16))
+        .help("The port of 127.0.0.1 where it serves smart HTTP [default: none]")
 }
 
 fn journal_arg<'a>(alloc: Global) -> Arg<'a> {
@@ -77,7 +87,7 @@ fn sessions_arg<'a>(alloc: Global) -> Arg<'a> {
         .long("sessions")
         .value_name("N")
         .value_parser(value_parser!(u64).range(1..=1_000_000_000_000_000))
-        .help("How many sessions each worker serves [default: without end]")
+        .help("How many connections each worker serves [default: without end]")
 }
 
 fn host_command<'a>(alloc: Global) -> Result<Command<'a>, AllocError> {
@@ -87,6 +97,7 @@ fn host_command<'a>(alloc: Global) -> Result<Command<'a>, AllocError> {
     let host = host.arg(admin_arg(alloc))?;
     let host = host.arg(workers_arg(alloc))?;
     let host = host.arg(port_arg(alloc))?;
+    let host = host.arg(http_port_arg(alloc))?;
     let host = host.arg(journal_arg(alloc))?;
     host.arg(sessions_arg(alloc))
 }
@@ -161,6 +172,7 @@ fn words_of(alloc: Global, given: &ArgMatches<'_>) -> Result<HostWords, Error>
         admin,
         workers: workers_in(given),
         port,
+        http_port: given.get_one::<u16>("http-port"),
         journal,
         sessions: sessions_in(given),
     })

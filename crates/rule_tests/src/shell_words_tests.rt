@@ -1,10 +1,10 @@
 // What rows of words are read as. In a row the words are divided by spaces.
-use shell_words::{Asked, USAGE, WordsFault, hold_laws, read_words};
+use shell_words::{Asked, Transport, USAGE, WordsFault, hold_laws, read_words};
 use std::alloc::Global;
 use std::str;
 use std::test::Fail;
 
-const ROWS: [(&str, &str); 49] = [
+const ROWS: [(&str, &str); 54] = [
     ("script --admin ann", "script ann"),
     ("script --admin=ann", "script ann"),
     ("script --admin=a-._@+9", "script a-._@+9"),
@@ -20,6 +20,14 @@ const ROWS: [(&str, &str); 49] = [
         "serve --workers=3 --admin ann --sessions 20",
         "serve ann 3 20",
     ),
+    (
+        "http --workers=3 --admin ann --sessions 20",
+        "http ann 3 20",
+    ),
+    ("http --sessions 1 --workers=8 --admin ann", "http ann 8 1"),
+    ("http --admin ann --workers 8", "usage"),
+    ("http --admin ann --workers 9 --sessions 1", "usage"),
+    ("https --admin ann --workers 8 --sessions 1", "usage"),
     ("check", "check"),
     ("keep --admin ann", "keep ann"),
     ("keep", "usage"),
@@ -76,13 +84,18 @@ fn shown(alloc: Global, read: Result<Asked, WordsFault>) -> Result<String, Fail>
         }
         Ok(
             Asked::Serve {
+                transport,
                 admin,
                 workers,
                 sessions,
             },
         ) => {
+            let verb = match transport {
+                Transport::Git => "serve",
+                Transport::Http => "http",
+            };
             format!(in alloc;
-                "serve {} {workers} {sessions}",
+                "{verb} {} {workers} {sessions}",
                 str::from_utf8(admin.bytes())?
             )?
         }

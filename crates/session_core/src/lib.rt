@@ -7,6 +7,7 @@
 //! - `denials`: the texts of denials;
 //! - `opening`: an opening;
 //! - `gate`: what stands between an opening and what follows;
+//! - `buffer`: what packets are read into;
 //! - `protocol`: what a worker serves over a link;
 //! - `laws`: what holds of the rules by which a session is told its denials.
 //!
@@ -14,6 +15,7 @@
 #![tactic(auto)]
 
 mod asking;
+mod buffer;
 mod denials;
 mod end;
 mod first_packet;
@@ -25,6 +27,7 @@ mod packets;
 mod protocol;
 
 pub use asking::ask;
+pub use buffer::PacketBuffer;
 pub use denials::{fitting, push_denial, shown};
 pub use end::SessionEnd;
 pub use first_packet::{Asked, FirstLine, Service, first_line};

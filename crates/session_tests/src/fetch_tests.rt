@@ -1,10 +1,10 @@
 // Fetches up to their limits, and fetches that are cut off. The shipped script has the rows of what each is
 // told.
 use crate::git_session_tests::{new_desk, serve};
-use git_session::{SessionBuffer, session};
+use git_session::session;
 use hub::{LoneDesk, NoMemory};
 use pktline_core::MemoryLink;
-use session_core::{OpenGate, SessionEnd};
+use session_core::{OpenGate, PacketBuffer, SessionEnd};
 use session_samples::first_push;
 use std::alloc::Global;
 use std::test::Fail;
@@ -105,7 +105,7 @@ fn fetch_failing(
         &mut link,
         desk,
         &mut OpenGate,
-        &mut SessionBuffer::new(),
+        &mut PacketBuffer::new(),
     );
     Ok((end, link.written().len()))
 }

@@ -1,9 +1,9 @@
 // Sessions over a link of memory and the only desk of a new hub.
 use conf_lex::UserName;
-use git_session::{SessionBuffer, session};
+use git_session::session;
 use hub::{EnterKept, Hub, LoneDesk, NoMemory, Verdict};
 use pktline_core::{Link, MemoryLink};
-use session_core::{Gate, OpenGate, SessionEnd};
+use session_core::{Gate, OpenGate, PacketBuffer, SessionEnd};
 use session_samples::{OPENING, first_push, is_answered};
 use std::alloc::Global;
 use std::test::Fail;
@@ -29,7 +29,7 @@ pub fn serve(
         &mut link,
         desk,
         &mut OpenGate,
-        &mut SessionBuffer::new(),
+        &mut PacketBuffer::new(),
     );
     let written = link.written().to_vec(alloc)?;
     Ok((end, written))
@@ -68,7 +68,7 @@ fn serve_failing(
         &mut link,
         &mut desk,
         &mut OpenGate,
-        &mut SessionBuffer::new(),
+        &mut PacketBuffer::new(),
     );
     let written = link.written().len();
     Ok((end, written, desk.into_hub().into_log().len()))
@@ -130,7 +130,7 @@ fn a_denial_is_in_the_log(rt: HostRuntime) -> Result<(), Fail> {
 fn the_gate_stands_between_an_opening_and_what_is_written(rt: HostRuntime) -> Result<(), Fail> {
     let alloc = rt.alloc();
     let mut desk = new_desk(alloc)?;
-    let mut buffer = SessionBuffer::new();
+    let mut buffer = PacketBuffer::new();
     let mut gate = LastPlace {
         calls: 0,
         place: None,

@@ -3,9 +3,9 @@ use crate::git_session_tests::new_desk;
 use hub::{EnterKept, LoneDesk, NoMemory, Verdict};
 use pktline_core::MemoryLink;
 use request_head::HttpFault;
-use session_core::SessionEnd;
+use session_core::{PacketBuffer, SessionEnd};
 use session_samples::{DONE, EMPTY, MASTER, first_push, is_answered};
-use smart_http::{HttpEnd, RequestBuffer, serve_http};
+use smart_http::{HttpEnd, serve_http};
 use std::alloc::Global;
 use std::test::Fail;
 
@@ -60,7 +60,7 @@ fn serve(
         takes.to_vec(alloc)?,
         puts.to_vec(alloc)?,
     );
-    let end = serve_http(alloc, &mut link, desk, &mut RequestBuffer::new());
+    let end = serve_http(alloc, &mut link, desk, &mut PacketBuffer::new());
     let written = link.written().to_vec(alloc)?;
     Ok((end, written))
 }

@@ -15,13 +15,13 @@ use Rattle.shared_hub.specs.contracts.shared.SharedHub as SharedHub
 use Rattle.shared_hub.proofs.Crosses.{kept_send, shared_sync}
 use Rattle.session_workers.specs.contracts.post.Post as Post
 
-pub post_send : (D G H : RattleType) (ghosts : Ghosts H.Denot) → IsSend D → IsSend G → IsSend H → IsSend (Post.the_row D G H ghosts)
-post_send D G H ghosts d g h =
-    let fields = struct_send (shape (Post.the_type D G H ghosts)) (
+pub post_send : (D G H P : RattleType) (ghosts : Ghosts H.Denot) → IsSend D → IsSend G → IsSend H → IsSend P → IsSend (Post.the_row D G H P ghosts)
+post_send D G H P ghosts d g h p =
+    let fields = struct_send (shape (Post.the_type D G H P ghosts)) (
       search (d, sendable) depth 30,
-      (search (g, sendable) depth 30, (search (pass_send, kept_send, sendable) depth 60, (search sendable depth 60, tt))),
+      (search (g, sendable) depth 30, (search (p, sendable) depth 30, (search (pass_send, kept_send, sendable) depth 60, (search sendable depth 60, tt)))),
     ) in
-    recorded_send _ _ _ (Post.the_type D G H ghosts).to_one fields
+    recorded_send _ _ _ (Post.the_type D G H P ghosts).to_one fields
 
 -- what the workers' closure has taken: references to the runtime, the allocator, the hub and a number
 abbrev pub taken : NamedLft → NamedLft → NamedLft → NamedLft → (R H : RattleType) → Ghosts H.Denot → RattleType → List RattleType

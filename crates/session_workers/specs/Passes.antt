@@ -24,19 +24,23 @@ abbrev pub HoldsFresh : {H : Type 0} → TableId → Option (PassState (KeptEntr
 HoldsFresh lock None = ⊥
 HoldsFresh lock (Some pass) = IsFresh lock pass
 
+-- what a post has for good
+abbrev pub place_of : {D G H P : Type 0} → Post D G H P → D × P
+place_of post = (post.door, post.protocol)
+
 -- the post has a pass with which its worker may begin
-abbrev pub MayWork : {D G H : Type 0} → TableId → Post D G H → Type 0
+abbrev pub MayWork : {D G H P : Type 0} → TableId → Post D G H P → Type 0
 MayWork lock post = HoldsFresh lock post.pass
 
--- what the worker of a post did with the post's pass and at its door
-pub record HasWorkedAt {L D G H E : Type 0} (protocol : Meaning E) (state : L → LinkState) (door : D → DoorState L) (may_stop : Bool) (each : ℕ) (old new : Post D G H) : Type 0 where
+-- what the worker of a post did with the post's pass and at its door, by the post's protocol
+pub record HasWorkedAt {L D G H P E : Type 0} (meaning : P → Meaning E) (state : L → LinkState) (door : D → DoorState L) (may_stop : Bool) (each : ℕ) (old new : Post D G H P) : Type 0 where
   pub began : PassState (KeptEntry H)
   pub ended : PassState (KeptEntry H)
   pub had : old.pass ≡ Some began
   pub has : new.pass ≡ Some ended
   pub same_pass : IsSamePass began ended
   pub hub : IsHubPass ended
-  pub worked : HasWorked protocol state may_stop (admin_in began.at_new) began.caller (length (log_at_new began)) (log_seen ended) each (door old.door) (door new.door) new.tally
+  pub worked : HasWorked (meaning old.protocol) state may_stop (admin_in began.at_new) began.caller (length (log_at_new began)) (log_seen ended) each (door old.door) (door new.door) new.tally
 
 -- the pass of a place as it is handed out, where so many were made
 abbrev pub pass_at : {H : Type 0} → TableId → List (KeptEntry H) → ℕ → ℕ → PassState (KeptEntry H)
@@ -65,6 +69,6 @@ pub record IsWhole {H : Type 0} (lock : TableId) (list : List (KeptEntry H)) (ma
   pub hub : IsHubPass pass
 
 -- a post as it is while no worker runs: without a pass, and with nothing counted
-pub record IsIdle {D G H : Type 0} (post : Post D G H) : Type 0 where
+pub record IsIdle {D G H P : Type 0} (post : Post D G H P) : Type 0 where
   pub no_pass : post.pass ≡ None
-  pub none_counted : post.tally ≡ record { sessions = 0; door_failed = false; no_memory = false }
+  pub none_counted : post.tally ≡ record { sessions = 0; door_failed = false; no_memory = false; stopped = false }

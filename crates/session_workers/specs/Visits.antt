@@ -1,6 +1,6 @@
 -- What a worker does at its door.
-use Rattle.std.specs.Prelude.{◌≡◌, ⊤, ◌⊎◌, ◌&&◌, ℕ, ◌≤◌, Bool, IsTrue, true, false, List, [], ◌∷◌, ◌++◌, length, map, Option, None, Some}
-use Rattle.std.specs.List.{list_any}
+use Rattle.std.specs.Prelude.{◌≡◌, ⊤, ◌⊎◌, ◌&&◌, ℕ, ◌≤◌, Bool, IsTrue, true, false, List, [], ◌∷◌, ◌++◌, length, map, not, Option, None, Some}
+use Rattle.std.specs.List.{AllByRecursion, list_any}
 use Rattle.base_types.specs.Counts.{HasRisen}
 use Rattle.pktline_core.specs.LinkState.{LinkState}
 use Rattle.edge_links.specs.Door.{DoorState, KeepsList}
@@ -15,10 +15,12 @@ use Rattle.session_workers.specs.Served.{IsSession, Served, ServedLink}
 
 -- link, back: a link as its door gave it, and as it was given back
 -- end: how its session ended
+-- stopped: whether it ended so because the hub has stopped
 pub record Visit (L E : Type 0) : Type 0 where
   pub link : L
   pub back : L
   pub end : E
+  pub stopped : Bool
 
 abbrev pub served_link : {L E : Type 0} → (L → LinkState) → Visit L E → ServedLink E
 served_link state visit = record { given = state visit.link; back = state visit.back; end = visit.end }
@@ -29,9 +31,17 @@ link_of visit = visit.link
 abbrev pub back_of : {L E : Type 0} → Visit L E → L
 back_of visit = visit.back
 
--- whether memory ran out in one of the sessions
+-- whether memory ran out in one of the sessions, which the hub hadn't stopped
 abbrev pub have_lacked : {L E : Type 0} → Meaning E → List (Visit L E) → Bool
-have_lacked protocol visits = list_any (λ v. protocol.lacks v.end) visits
+have_lacked protocol visits = list_any (λ v. not v.stopped && protocol.lacks v.end) visits
+
+-- whether the hub stopped one of them
+abbrev pub have_stopped : {L E : Type 0} → List (Visit L E) → Bool
+have_stopped visits = list_any (λ v. v.stopped) visits
+
+-- only a hub that may stop stops a session, which then ends as one without memory
+abbrev pub StopsAtLack : {L E : Type 0} → Meaning E → Bool → Visit L E → Type 0
+StopsAtLack protocol may_stop visit = IsTrue visit.stopped → IsTrue (may_stop && protocol.lacks visit.end)
 
 -- a told list began with these links, and lost them
 abbrev pub LosesFront : {L : Type 0} → Option (List L) → Option (List L) → List L → Type 0
@@ -76,8 +86,8 @@ pub record HasServed {L E : Type 0} (protocol : Meaning E) (state : L → LinkSt
   pub served : Served protocol admin caller start log (map (served_link state) visits)
   pub faults : old.faults ≤ new.faults
 
--- the door failed; or it didn't, and as many were served as were asked for, or it is closed, or the hub may
--- have stopped
+-- the door failed; or it didn't, and as many were served as were asked for, or it is closed, or the hub has
+-- stopped
 abbrev pub HasDone : {L : Type 0} → Bool → DoorState L → DoorState L → ℕ → ℕ → Bool → Type 0
 HasDone stopped old new each count true = HasRisen old.faults new.faults
 HasDone stopped old new each count false = ((count ≡ each) ⊎ (new.closed ≡ true) ⊎ IsTrue stopped) × (new.faults ≡ old.faults)
@@ -86,12 +96,13 @@ HasDone stopped old new each count false = ((count ≡ each) ⊎ (new.closed ≡
 pub record IsTally {L E : Type 0} (protocol : Meaning E) (visits : List (Visit L E)) (tally : Tally) : Type 0 where
   pub sessions : tally.sessions ≡ length visits
   pub no_memory : tally.no_memory ≡ have_lacked protocol visits
+  pub stopped : tally.stopped ≡ have_stopped visits
 
--- What a worker did: its visits, and whether it was done. A hub that may stop may have done so where a
--- session ended out of memory
+-- What a worker did: its visits, and whether it was done.
 pub record HasWorked {L E : Type 0} (protocol : Meaning E) (state : L → LinkState) (may_stop : Bool) (admin : Name) (caller start : ℕ) (log : List Entry) (each : ℕ) (old new : DoorState L) (tally : Tally) : Type 0 where
   pub visits : List (Visit L E)
   pub served : HasServed protocol state admin caller start log old new visits
   pub is_tally : IsTally protocol visits tally
-  pub done : HasDone (may_stop && tally.no_memory) old new each tally.sessions tally.door_failed
+  pub stops : AllByRecursion (StopsAtLack protocol may_stop) visits
+  pub done : HasDone tally.stopped old new each tally.sessions tally.door_failed
   pub most : tally.sessions ≤ each

@@ -25,12 +25,12 @@ pub struct ServedAll<H> {
     pub sessions: u64,
     /// Whether a door failed.
     pub door_failed: bool,
-    /// Whether memory lacked: in a session, or to share the hub.
+    /// Whether memory lacked: in a session, if it wasn't ended by a hub that has stopped, or to share the hub.
     pub no_memory: bool,
 }
 
 // How many links all posts served.
-fn sessions_of<D, G, H: EventHub>(posts: &[Post<D, G, H>]) -> u64
+fn sessions_of<D, G, H: EventHub, P>(posts: &[Post<D, G, H, P>]) -> u64
     requires { sum_by (λ p. p.tally.sessions) posts.now < 2 ^ 64 }
     ensures { result ≡ sum_by (λ p. p.tally.sessions) posts.now }
 {
@@ -38,14 +38,14 @@ fn sessions_of<D, G, H: EventHub>(posts: &[Post<D, G, H>]) -> u64
 }
 
 // Whether a post's door failed.
-fn have_failed<D, G, H: EventHub>(posts: &[Post<D, G, H>]) -> bool
+fn have_failed<D, G, H: EventHub, P>(posts: &[Post<D, G, H, P>]) -> bool
     ensures { result ≡ list_any (λ p. p.tally.door_failed) posts.now }
 {
     posts.iter().any(|post| post.tally.door_failed)
 }
 
 // Whether memory lacked in a session of a post.
-fn have_lacked<D, G, H: EventHub>(posts: &[Post<D, G, H>]) -> bool
+fn have_lacked<D, G, H: EventHub, P>(posts: &[Post<D, G, H, P>]) -> bool
     ensures { result ≡ list_any (λ p. p.tally.no_memory) posts.now }
 {
     posts.iter().any(|post| post.tally.no_memory)
@@ -63,12 +63,13 @@ fn without_memory<H>() -> ServedAll<H>
     }
 }
 
-/// Serves the links of all posts over one hub, each post by a worker, on a thread of its own where the system
+/// Serves the links of all posts over one hub, each post by its protocol and a worker, on a thread of its own where the system
 /// gives one (one of them runs on the caller's). A worker ends once it has served so many, its door is closed
 /// or its door fails, and behind a session that the stopped hub ended. Entries that a post's sessions log
 /// bear its place as their number.
 ///
-/// A link's fault, or want of memory in a session, ends that session alone. The turn of the hub is taken once
+/// A link's fault, or want of memory in a session, ends that session alone. A session that a stopped hub ended
+/// ends as one without memory, and isn't counted as such. The turn of the hub is taken once
 /// for each entry. Memory for the lock and the passes is taken first.
 pub fn serve_all<
     L: Link + Send,
@@ -77,7 +78,7 @@ pub fn serve_all<
     R: Threads + Wait + Sync,
     H: EventHub + Send + Drop,
     P: Protocol + Send,
->(rt: &R, alloc: Global, hub: H, posts: &mut [Post<D, G, H>], each: u64) -> ServedAll<H>
+>(rt: &R, alloc: Global, hub: H, posts: &mut [Post<D, G, H, P>], each: u64) -> ServedAll<H>
 where
     P::End: Send,
     requires few { length posts.old < 2 ^ 32 }

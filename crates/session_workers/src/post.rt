@@ -12,28 +12,32 @@ use std::sync::Wait;
 use std::thread;
 use std::thread::Threads;
 
-/// One worker's place: its door and its gate.
+/// One worker's place: its door, its gate, and what it serves.
 #[derive(Drop)]
-pub struct Post<D, G, H: EventHub> {
+pub struct Post<D, G, H: EventHub, P> {
     /// Where its links come from, and where they go.
     pub door: D,
     /// Called in each of its sessions behind an opening that was granted.
     pub gate: G,
+    /// What is served over each of its links.
+    pub protocol: P,
     // From where the worker is sent to its thread up to where its pass is joined; none before and after.
     pub(crate) pass: Option<SharedPass<H>>,
     pub(crate) tally: Tally,
 }
 
-impl<D, G, H: EventHub> Post<D, G, H> {
-    /// A post with this door and this gate. It takes no memory.
-    pub fn new(door: D, gate: G) -> Post<D, G, H>
+impl<D, G, H: EventHub, P> Post<D, G, H, P> {
+    /// A post with this door, this gate and this protocol. It takes no memory.
+    pub fn new(door: D, gate: G, protocol: P) -> Post<D, G, H, P>
         ensures door { result.door ≡ door }
         ensures gate { result.gate ≡ gate }
+        ensures protocol { result.protocol ≡ protocol }
         ensures idle { IsIdle result }
     {
         Post {
             door,
             gate,
+            protocol,
             pass: None,
             tally: Tally::NONE,
         }
@@ -45,7 +49,7 @@ fn serve_post<L: Link, D: Door<L>, G: Gate, R: Wait, H: EventHub, P: Protocol>(
     rt: &R,
     alloc: Global,
     hub: &SharedHub<H>,
-    post: &mut Post<D, G, H>,
+    post: &mut Post<D, G, H, P>,
     each: u64,
 )
     requires { MayWork hub.now post.old }
@@ -59,6 +63,7 @@ fn serve_post<L: Link, D: Door<L>, G: Gate, R: Wait, H: EventHub, P: Protocol>(
         alloc,
         hub,
         pass,
+        post.protocol,
         &mut post.door,
         &mut post.gate,
         each,
@@ -75,7 +80,7 @@ pub fn serve_posts<
     R: Threads + Wait + Sync,
     H: EventHub + Send,
     P: Protocol + Send,
->(rt: &R, alloc: Global, hub: &SharedHub<H>, posts: &mut [Post<D, G, H>], each: u64)
+>(rt: &R, alloc: Global, hub: &SharedHub<H>, posts: &mut [Post<D, G, H, P>], each: u64)
 where
     P::End: Send,
     requires some { 0 < length posts.old }
@@ -83,7 +88,7 @@ where
     ensures worked { (k : ℕ) (d : _) → k < length posts.old → HasWorkedAt P.meaning L.state D.state H.may_stop each (slice_index_or posts.old k d) (slice_index_or posts.new k d) }
 {
     let threads = posts.len();
-    let worker = |_index: usize, post: &mut Post<D, G, H>|
+    let worker = |_index: usize, post: &mut Post<D, G, H, P>|
         requires { MayWork hub.now post.old }
         ensures { HasWorkedAt P.meaning L.state D.state H.may_stop each post.old post.new }
     { serve_post::<L, D, G, R, H, P>(rt, alloc, hub, post, each) };

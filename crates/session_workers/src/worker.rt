@@ -8,7 +8,7 @@ ghost use Rattle.session_workers.specs.Visits.{HasWorked, ServesNext};
 use edge_links::{Door, Next};
 use hub::Desk;
 use pktline_core::Link;
-use session_core::{Gate, Protocol};
+use session_core::{Gate, PacketBuffer, Protocol};
 use shared_hub::{EventHub, SharedDesk, SharedHub, SharedPass};
 use std::alloc::Global;
 use std::sync::Wait;
@@ -27,7 +27,10 @@ pub enum NextServed<E> {
 pub struct Tally {
     pub sessions: u64,
     pub door_failed: bool,
+    /// Whether memory ran out in a session. One that the stopped hub ended so doesn't count.
     pub no_memory: bool,
+    /// Whether the last session was ended by the hub, which has stopped.
+    pub stopped: bool,
 }
 
 impl Tally {
@@ -36,6 +39,7 @@ impl Tally {
         sessions: 0,
         door_failed: false,
         no_memory: false,
+        stopped: false,
     };
 }
 
@@ -45,14 +49,15 @@ fn serve_next<L: Link, K: Desk, D: Door<L>, G: Gate, P: Protocol>(
     door: &mut D,
     gate: &mut G,
     desk: &mut K,
-    protocol: &mut P,
+    protocol: P,
+    buffer: &mut PacketBuffer,
 ) -> NextServed<P::End>
-    ensures next { ServesNext P.meaning L.state (D.state door.old) (D.state door.new) (K.view desk.old) (K.view desk.new) result }
+    ensures next { ServesNext (P.meaning protocol) L.state (D.state door.old) (D.state door.new) (K.view desk.old) (K.view desk.new) result }
     ensures goes { K.goes_on desk.old desk.new }
 {
     match door.next() {
         Next::Link(mut link) => {
-            let end = protocol.serve(alloc, &mut link, desk, gate);
+            let end = protocol.serve(alloc, &mut link, desk, gate, buffer);
             door.done(link);
             NextServed::Served(end)
         }
@@ -62,21 +67,22 @@ fn serve_next<L: Link, K: Desk, D: Door<L>, G: Gate, P: Protocol>(
 }
 
 // Whether memory ran out, in a session with this end or before.
-fn lacks<P: Protocol>(before: bool, end: P::End) -> bool
-    ensures { result ≡ before || P.meaning.lacks end }
+fn lacks<P: Protocol>(protocol: P, before: bool, end: P::End) -> bool
+    ensures { result ≡ before || (P.meaning protocol).lacks end }
 {
-    before || P::is_out_of_memory(end)
+    before || protocol.is_out_of_memory(end)
 }
 
-// Whether the hub has stopped, which a session with this end may tell: it then ends each further session so.
+// Whether the hub has stopped, and so has ended a session with this end, as it would each further one.
 fn has_stopped_by<R: Wait, H: EventHub, P: Protocol>(
+    protocol: P,
     desk: &mut SharedDesk<'_, R, H>,
     end: P::End,
 ) -> bool
-    ensures may { IsTrue result → IsTrue (H.may_stop && P.meaning.lacks end) }
+    ensures may { IsTrue result → IsTrue (H.may_stop && (P.meaning protocol).lacks end) }
     ensures same { desk.new ≡ desk.old }
 {
-    P::is_out_of_memory(end) && desk.has_stopped()
+    protocol.is_out_of_memory(end) && desk.has_stopped()
 }
 
 /// Serves the links of a door until so many are served, the door is closed or it failed, or the hub has
@@ -86,6 +92,7 @@ pub fn work<'a, L: Link, D: Door<L>, G: Gate, R: Wait, H: EventHub, P: Protocol>
     alloc: Global,
     hub: &'a SharedHub<H>,
     pass: SharedPass<H>,
+    protocol: P,
     door: &mut D,
     gate: &mut G,
     each: u64,
@@ -95,20 +102,21 @@ pub fn work<'a, L: Link, D: Door<L>, G: Gate, R: Wait, H: EventHub, P: Protocol>
     requires fresh { pass.since ≡ [] }
     ensures same_pass { IsSamePass pass result.0 }
     ensures hub { IsHubPass result.0 }
-    ensures worked { HasWorked P.meaning L.state H.may_stop (admin_in pass.at_new) pass.caller (length (log_at_new pass)) (log_seen result.0) each (D.state door.old) (D.state door.new) result.1 }
+    ensures worked { HasWorked (P.meaning protocol) L.state H.may_stop (admin_in pass.at_new) pass.caller (length (log_at_new pass)) (log_seen result.0) each (D.state door.old) (D.state door.new) result.1 }
 {
     let mut desk = SharedDesk::new(rt, hub, pass);
-    let mut protocol = P::new();
+    let mut buffer = PacketBuffer::new();
     let mut tally = Tally::NONE;
     for sessions in 0..each {
         tally.sessions = sessions;
-        match serve_next(alloc, door, gate, &mut desk, &mut protocol) {
+        match serve_next(alloc, door, gate, &mut desk, protocol, &mut buffer) {
             NextServed::Served(end) => {
-                tally.no_memory = lacks::<P>(tally.no_memory, end);
-                if has_stopped_by::<R, H, P>(&mut desk, end) {
+                if has_stopped_by(protocol, &mut desk, end) {
+                    tally.stopped = true;
                     tally.sessions = sessions + 1;
                     return (desk.into_pass(), tally);
                 }
+                tally.no_memory = lacks(protocol, tally.no_memory, end);
             }
             NextServed::Closed => return (desk.into_pass(), tally),
             NextServed::Failed => {

@@ -1,3 +1,4 @@
+mod ProtocolLemmas
 mod ScriptLemmas
 mod KeepLemmas
 mod LoneLemmas

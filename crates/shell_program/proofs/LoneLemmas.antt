@@ -11,6 +11,7 @@ use Rattle.ref_store.specs.Refs.{Name}
 use Rattle.conf_lex.specs.Names.{is_user_name}
 use Rattle.session_core.specs.Recorded.{IsRecorded, LegalLogsAreRecorded, Recorded}
 use Rattle.shell_words.specs.declared.commands.Asked.{Asked}
+use Rattle.shell_words.specs.declared.commands.Transport.{Transport}
 use Rattle.shell_words.specs.declared.commands.Asked.TheVariants.{Script, Serve, Check, Load, Keep, Access}
 use Rattle.shell_words.specs.Commands.{Reads, asked}
 use Rattle.shell_words.specs.declared.commands.WordsFault.{WordsFault}
@@ -92,7 +93,7 @@ module _ (disk : DiskRun) (source source' sink sink' : LinkState) (log : List En
   due_by (Some (Script admin)) DiskFault ends reads writes disks = absurd ends.0
   due_by (Some (Script admin)) BadJournal ends reads writes disks = absurd ends.0
   due_by (Some (Script admin)) BadQuestion ends reads writes disks = absurd ends.0
-  due_by (Some (Serve admin workers sessions)) status ends reads writes disks = absurd ends
+  due_by (Some (Serve transport admin workers sessions)) status ends reads writes disks = absurd ends
   due_by (Some (Load count start)) Done ends reads writes disks = inl refl
   due_by (Some (Load count start)) NoMemory ends reads writes disks = inr refl
   due_by (Some (Load count start)) OutputFault ends reads writes disks = absurd (writes ends.0.2)
@@ -167,7 +168,7 @@ no_usage modeled disk source sink = ((record { bytes = []; short = (usage_line, 
 pub nothing_done : (modeled : Bool) (disk : DiskState) (source sink : LinkState) (asked : Option Asked) → EndsBy (option_and_then (built 0) asked) (unused modeled disk) source source sink sink [] NoMemory
 nothing_done modeled disk source sink None = no_usage modeled disk source sink
 nothing_done modeled disk source sink (Some (Script admin)) = (undone source sink admin, refl)
-nothing_done modeled disk source sink (Some (Serve admin workers sessions)) = no_usage modeled disk source sink
+nothing_done modeled disk source sink (Some (Serve transport admin workers sessions)) = no_usage modeled disk source sink
 nothing_done modeled disk source sink (Some Check) = (inl (record { part = []; takes = record { consumed = Consumes-nil source.left; counted = omega arith } }, refl), refl, refl)
 nothing_done modeled disk source sink (Some (Load count start)) = (inl (λ recorded of. (log_behind recorded count start count, refl), refl), refl, refl)
 nothing_done modeled disk source sink (Some (Keep admin)) = unkept modeled disk source sink admin
@@ -198,17 +199,17 @@ legal_script admin desk desk' log new same sound seen =
 -- the admin of a command's hub has a user's name
 pub admin_named : ReadIsSpelled → (posts : ℕ) (words : List (List ℕ)) → IfSome (admin_of (command posts words)) (λ a. is_user_name a ≡ true)
 admin_named read posts words = go (asked words) refl where
-  served : (k : ℕ) (admin : Name) (workers sessions : ℕ) → is_user_name admin ≡ true → IfSome (admin_of (served_at k admin workers sessions)) (λ a. is_user_name a ≡ true)
-  served zero admin workers sessions named = tt
-  served (suc k) admin workers sessions named = by (nat_le workers (suc k)) where
-    by : (b : Bool) → IfSome (admin_of (if b then Some (Serve admin workers sessions) else None)) (λ a. is_user_name a ≡ true)
+  served : (k : ℕ) (transport : Transport) (admin : Name) (workers sessions : ℕ) → is_user_name admin ≡ true → IfSome (admin_of (served_at k transport admin workers sessions)) (λ a. is_user_name a ≡ true)
+  served zero transport admin workers sessions named = tt
+  served (suc k) transport admin workers sessions named = by (nat_le workers (suc k)) where
+    by : (b : Bool) → IfSome (admin_of (if b then Some (Serve transport admin workers sessions) else None)) (λ a. is_user_name a ≡ true)
     by true = named
     by false = tt
 
   go : (o : Option Asked) → asked words ≡ o → IfSome (admin_of (option_and_then (built posts) o)) (λ a. is_user_name a ≡ true)
   go None is = tt
   go (Some (Script admin)) is = (read (Script admin) words is).0
-  go (Some (Serve admin workers sessions)) is = served posts admin workers sessions (read (Serve admin workers sessions) words is).0.0
+  go (Some (Serve transport admin workers sessions)) is = served posts transport admin workers sessions (read (Serve transport admin workers sessions) words is).0.0
   go (Some Check) is = tt
   go (Some (Load count start)) is = refl
   go (Some (Keep admin)) is = (read (Keep admin) words is).0

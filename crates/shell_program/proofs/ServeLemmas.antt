@@ -11,10 +11,9 @@ use Rattle.hub_history.specs.declared.entry.Entry.{Entry}
 use Rattle.hub_history.specs.History.{IsLegal}
 use Rattle.ref_store.specs.Refs.{Name}
 use Rattle.hub.specs.Hub.{HubView}
-use Rattle.session_core.specs.declared.end.SessionEnd.{SessionEnd}
-use Rattle.git_session.specs.Protocol as git
+use Rattle.session_core.specs.Protocol.{Meaning}
 use Rattle.session_workers.specs.declared.post.Post.{Post}
-use Rattle.session_workers.specs.Visits.{HasDone, have_lacked}
+use Rattle.session_workers.specs.Visits.{HasDone}
 use Rattle.session_workers.specs.ServesAll.{PostTally, ServesAll, count_of}
 use Rattle.shell_program.specs.RunningScripts.{TellsOutput}
 use Rattle.shell_program.specs.Serve.{ADoorFailed, EndsServe, ServesPosts, StopsPrinting, new_hub, served_line}
@@ -39,16 +38,16 @@ at_any {X} f (x ∷ xs) some = go (f x) refl some (λ any. at_any f xs any) wher
       let next = later any in
       record { place = suc next.place; within = (let less = next.within in omega (arith, less)); item = next.item; is = next.is }
 
-module _ {L D G : Type 0} (state : L → LinkState) (door : D → DoorState L) (admin : Name) (each : ℕ) (old new : List (Post D G HubView)) (sink sink' : LinkState) (log : List Entry) where
+module _ {L D G P E : Type 0} (served : Meaning E) (state : L → LinkState) (door : D → DoorState L) (admin : Name) (each : ℕ) (old new : List (Post D G HubView P)) (sink sink' : LinkState) (log : List Entry) where
   -- the hub that comes back, by its log
-  pub posts_served : (after : HubView) (sessions : ℕ) (failed lacked : Bool) → ServesAll git.sessions state door false (new_hub admin) after old new each sessions failed lacked → log ≡ after.log
-      → ServesPosts state door admin each old new sink sink' log sessions failed lacked
+  pub posts_served : (after : HubView) (sessions : ℕ) (failed lacked : Bool) → ServesAll (λ (protocol : P). served) state door false (new_hub admin) after old new each sessions failed lacked → log ≡ after.log
+      → ServesPosts served state door admin each old new sink sink' log sessions failed lacked
   posts_served after sessions failed lacked serves log_is =
-      subst (λ (h : HubView). ServesAll git.sessions state door false (new_hub admin) h old new each sessions failed lacked) (λ i. record { admin = serves.admin i; log = sym log_is i }) serves
+      subst (λ (h : HubView). ServesAll (λ (protocol : P). served) state door false (new_hub admin) h old new each sessions failed lacked) (λ i. record { admin = serves.admin i; log = sym log_is i }) serves
 
-  pub ends_served : (sessions : ℕ) (failed lacked : Bool) (printed : Result (Unit {0}) ScriptFault) → ServesPosts state door admin each old new sink sink' log sessions failed lacked
+  pub ends_served : (sessions : ℕ) (failed lacked : Bool) (printed : Result (Unit {0}) ScriptFault) → ServesPosts served state door admin each old new sink sink' log sessions failed lacked
       → OnOk printed (Appends sink.written sink'.written (served_line sessions (length log))) → IfErr printed (StopsPrinting sink sink' (served_line sessions (length log)))
-      → EndsServe state door admin each old new sink sink' log (served_status printed failed lacked)
+      → EndsServe served state door admin each old new sink sink' log (served_status printed failed lacked)
   ends_served sessions true lacked (Ok unit) serves ok err = (sessions, lacked, (serves, ok))
   ends_served sessions false true (Ok unit) serves ok err = inr (inl (sessions, (serves, ok)))
   ends_served sessions false false (Ok unit) serves ok err = (sessions, (serves, ok))
@@ -58,18 +57,18 @@ module _ {L D G : Type 0} (state : L → LinkState) (door : D → DoorState L) (
   ends_served sessions failed lacked (Err fault.OutputFault) serves ok err = (record { sessions = sessions; failed = failed; lacked = lacked; serves = serves; part = err.0 }, err.1)
   ends_served sessions failed lacked (Err fault.NoMemory) serves ok err = inr (inr (record { sessions = sessions; failed = failed; lacked = lacked; serves = serves; part = err.0 }, err.1))
 
-  a_door_failed : (sessions : ℕ) (lacked : Bool) → ServesPosts state door admin each old new sink sink' log sessions true lacked → ADoorFailed door old new
+  a_door_failed : (sessions : ℕ) (lacked : Bool) → ServesPosts served state door admin each old new sink sink' log sessions true lacked → ADoorFailed door old new
   a_door_failed sessions lacked serves =
-      let at = at_any (λ (c : PostTally L SessionEnd). c.failed) serves.did (sym serves.failed_is) in
+      let at = at_any (λ (c : PostTally L E). c.failed) serves.did (sym serves.failed_is) in
       let within : at.place < length old = (let less = at.within in let same = serves.each_did in omega (arith, less, same)) in (
         at.place,
         within,
         λ d.
-            let served = serves.posts at.place d at.item within in
-            subst (λ (b : Bool). HasDone (false && have_lacked git.sessions (get_or serves.did at.place at.item).visits) (door (get_or old at.place d).door) (door (get_or new at.place d).door) each (count_of (get_or serves.did at.place at.item)) b) at.is served.done,
+            let post = serves.posts at.place d at.item within in
+            subst (λ (b : Bool). HasDone (get_or serves.did at.place at.item).stopped (door (get_or old at.place d).door) (door (get_or new at.place d).door) each (count_of (get_or serves.did at.place at.item)) b) at.is post.done,
       )
 
-  pub surely_served : (sessions : ℕ) (failed lacked : Bool) (printed : Result (Unit {0}) ScriptFault) → ServesPosts state door admin each old new sink sink' log sessions failed lacked
+  pub surely_served : (sessions : ℕ) (failed lacked : Bool) (printed : Result (Unit {0}) ScriptFault) → ServesPosts served state door admin each old new sink sink' log sessions failed lacked
       → IfErr printed (StopsPrinting sink sink' (served_line sessions (length log)))
       → (ADoorFailed door old new → ⊥) → (HasRisen sink.write_faults sink'.write_faults → ⊥)
       → (status_number (served_status printed failed lacked) ≡ 0) ⊎ (status_number (served_status printed failed lacked) ≡ 4)
@@ -82,25 +81,25 @@ module _ {L D G : Type 0} (state : L → LinkState) (door : D → DoorState L) (
   surely_served sessions failed lacked (Err fault.OutputFault) serves err doors writes = absurd (writes err.1)
   surely_served sessions failed lacked (Err fault.NoMemory) serves err doors writes = inr refl
 
-module _ {L D G : Type 0} (state : L → LinkState) (door : D → DoorState L) (admin : Name) (each : ℕ) (old new : List (Post D G HubView)) (sink sink' : LinkState) (log : List Entry) (hub after : HubView) (sessions events : ℕ) (failed lacked : Bool) (printed : Result (Unit {0}) ScriptFault) (number : ℕ)
-    (hub_is : hub ≡ new_hub admin) (all : ServesAll git.sessions state door false hub after old new each sessions failed lacked) (log_is : log ≡ after.log) (counted : events ≡ length log)
+module _ {L D G P E : Type 0} (served : Meaning E) (state : L → LinkState) (door : D → DoorState L) (admin : Name) (each : ℕ) (old new : List (Post D G HubView P)) (sink sink' : LinkState) (log : List Entry) (hub after : HubView) (sessions events : ℕ) (failed lacked : Bool) (printed : Result (Unit {0}) ScriptFault) (number : ℕ)
+    (hub_is : hub ≡ new_hub admin) (all : ServesAll (λ (protocol : P). served) state door false hub after old new each sessions failed lacked) (log_is : log ≡ after.log) (counted : events ≡ length log)
     (err : IfErr printed (StopsPrinting sink sink' (served_line sessions events))) (number_is : number ≡ status_number (served_status printed failed lacked)) where
-  serves : ServesPosts state door admin each old new sink sink' log sessions failed lacked
-  serves = posts_served state door admin each old new sink sink' log after sessions failed lacked (subst (λ (h : HubView). ServesAll git.sessions state door false h after old new each sessions failed lacked) hub_is all) log_is
+  serves : ServesPosts served state door admin each old new sink sink' log sessions failed lacked
+  serves = posts_served served state door admin each old new sink sink' log after sessions failed lacked (subst (λ (h : HubView). ServesAll (λ (protocol : P). served) state door false h after old new each sessions failed lacked) hub_is all) log_is
 
   stopped : IfErr printed (StopsPrinting sink sink' (served_line sessions (length log)))
   stopped = subst (λ (n : ℕ). IfErr printed (StopsPrinting sink sink' (served_line sessions n))) counted err
 
   -- a run of `serve` at a hub
-  pub run_ends : OnOk printed (Appends sink.written sink'.written (served_line sessions events)) → (why : Status) × (number ≡ status_number why) × EndsServe state door admin each old new sink sink' log why
+  pub run_ends : OnOk printed (Appends sink.written sink'.written (served_line sessions events)) → (why : Status) × (number ≡ status_number why) × EndsServe served state door admin each old new sink sink' log why
   run_ends ok = (
     served_status printed failed lacked,
     number_is,
-    ends_served state door admin each old new sink sink' log sessions failed lacked printed serves (subst (λ (n : ℕ). OnOk printed (Appends sink.written sink'.written (served_line sessions n))) counted ok) stopped,
+    ends_served served state door admin each old new sink sink' log sessions failed lacked printed serves (subst (λ (n : ℕ). OnOk printed (Appends sink.written sink'.written (served_line sessions n))) counted ok) stopped,
   )
 
   pub run_sure : (ADoorFailed door old new → ⊥) → (HasRisen sink.write_faults sink'.write_faults → ⊥) → (number ≡ 0) ⊎ (number ≡ 4)
-  run_sure doors writes = subst (λ (n : ℕ). (n ≡ 0) ⊎ (n ≡ 4)) (sym number_is) (surely_served state door admin each old new sink sink' log sessions failed lacked printed serves stopped doors writes)
+  run_sure doors writes = subst (λ (n : ℕ). (n ≡ 0) ⊎ (n ≡ 4)) (sym number_is) (surely_served served state door admin each old new sink sink' log sessions failed lacked printed serves stopped doors writes)
 
   pub run_legal : IsLegal admin log
   run_legal = serves.legal

@@ -2,6 +2,7 @@ pub mod SessionFrames
 pub mod Faults
 pub mod Script
 pub mod Load
+pub mod Protocols
 pub mod RunningLoads
 pub mod RunningScripts
 pub mod Status

@@ -53,7 +53,7 @@ RefusesSurely (Some command) sink number = ⊤
 abbrev pub EndsBy : Option Asked → DiskRun → LinkState → LinkState → LinkState → LinkState → List Entry → Status → Type 0
 EndsBy (Some Check) disk source source' sink sink' log status = EndsCheck source source' sink sink' status × (log ≡ []) × (disk.new ≡ disk.old)
 EndsBy (Some (Script admin)) disk source source' sink sink' log status = EndsScript admin [] source source' sink sink' log status × (disk.new ≡ disk.old)
-EndsBy (Some (Serve admin workers sessions)) disk source source' sink sink' log status = ⊥
+EndsBy (Some (Serve transport admin workers sessions)) disk source source' sink sink' log status = ⊥
 EndsBy (Some (Load count start)) disk source source' sink sink' log status = EndsLoad count start sink sink' log status × (source' ≡ source) × (disk.new ≡ disk.old)
 EndsBy (Some (Keep admin)) disk source source' sink sink' log status = EndsKeep admin disk source source' sink sink' log status
 EndsBy (Some Access) disk source source' sink sink' log status = EndsAccess source source' sink sink' status × (log ≡ []) × (disk.new ≡ disk.old)
@@ -66,11 +66,11 @@ pub record EndsRun (found : Option Asked) (disk : DiskRun) (source source' sink 
   pub ends : EndsBy found disk source source' sink sink' log status
 
 -- unless memory runs out, a check ends with 0 or 6, a script with 0 or 7, `keep` with 0, 7 or 9, `access`
--- with 0, 6, 7 or 10, `serve` and `load` with 0, and refused words with 1
+-- with 0, 6, 7 or 10, `serve`, `http` and `load` with 0, and refused words with 1
 abbrev pub IsDue : Option Asked → ℕ → Type 0
 IsDue (Some Check) number = (number ≡ 0) ⊎ (number ≡ 6) ⊎ (number ≡ 4)
 IsDue (Some (Script admin)) number = (number ≡ 0) ⊎ (number ≡ 7) ⊎ (number ≡ 4)
-IsDue (Some (Serve admin workers sessions)) number = (number ≡ 0) ⊎ (number ≡ 4)
+IsDue (Some (Serve transport admin workers sessions)) number = (number ≡ 0) ⊎ (number ≡ 4)
 IsDue (Some (Load count start)) number = (number ≡ 0) ⊎ (number ≡ 4)
 IsDue (Some (Keep admin)) number = (number ≡ 0) ⊎ (number ≡ 7) ⊎ (number ≡ 9) ⊎ (number ≡ 4)
 IsDue (Some Access) number = (number ≡ 0) ⊎ (number ≡ 6) ⊎ (number ≡ 7) ⊎ (number ≡ 10) ⊎ (number ≡ 4)

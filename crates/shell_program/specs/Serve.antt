@@ -1,4 +1,4 @@
--- What `serve` does at a new hub, and how it ends.
+-- What `serve` and `http` do at a new hub, and how they end.
 use Rattle.std.specs.Prelude.{◌≡◌, ◌⊎◌, ℕ, ◌<◌, List, [], ◌++◌, length, Bool, true, false, codes, decimal, slice_index_or}
 use Rattle.std.specs.Io.KnownBytes.{Appends}
 use Rattle.base_types.specs.Counts.{HasRisen}
@@ -7,7 +7,7 @@ use Rattle.edge_links.specs.Door.{DoorState}
 use Rattle.hub_history.specs.declared.entry.Entry.{Entry}
 use Rattle.ref_store.specs.Refs.{Name}
 use Rattle.hub.specs.Hub.{HubView}
-use Rattle.git_session.specs.Protocol as git
+use Rattle.session_core.specs.Protocol.{Meaning}
 use Rattle.session_workers.specs.declared.post.Post.{Post}
 use Rattle.session_workers.specs.ServesAll.{ServesAll}
 use Rattle.shell_program.specs.RunningScripts.{MayLackAfter, WritesPart}
@@ -24,10 +24,10 @@ served_line sessions events = codes "served " ++ decimal sessions ++ codes " ses
 abbrev pub new_hub : Name → HubView
 new_hub admin = record { admin = admin; log = [] }
 
-module _ {L D G : Type 0} (state : L → LinkState) (door : D → DoorState L) (admin : Name) (each : ℕ) (old new : List (Post D G HubView)) (sink sink' : LinkState) (log : List Entry) where
-  -- The posts were served at a new hub, which has this log afterwards.
+module _ {L D G P E : Type 0} (served : Meaning E) (state : L → LinkState) (door : D → DoorState L) (admin : Name) (each : ℕ) (old new : List (Post D G HubView P)) (sink sink' : LinkState) (log : List Entry) where
+  -- All posts were served so at a new hub, which has this log afterwards.
   abbrev pub ServesPosts : ℕ → Bool → Bool → Type 0
-  ServesPosts sessions failed lacked = ServesAll git.sessions state door false (new_hub admin) (record { admin = admin; log = log }) old new each sessions failed lacked
+  ServesPosts sessions failed lacked = ServesAll (λ (protocol : P). served) state door false (new_hub admin) (record { admin = admin; log = log }) old new each sessions failed lacked
 
   -- so it was, and the line was printed
   abbrev pub PrintsServed : ℕ → Bool → Bool → Type 0
@@ -43,7 +43,7 @@ module _ {L D G : Type 0} (state : L → LinkState) (door : D → DoorState L) (
 
   -- there was no memory for a hub that is shared: no door was asked, and nothing printed
   pub record ServesNone : Type 0 where
-    pub unasked : (k : ℕ) (d : Post D G HubView) → (slice_index_or new k d).door ≡ (slice_index_or old k d).door
+    pub unasked : (k : ℕ) (d : Post D G HubView P) → (slice_index_or new k d).door ≡ (slice_index_or old k d).door
     pub unprinted : sink' ≡ sink
     pub no_log : log ≡ []
 
@@ -64,6 +64,6 @@ StopsPrinting sink sink' text fault.NoMemory = (part : WritesPart sink sink' tex
 StopsPrinting sink sink' text other = ⊥
 
 -- A door failed in between: its count rose.
-abbrev pub ADoorFailed : {L D G H : Type 0} → (D → DoorState L) → List (Post D G H) → List (Post D G H) → Type 0
-ADoorFailed {L} {D} {G} {H} door old new =
-    (k : ℕ) × (k < length old) × ((d : Post D G H) → HasRisen (door (slice_index_or old k d).door).faults (door (slice_index_or new k d).door).faults)
+abbrev pub ADoorFailed : {L D G H P : Type 0} → (D → DoorState L) → List (Post D G H P) → List (Post D G H P) → Type 0
+ADoorFailed {L} {D} {G} {H} {P} door old new =
+    (k : ℕ) × (k < length old) × ((d : Post D G H P) → HasRisen (door (slice_index_or old k d).door).faults (door (slice_index_or new k d).door).faults)

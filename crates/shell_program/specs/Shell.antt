@@ -10,17 +10,18 @@ use Rattle.hub.specs.Hub.{HubView}
 use Rattle.session_workers.specs.declared.post.Post.{Post}
 use Rattle.shell_program.specs.Keep.{DiskRun}
 use Rattle.shell_program.specs.Lone.{AUsedDiskFailed, EndsBy, IsDue}
+use Rattle.shell_program.specs.Protocols.{meaning_of, protocol_of}
 use Rattle.shell_program.specs.Serve.{ADoorFailed, EndsServe}
 use Rattle.shell_program.specs.Status.{status_number}
 use Rattle.shell_program.specs.declared.status.Status.{Status}
 
-module _ {L D G : Type 0} (state : L → LinkState) (door : D → DoorState L) (old new : List (Post D G HubView)) where
-  -- The command decides: `serve` takes its sessions through the first posts, reads nothing else, and leaves
-  -- the other posts and the disk as they were. Each other command leaves all posts so, and ends as with one
-  -- caller.
+module _ {L D G P : Type 0} (state : L → LinkState) (door : D → DoorState L) (old new : List (Post D G HubView P)) where
+  -- The command decides: `serve` takes its sessions, and `http` its requests, through the first posts, reads
+  -- nothing else, and leaves the other posts and the disk as they were. Each other command leaves all posts so,
+  -- and ends as with one caller.
   abbrev pub EndsShellBy : Option Asked → DiskRun → LinkState → LinkState → LinkState → LinkState → List Entry → Status → Type 0
-  EndsShellBy (Some (Serve admin workers each)) disk source source' sink sink' log status =
-      EndsServe state door admin each (take workers old) (take workers new) sink sink' log status × (drop workers new ≡ drop workers old) × (source' ≡ source) × (disk.new ≡ disk.old)
+  EndsShellBy (Some (Serve transport admin workers each)) disk source source' sink sink' log status =
+      EndsServe (meaning_of (protocol_of transport)) state door admin each (take workers old) (take workers new) sink sink' log status × (drop workers new ≡ drop workers old) × (source' ≡ source) × (disk.new ≡ disk.old)
   EndsShellBy other disk source source' sink sink' log status = EndsBy other disk source source' sink sink' log status × (new ≡ old)
 
   -- A run of this command ended with this number and this log.
@@ -31,7 +32,7 @@ module _ {L D G : Type 0} (state : L → LinkState) (door : D → DoorState L) (
 
   -- a door failed at which the command serves
   abbrev pub AUsedDoorFailed : Option Asked → Type 0
-  AUsedDoorFailed (Some (Serve admin workers each)) = ADoorFailed door (take workers old) (take workers new)
+  AUsedDoorFailed (Some (Serve transport admin workers each)) = ADoorFailed door (take workers old) (take workers new)
   AUsedDoorFailed other = ⊥
 
   -- with what the program ends where no fault is counted

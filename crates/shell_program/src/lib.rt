@@ -3,6 +3,7 @@
 //!
 //! - `script`: sessions one after the other, and what is printed of them;
 //! - `keep`: a script at the hub of a journal on a disk;
+//! - `protocols`: what a post serves: sessions, or requests;
 //! - `serve`: workers at their posts, and what is printed behind them;
 //! - `check`: a conf, and what is printed of it;
 //! - `access`: questions over one conf or two, and what is printed of them;
@@ -12,7 +13,7 @@
 //! - `lone`, `program`: the program run by one caller, and the program;
 //! - `laws`: that two runs of one script come to the same, and two of `load`.
 //!
-//! A session is of the crate `git_session`, workers of `session_workers`, the frames of a script of
+//! A session is of the crate `git_session`, a request of `smart_http`, workers of `session_workers`, the frames of a script of
 //! `script_frames`, the words of a command of `shell_words`, a journal of `hub_journal`, a generated
 //! installation of `installation`, and the edges of `edge_links`.
 #![tactic(auto)]
@@ -25,6 +26,7 @@ mod load;
 mod lone;
 mod posts;
 mod program;
+mod protocols;
 mod script;
 mod serve;
 mod status;
@@ -34,8 +36,9 @@ mod words;
 pub use keep::end_unopened;
 pub use laws::hold_laws;
 pub use lone::{Ended, lone_main};
-pub use posts::{posts_at, unsent_at};
+pub use posts::{add_posts, unsent_at};
 pub use program::shell_main;
+pub use protocols::{ServerEnd, ServerProtocol};
 pub use script::ScriptFault;
 pub use serve::print_served;
 pub use status::{Status, served_status};

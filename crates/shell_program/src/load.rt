@@ -19,12 +19,12 @@ use crate::tally::{Tally, count_entries};
 use base_types::{NoMemory, Text};
 use conf_lex::UserName;
 use git_object::ObjectId;
-use git_session::{SessionBuffer, session};
+use git_session::session;
 use hub::{EntryList, Hub, LoneDesk};
 use installation::{First, Visit, first_input, next_visit, repo_name, visit_input};
 use itoa::Buffer;
 use pktline_core::{MemoryLink, Sink};
-use session_core::OpenGate;
+use session_core::{OpenGate, PacketBuffer};
 use std::alloc::Global;
 
 // A new hub of the admin who loads.
@@ -42,7 +42,7 @@ fn serve_input(
     alloc: Global,
     hub: Hub,
     input: Vec<u8>,
-    buffer: &mut SessionBuffer,
+    buffer: &mut PacketBuffer,
 ) -> (Hub, Result<(), NoMemory>)
     ensures ok { OnOk result.1 (ServesInput hub result.0 input.items) }
     ensures lacks { OnErr result.1 (LacksInput hub result.0 input.items) }
@@ -90,7 +90,7 @@ fn load_all(alloc: Global, hub: Hub, count: u32, start: u32) -> (Hub, Result<(),
         return (hub, Err(NoMemory));
     };
     let First { input, mut draws } = first;
-    let mut buffer = SessionBuffer::new();
+    let mut buffer = PacketBuffer::new();
     let (mut hub, served) = serve_input(alloc, hub, input, &mut buffer);
     if served.is_err() {
         return (hub, Err(NoMemory));

@@ -158,7 +158,7 @@ fn run_asked<I: Source, O: Sink, Y: Disk>(
 
 /// Runs the program as the words ask, with one caller: prints the usage, checks a conf, asks who may do what,
 /// or runs at a new hub a script or the sessions of a generated installation, or a script at the hub of a
-/// journal on the disk. No other command uses the disk. `serve` is refused, since it wants posts.
+/// journal on the disk. No other command uses the disk. `serve` and `http` are refused, since they want posts.
 pub fn lone_main<I: Source, O: Sink, Y: Disk>(
     alloc: Global,
     words: &[String],

@@ -8,6 +8,7 @@ ghost use Rattle.shell_program.specs.Shell.{EndsShell, EndsShellSurely};
 use crate::keep::run_keep;
 use crate::load::run_load;
 use crate::lone::{Ended, ask_alone, check_alone, refuse, run_alone, unread};
+use crate::protocols::ServerProtocol;
 use crate::serve::run_serve;
 use edge_links::Door;
 use hub::Hub;
@@ -35,7 +36,7 @@ fn run_asked<
     asked: Asked,
     input: &mut I,
     output: &mut O,
-    posts: &mut [Post<D, G, Hub>],
+    posts: &mut [Post<D, G, Hub, ServerProtocol>],
     disk: &mut Y,
 ) -> Ended
     requires limits { IsWithinLimits asked }
@@ -48,6 +49,7 @@ fn run_asked<
         Asked::Check => check_alone(alloc, input, output),
         Asked::Script { admin } => run_alone(alloc, &admin, input, output),
         Asked::Serve {
+            transport,
             admin,
             workers,
             sessions,
@@ -57,7 +59,8 @@ fn run_asked<
                 return refuse(alloc, output);
             }
             let (used, _) = posts.split_at_mut(workers);
-            run_serve(rt, alloc, output, used, &admin, sessions)
+            let protocol = ServerProtocol::of(transport);
+            run_serve(rt, alloc, output, used, protocol, &admin, sessions)
         }
         Asked::Load { count, start } => run_load(alloc, count, start, output),
         Asked::Keep { admin } => run_keep(alloc, &admin, input, output, disk),
@@ -65,8 +68,9 @@ fn run_asked<
     }
 }
 
-/// Runs the program as the words ask. `serve` takes its sessions through the first posts, as many as it has
-/// workers; it is refused where there are fewer. `keep` keeps its log in a journal on the disk; no other
+/// Runs the program as the words ask. `serve` takes its sessions, and `http` its requests, through the first
+/// posts, as many as there are workers; it is refused where there are fewer. What those posts served before
+/// doesn't count, and stays changed. `keep` keeps its log in a journal on the disk; no other
 /// command uses the disk.
 pub fn shell_main<
     I: Source,
@@ -82,7 +86,7 @@ pub fn shell_main<
     words: &[String],
     input: &mut I,
     output: &mut O,
-    posts: &mut [Post<D, G, Hub>],
+    posts: &mut [Post<D, G, Hub, ServerProtocol>],
     disk: &mut Y,
 ) -> Ended
     ensures ends { EndsShell L.state D.state posts.old posts.new (command (length posts.old) (map string_bytes words.now)) (record { modeled = Y.is_modeled; old = Y.state disk.old; new = Y.state disk.new }) (I.state input.old) (I.state input.new) (O.state output.old) (O.state output.new) result.status result.log }

@@ -9,12 +9,12 @@ ghost use Rattle.shell_program.specs.Script.{end_word, fault_text, reply_text};
 ghost use Rattle.shell_program.specs.RunningScripts.{AdvancesOne, FindsEnd, RunsScript, Serves, StopsAdvancing, StopsScript, StopsSession, StopsWriting, TellsBroken, TellsInput, TellsOutput};
 
 use base_types::NoMemory;
-use git_session::{SessionBuffer, session};
+use git_session::session;
 use hub::{Desk, LoneDesk};
 use itoa::Buffer;
 use pktline_core::{MemoryLink, Sink, Source, WriteFault, write_all};
 use script_frames::{FrameFault, read_frame};
-use session_core::{OpenGate, SessionEnd};
+use session_core::{OpenGate, PacketBuffer, SessionEnd};
 use std::alloc::Global;
 use std::error::Error;
 use std::fmt;
@@ -158,7 +158,7 @@ fn serve<K: ScriptDesk>(
     number: u64,
     body: Vec<u8>,
     desk: &mut K,
-    buffer: &mut SessionBuffer,
+    buffer: &mut PacketBuffer,
 ) -> Result<Vec<u8>, ScriptFault>
     requires { IsTrue (K.view desk.old).alone }
     ensures ok { IfOk result (λ text. Serves (K.view desk.old) (K.view desk.new) number body.items text.items) }
@@ -190,7 +190,7 @@ fn advance<I: Source, O: Sink, K: ScriptDesk>(
     input: &mut I,
     output: &mut O,
     desk: &mut K,
-    buffer: &mut SessionBuffer,
+    buffer: &mut PacketBuffer,
 ) -> Result<Option<u64>, ScriptFault>
     requires alone { IsTrue (K.view desk.old).alone }
     requires unbroken { K.is_broken desk.old ≡ false }
@@ -240,7 +240,7 @@ pub fn run_script<I: Source, O: Sink, K: ScriptDesk>(
     ensures admin { (K.view desk.new).admin ≡ (K.view desk.old).admin }
     ensures goes { K.goes_on desk.old desk.new }
 {
-    let mut buffer = SessionBuffer::new();
+    let mut buffer = PacketBuffer::new();
     let mut number = 1;
     let mut offset = 0;
     while let Some(taken) = advance(alloc, number, offset, input, output, desk, &mut buffer)? {

@@ -1,7 +1,7 @@
 // The words that the system gives, and posts at a listener.
 use base_types::NoMemory;
 use hub::Hub;
-use shell_program::{behind_name, posts_at, words_given};
+use shell_program::{ServerProtocol, add_posts, behind_name, unsent_at, words_given};
 use std::io::ErrorKind;
 use std::test::Fail;
 use std::{env, io};
@@ -29,7 +29,12 @@ fn words_that_are_no_text_are_none(rt: HostRuntime) -> Result<(), Fail> {
 #[test]
 fn there_are_as_many_posts_as_are_wanted(rt: HostRuntime) -> Result<(), Fail> {
     for count in [0, 1, 8] {
-        assert_eq!(rt; posts_at::<Hub>(rt.alloc(), count, None)?.len(), count);
+        let mut posts = Vec::new(rt.alloc());
+        for protocol in [ServerProtocol::Git, ServerProtocol::Http] {
+            add_posts::<Hub>(rt.alloc(), &mut posts, count, None, protocol)?;
+        }
+        assert_eq!(rt; posts.len(), 2 * count);
+        assert_eq!(rt; unsent_at(posts.as_slice()), 0);
     }
     Ok(())
 }

@@ -22,7 +22,7 @@ pub fn words(alloc: Global, given: &[&str]) -> Result<Vec<String>, Fail> {
 }
 
 pub const USAGE: &[u8] =
-    b"usage: gitolite_shell script --admin NAME | serve --admin NAME --workers K --sessions N | check | load N START | keep --admin NAME | access\n";
+    b"usage: gitolite_shell script --admin NAME | serve --admin NAME --workers K --sessions N | http --admin NAME --workers K --sessions N | check | load N START | keep --admin NAME | access\n";
 
 // A frame of a session with this input.
 fn frame(alloc: Global, body: &[u8]) -> Result<Vec<u8>, NoMemory> {

@@ -57,7 +57,7 @@ fn door_of(
     MemoryDoor::new(alloc, links, failing.to_vec(alloc)?)
 }
 
-type MemoryPost = Post<MemoryDoor<MemoryLink>, OpenGate, Hub>;
+type MemoryPost = Post<MemoryDoor<MemoryLink>, OpenGate, Hub, GitSessions>;
 
 // So many posts, each with a door of so many links of this input.
 fn posts_of(
@@ -68,7 +68,8 @@ fn posts_of(
 ) -> Result<Vec<MemoryPost>, NoMemory> {
     let mut all = Vec::new(alloc);
     for _ in 0..posts {
-        all.push(Post::new(door_of(alloc, input, count, &[])?, OpenGate))?;
+        let door = door_of(alloc, input, count, &[])?;
+        all.push(Post::new(door, OpenGate, GitSessions))?;
     }
     Ok(all)
 }
@@ -146,7 +147,8 @@ fn a_door_that_fails_ends_its_worker_alone(rt: HostRuntime) -> Result<(), Fail> 
     for call in 0..4u64 {
         let mut posts = Vec::new(alloc);
         for failing in [[9u64], [call]] {
-            posts.push(Post::new(door_of(alloc, &input, 2, &failing)?, OpenGate))?;
+            let door = door_of(alloc, &input, 2, &failing)?;
+            posts.push(Post::new(door, OpenGate, GitSessions))?;
         }
         assert!(rt; posts.len() == 2);
         let ServedAll {
@@ -238,7 +240,7 @@ fn two_sessions_are_served_at_once(rt: HostRuntime) -> Result<(), Fail> {
                 waits: place == waiting,
                 seen: false,
             };
-            posts.push(Post::new(door, gate))?;
+            posts.push(Post::new(door, gate, GitSessions))?;
         }
         assert!(rt; posts.len() == 2);
         let served = serve_all::<_, _, _, _, _, GitSessions>(

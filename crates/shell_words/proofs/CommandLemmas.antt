@@ -3,6 +3,7 @@ use Rattle.std.proofs.Common.{◌≡◌, ◌<◌, ℕ, List, [], ◌∷◌, leng
 use Rattle.std.specs.Prelude.{None}
 use Rattle.shell_words.specs.Options.{Given}
 use Rattle.shell_words.specs.Commands.{admin_with, serve_of_three}
+use Rattle.shell_words.specs.declared.commands.Transport.{Transport}
 use Rattle.shell_words.specs.declared.options.Flag.{Flag}
 use Rattle.shell_words.specs.declared.options.Flag.TheVariants.{Admin, Workers, Sessions}
 
@@ -13,7 +14,7 @@ admin_with-more Admin value (word ∷ rest) more = refl
 admin_with-more Workers value rest more = refl
 admin_with-more Sessions value rest more = refl
 
--- words behind the third option of `serve`
-pub serve_of_three-more : (a b c : Given) (rest : List (List ℕ)) → 0 < length rest → serve_of_three a b c rest ≡ None
-serve_of_three-more a b c [] more = absurd (omega arith)
-serve_of_three-more a b c (word ∷ rest) more = refl
+-- words behind the third option
+pub serve_of_three-more : (transport : Transport) (a b c : Given) (rest : List (List ℕ)) → 0 < length rest → serve_of_three transport a b c rest ≡ None
+serve_of_three-more transport a b c [] more = absurd (omega arith)
+serve_of_three-more transport a b c (word ∷ rest) more = refl

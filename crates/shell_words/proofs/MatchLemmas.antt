@@ -1,5 +1,5 @@
 -- That `clap` takes the words of a command, and finds its values.
-use Rattle.std.proofs.Common.{◌≡◌, ◌∙◌, ℕ, Bool, List, [], ◌∷◌, ◌++◌, true, false, inl, inr, ap, ap₂, refl, sym, subst, fold, length, ◌<◌, ◌^◌, arith}
+use Rattle.std.proofs.Common.{◌≡◌, ◌∙◌, ℕ, Bool, List, [], ◌∷◌, ◌++◌, true, false, inl, inr, ap, ap₂, refl, sym, subst, fold, length, ◌<◌, ◌≤◌, ◌^◌, arith}
 use Rattle.std.specs.Prelude.{◌==◌, ◌&&◌, Err, Option, Result, Some, None, codes, decimal, find, is_some, nat_le, not}
 use Rattle.std.specs.Option.{option_map}
 use Rattle.std.specs.Char.{digit_value, is_ascii_alphanumeric}
@@ -23,13 +23,15 @@ use Rattle.clap.specs.declared.builder.command.Command.{Command}
 use Rattle.clap.specs.declared.builder.command.Command.TheViews.{out-Command as fields_of}
 use Rattle.clap.specs.declared.parser.matches.Found.{Found}
 use Rattle.shell_words.specs.Options.{flag_text}
-use Rattle.shell_words.specs.Spelling.{IsInSomeOrder, Spells, SpellsOption}
+use Rattle.shell_words.specs.Spelling.{IsInSomeOrder, Spells, SpellsOption, SpellsServe, serve_word}
 use Rattle.shell_words.specs.Commands.{Reads, asked, serve_by}
 use Rattle.shell_words.specs.declared.commands.WordsFault.{WordsFault}
 use Rattle.shell_words.specs.declared.commands.WordsFault.TheVariants.{Usage, NoMemory}
 use Rattle.shell_words.specs.Matches.{admin_by, admin_command, bare_program, command_by, command_of, load_by, load_command, option_rule, program, serve_command, with_command, word_rule}
 use Rattle.shell_words.proofs.NumberLemmas.{number_in-decimal}
 use Rattle.shell_words.proofs.ReadingLemmas.{read-spelled}
+use Rattle.shell_words.specs.declared.commands.Transport.{Transport}
+use Rattle.shell_words.specs.declared.commands.Transport.TheVariants.{Git, Http}
 use Rattle.shell_words.specs.declared.commands.Asked.TheVariants.{Script, Serve, Check, Load, Keep, Access}
 use Rattle.shell_words.specs.declared.commands.Asked.{Asked}
 use Rattle.shell_words.specs.declared.options.Flag.{Flag}
@@ -231,8 +233,8 @@ decimal-plain n small = numeral-plain (decimal n) (decimal_is_IsNumeral n small)
 abbrev admin-shape : Text → Shape
 admin-shape name = built-shape (admin_command name)
 
-abbrev serve-shape : Shape
-serve-shape = built-shape serve_command
+abbrev serve-shape : Text → Shape
+serve-shape name = built-shape (serve_command name)
 
 abbrev load-shape : Shape
 load-shape = built-shape load_command
@@ -245,64 +247,70 @@ admin-level name admin words is spelled =
     let s = admin-shape name in
     at-end s _ words (last-option s Admin admin words [] nothing_held (record { by_long = refl; by_id = refl }) spelled (name-plain admin is) (from-nothing s) refl) refl refl refl
 
-serve-has : (flag : Flag) → HasOption serve-shape flag
-serve-has Admin = record { by_long = refl; by_id = refl }
-serve-has Workers = record { by_long = refl; by_id = refl }
-serve-has Sessions = record { by_long = refl; by_id = refl }
+serve-has : (name : Text) (flag : Flag) → HasOption (serve-shape name) flag
+serve-has name Admin = record { by_long = refl; by_id = refl }
+serve-has name Workers = record { by_long = refl; by_id = refl }
+serve-has name Sessions = record { by_long = refl; by_id = refl }
 
 -- the rows of three options that were given in this order
 abbrev three_rows : Flag → Flag → Flag → Text → Text → Text → List Row
 three_rows f g h u v w = used (rule h) (w ∷ []) (used (rule g) (v ∷ []) (used (rule f) (u ∷ []) []))
 
-three-go : (f g h : Flag) (u v w : Text) (a b c : List Text) → IsPlain u → IsPlain v → IsPlain w → SpellsOption (flag_text f) u a → SpellsOption (flag_text g) v b → SpellsOption (flag_text h) w c
+three-go : (name : Text) (f g h : Flag) (u v w : Text) (a b c : List Text) → IsPlain u → IsPlain v → IsPlain w → SpellsOption (flag_text f) u a → SpellsOption (flag_text g) v b → SpellsOption (flag_text h) w c
     → has_row (name_of g) (used (rule f) (u ∷ []) []) ≡ false → has_row (name_of h) (used (rule g) (v ∷ []) (used (rule f) (u ∷ []) [])) ≡ false
-    → GoesOn serve-shape (three_rows f g h u v w) nothing_held (a ++ (b ++ c)) []
-three-go f g h u v w a b c pu pv pw first second third new-g new-h =
-    go-on serve-shape (used (rule f) (u ∷ []) []) _ nothing_held _ (b ++ c) []
-    (option-step serve-shape f u a (b ++ c) [] nothing_held (serve-has f) first pu (from-nothing serve-shape) refl) (λ k comes.
-    go-on serve-shape (used (rule g) (v ∷ []) (used (rule f) (u ∷ []) [])) _ k _ c []
-    (option-step serve-shape g v b c _ k (serve-has g) second pv comes new-g) (λ l comes2.
-    last-option serve-shape h w c _ l (serve-has h) third pw comes2 new-h))
+    → GoesOn (serve-shape name) (three_rows f g h u v w) nothing_held (a ++ (b ++ c)) []
+three-go name f g h u v w a b c pu pv pw first second third new-g new-h =
+    let s = serve-shape name in
+    go-on s (used (rule f) (u ∷ []) []) _ nothing_held _ (b ++ c) []
+    (option-step s f u a (b ++ c) [] nothing_held (serve-has name f) first pu (from-nothing s) refl) (λ k comes.
+    go-on s (used (rule g) (v ∷ []) (used (rule f) (u ∷ []) [])) _ k _ c []
+    (option-step s g v b c _ k (serve-has name g) second pv comes new-g) (λ l comes2.
+    last-option s h w c _ l (serve-has name h) third pw comes2 new-h))
 
--- the rows of `serve`, by which its values are read
-record ServeLevel (admin workers sessions : Text) (words : List Text) : Type 0 where
+-- the rows of `serve` and `http`, by which their values are read
+record ServeLevel (name admin workers sessions : Text) (words : List Text) : Type 0 where
   rows : List Row
-  level : Level serve-shape rows words
-  reads : command_by (codes "serve") (λ id. first_of id rows) ≡ serve_by (Some admin) (Some workers) (Some sessions)
+  level : Level (serve-shape name) rows words
+  reads : (transport : Transport) → serve_by transport (first_of (codes "admin") rows) (first_of (codes "workers") rows) (first_of (codes "sessions") rows) ≡ serve_by transport (Some admin) (Some workers) (Some sessions)
 
-module _ (admin workers sessions : Text) (a b c : List Text) (pa : IsPlain admin) (pb : IsPlain workers) (pc : IsPlain sessions)
+module _ (name admin workers sessions : Text) (a b c : List Text) (pa : IsPlain admin) (pb : IsPlain workers) (pc : IsPlain sessions)
     (sa : SpellsOption (codes "--admin") admin a) (sb : SpellsOption (codes "--workers") workers b) (sc : SpellsOption (codes "--sessions") sessions c) where
-  serve-level : (words : List Text) → IsInSomeOrder a b c words → ServeLevel admin workers sessions words
+  serve-level : (words : List Text) → IsInSomeOrder a b c words → ServeLevel name admin workers sessions words
   serve-level words (inl e) = rw e (record {
     rows = three_rows Admin Workers Sessions admin workers sessions;
-    level = at-end serve-shape _ _ (three-go Admin Workers Sessions admin workers sessions a b c pa pb pc sa sb sc refl refl) refl refl refl;
-    reads = refl;
+    level = at-end (serve-shape name) _ _ (three-go name Admin Workers Sessions admin workers sessions a b c pa pb pc sa sb sc refl refl) refl refl refl;
+    reads = λ transport. refl;
   })
   serve-level words (inr (inl e)) = rw e (record {
     rows = three_rows Admin Sessions Workers admin sessions workers;
-    level = at-end serve-shape _ _ (three-go Admin Sessions Workers admin sessions workers a c b pa pc pb sa sc sb refl refl) refl refl refl;
-    reads = refl;
+    level = at-end (serve-shape name) _ _ (three-go name Admin Sessions Workers admin sessions workers a c b pa pc pb sa sc sb refl refl) refl refl refl;
+    reads = λ transport. refl;
   })
   serve-level words (inr (inr (inl e))) = rw e (record {
     rows = three_rows Workers Admin Sessions workers admin sessions;
-    level = at-end serve-shape _ _ (three-go Workers Admin Sessions workers admin sessions b a c pb pa pc sb sa sc refl refl) refl refl refl;
-    reads = refl;
+    level = at-end (serve-shape name) _ _ (three-go name Workers Admin Sessions workers admin sessions b a c pb pa pc sb sa sc refl refl) refl refl refl;
+    reads = λ transport. refl;
   })
   serve-level words (inr (inr (inr (inl e)))) = rw e (record {
     rows = three_rows Workers Sessions Admin workers sessions admin;
-    level = at-end serve-shape _ _ (three-go Workers Sessions Admin workers sessions admin b c a pb pc pa sb sc sa refl refl) refl refl refl;
-    reads = refl;
+    level = at-end (serve-shape name) _ _ (three-go name Workers Sessions Admin workers sessions admin b c a pb pc pa sb sc sa refl refl) refl refl refl;
+    reads = λ transport. refl;
   })
   serve-level words (inr (inr (inr (inr (inl e))))) = rw e (record {
     rows = three_rows Sessions Admin Workers sessions admin workers;
-    level = at-end serve-shape _ _ (three-go Sessions Admin Workers sessions admin workers c a b pc pa pb sc sa sb refl refl) refl refl refl;
-    reads = refl;
+    level = at-end (serve-shape name) _ _ (three-go name Sessions Admin Workers sessions admin workers c a b pc pa pb sc sa sb refl refl) refl refl refl;
+    reads = λ transport. refl;
   })
   serve-level words (inr (inr (inr (inr (inr e))))) = rw e (record {
     rows = three_rows Sessions Workers Admin sessions workers admin;
-    level = at-end serve-shape _ _ (three-go Sessions Workers Admin sessions workers admin c b a pc pb pa sc sb sa refl refl) refl refl refl;
-    reads = refl;
+    level = at-end (serve-shape name) _ _ (three-go name Sessions Workers Admin sessions workers admin c b a pc pb pa sc sb sa refl refl) refl refl refl;
+    reads = λ transport. refl;
   })
+
+-- a command that serves, by its name
+serve-named : (transport : Transport) (value : Text → Option Text) → command_by (serve_word transport) value ≡ serve_by transport (value (codes "admin")) (value (codes "workers")) (value (codes "sessions"))
+serve-named Git value = refl
+serve-named Http value = refl
 
 -- what `load` holds after its two words
 abbrev load_rows : Text → Text → List Row
@@ -319,15 +327,23 @@ alone-level : (name : Text) → Level (alone-shape name) [] []
 unfolding clap_on_literals
 alone-level name = record { rows_are = refl; passes = refl }
 
+serve-taken : (transport : Transport) (admin : Text) (workers sessions : ℕ) (rest : List Text) → is_user_name admin ≡ true → 1 ≤ workers → workers ≤ 8 → 1 ≤ sessions → sessions ≤ 1000000 → SpellsServe admin workers sessions rest
+    → IsCommand (serve_word transport) (serve-shape (serve_word transport)) → IsTaken (Serve transport admin workers sessions) (serve_word transport ∷ rest)
+serve-taken transport admin workers sessions rest name w1 w8 s1 s2 spelled is =
+    let level = serve-level (serve_word transport) admin (decimal workers) (decimal sessions) spelled.admin_words spelled.worker_words spelled.session_words (name-plain admin name) (decimal-plain workers (omega (arith, w8))) (decimal-plain sessions (omega (arith, s2))) spelled.admin_is spelled.workers_is spelled.sessions_is rest spelled.ordered in
+    let k = number_in-decimal 1 8 workers (decimal workers) (omega (arith, w8)) refl w1 w8 in
+    let n = number_in-decimal 1 1000000 sessions (decimal sessions) (omega (arith, s2)) refl s1 s2 in
+    is-taken (serve_word transport) (serve-shape (serve_word transport)) level.rows rest (Serve transport admin workers sessions) is level.level
+    (serve-named transport (λ id. first_of id level.rows) ∙ level.reads transport ∙ rw (k, n, name) refl)
+
 -- `clap` takes the words of a command
 pub spelled-taken : (command : Asked) (words : List Text) → Spells command words → IsTaken command words
 unfolding clap_on_literals
 spelled-taken (Script admin) words (name, (rest, e, spelled)) = rw e (is-taken (codes "script") (admin-shape (codes "script")) _ rest (Script admin) (record { first = refl; turn = refl; found = refl }) (admin-level (codes "script") admin rest name spelled) (rw name refl))
-spelled-taken (Serve admin workers sessions) words ((name, w1, w8, s1, s2), (rest, e, spelled)) =
-    let level = serve-level admin (decimal workers) (decimal sessions) spelled.admin_words spelled.worker_words spelled.session_words (name-plain admin name) (decimal-plain workers (omega (arith, w8))) (decimal-plain sessions (omega (arith, s2))) spelled.admin_is spelled.workers_is spelled.sessions_is rest spelled.ordered in
-    let k = number_in-decimal 1 8 workers (decimal workers) (omega (arith, w8)) refl w1 w8 in
-    let n = number_in-decimal 1 1000000 sessions (decimal sessions) (omega (arith, s2)) refl s1 s2 in
-    rw e (is-taken (codes "serve") serve-shape level.rows rest (Serve admin workers sessions) (record { first = refl; turn = refl; found = refl }) level.level (level.reads ∙ rw (k, n, name) refl))
+spelled-taken (Serve Git admin workers sessions) words (limits, (rest, e, spelled)) =
+    rw e (serve-taken Git admin workers sessions rest limits.0 limits.1 limits.2 limits.3 limits.4 spelled (record { first = refl; turn = refl; found = refl }))
+spelled-taken (Serve Http admin workers sessions) words (limits, (rest, e, spelled)) =
+    rw e (serve-taken Http admin workers sessions rest limits.0 limits.1 limits.2 limits.3 limits.4 spelled (record { first = refl; turn = refl; found = refl }))
 spelled-taken Check words (limits, e) = rw e (is-taken (codes "check") (alone-shape (codes "check")) [] [] Check (record { first = refl; turn = refl; found = refl }) (alone-level (codes "check")) refl)
 spelled-taken (Load count start) words ((c1, c2, s2), e) =
     let k = number_in-decimal 1 5000 count (decimal count) (omega (arith, c2)) refl c1 c2 in
@@ -422,11 +438,12 @@ module _ (name : Text) (value : Text → Option Text) (admin : Option Text) (is-
       let by : command_by name value ≡ option_map Keep (admin_by admin) = rw (is, ← is-admin) refl in
       subst (λ (o : Option Asked). Reads o (Err fault)) (sym by) (reads-mapped Keep (admin_by admin) fault reads)
 
-  pub serve-reads : (workers sessions : Option Text) (r : Result Asked WordsFault) → name ≡ codes "serve" → workers ≡ value (codes "workers") → sessions ≡ value (codes "sessions")
-      → Reads (serve_by admin workers sessions) r → Reads (command_by name value) r
-  serve-reads workers sessions r is is-workers is-sessions reads =
-      let by : command_by name value ≡ serve_by admin workers sessions = rw (is, ← is-admin, ← is-workers, ← is-sessions) refl in
-      subst (λ (o : Option Asked). Reads o r) (sym by) reads
+  pub serve-reads : (transport : Transport) (workers sessions : Option Text) (r : Result Asked WordsFault) → name ≡ serve_word transport → workers ≡ value (codes "workers") → sessions ≡ value (codes "sessions")
+      → Reads (serve_by transport admin workers sessions) r → Reads (command_by name value) r
+  serve-reads transport workers sessions r is is-workers is-sessions reads =
+      let named : command_by name value ≡ serve_by transport (value (codes "admin")) (value (codes "workers")) (value (codes "sessions")) = ap (λ n. command_by n value) is ∙ serve-named transport value in
+      let given : serve_by transport admin workers sessions ≡ serve_by transport (value (codes "admin")) (value (codes "workers")) (value (codes "sessions")) = λ i. serve_by transport (is-admin i) (is-workers i) (is-sessions i) in
+      subst (λ (o : Option Asked). Reads o r) (given ∙ sym named) reads
 
 pub load-reads : (name : Text) (value : Text → Option Text) (count start : Option Text) (r : Result Asked WordsFault) → name ≡ codes "load" → count ≡ value (codes "count") → start ≡ value (codes "start")
     → Reads (load_by count start) r → Reads (command_by name value) r

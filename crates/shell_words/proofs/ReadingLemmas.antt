@@ -12,7 +12,9 @@ use Rattle.conf_lex.specs.Names.{is_user_name}
 use Rattle.shell_words.specs.Numbers.{number_in}
 use Rattle.shell_words.specs.Options.{Given, after_prefix, first_option, flag_text, given_after, option_at}
 use Rattle.shell_words.specs.Commands.{access_of, admin_of, admin_with, asked, check_of, keep_of, load_of, load_with, script_of, serve_by, serve_of, serve_of_three, serve_with}
-use Rattle.shell_words.specs.Spelling.{IsInSomeOrder, ReadIsSpelled, Spells, SpellsOption}
+use Rattle.shell_words.specs.Spelling.{IsInSomeOrder, ReadIsSpelled, Spells, SpellsOption, serve_word}
+use Rattle.shell_words.specs.declared.commands.Transport.{Transport}
+use Rattle.shell_words.specs.declared.commands.Transport.TheVariants.{Git, Http}
 use Rattle.shell_words.specs.declared.options.Flag.{Flag}
 use Rattle.shell_words.specs.declared.options.Flag.TheVariants.{Admin, Workers, Sessions}
 use Rattle.shell_words.specs.declared.commands.Asked.{Asked}
@@ -172,20 +174,20 @@ access-spelled [] command e =
 access-spelled (word ∷ rest) command e = absurd (cc)
 
 -- the values of `serve`
-record HasServeValues (admin workers sessions : List ℕ) (command : Asked) : Type 0 where
+record HasServeValues (transport : Transport) (admin workers sessions : List ℕ) (command : Asked) : Type 0 where
   k : ℕ
   n : ℕ
-  is : Serve admin k n ≡ command
+  is : Serve transport admin k n ≡ command
   name : is_user_name admin ≡ true
   k-is : IsSpelledNumber 1 8 k workers
   n-is : IsSpelledNumber 1 1000000 n sessions
 
-serve-values : (admin workers sessions : List ℕ) (command : Asked) → serve_by (Some admin) (Some workers) (Some sessions) ≡ Some command → HasServeValues admin workers sessions command
-serve-values admin workers sessions command e = by (number_in 1 8 workers) (number_in 1 1000000 sessions) refl refl e
+serve-values : (transport : Transport) (admin workers sessions : List ℕ) (command : Asked) → serve_by transport (Some admin) (Some workers) (Some sessions) ≡ Some command → HasServeValues transport admin workers sessions command
+serve-values transport admin workers sessions command e = by (number_in 1 8 workers) (number_in 1 1000000 sessions) refl refl e
   where
-    by : (k n : Option ℕ) → number_in 1 8 workers ≡ k → number_in 1 1000000 sessions ≡ n → serve_with admin k n ≡ Some command → HasServeValues admin workers sessions command
+    by : (k n : Option ℕ) → number_in 1 8 workers ≡ k → number_in 1 1000000 sessions ≡ n → serve_with transport admin k n ≡ Some command → HasServeValues transport admin workers sessions command
     by (Some k) (Some n) k-is n-is is =
-        if-case (is_user_name admin) (Some (Serve admin k n)) None (Some command) is (λ name same. record {
+        if-case (is_user_name admin) (Some (Serve transport admin k n)) None (Some command) is (λ name same. record {
           k = k;
           n = n;
           is = cc;
@@ -197,11 +199,11 @@ serve-values admin workers sessions command e = by (number_in 1 8 workers) (numb
     by None n k-is n-is is = absurd (cc)
 
 -- `serve` is spelled by its three options in some order
-serve-in-order : (admin workers sessions : List ℕ) (a b c words : List (List ℕ)) (command : Asked) → SpellsOption (codes "--admin") admin a → SpellsOption (codes "--workers") workers b
-    → SpellsOption (codes "--sessions") sessions c → IsInSomeOrder a b c words → serve_by (Some admin) (Some workers) (Some sessions) ≡ Some command → Spells command (codes "serve" ∷ words)
-serve-in-order admin workers sessions a b c words command first second third order e =
-    let values = serve-values admin workers sessions command e in
-    subst (λ x. Spells x (codes "serve" ∷ words)) values.is (
+serve-in-order : (transport : Transport) (admin workers sessions : List ℕ) (a b c words : List (List ℕ)) (command : Asked) → SpellsOption (codes "--admin") admin a → SpellsOption (codes "--workers") workers b
+    → SpellsOption (codes "--sessions") sessions c → IsInSomeOrder a b c words → serve_by transport (Some admin) (Some workers) (Some sessions) ≡ Some command → Spells command (serve_word transport ∷ words)
+serve-in-order transport admin workers sessions a b c words command first second third order e =
+    let values = serve-values transport admin workers sessions command e in
+    subst (λ x. Spells x (serve_word transport ∷ words)) values.is (
       (values.name, values.k-is.low, values.k-is.high, values.n-is.low, values.n-is.high),
       (
         words,
@@ -219,53 +221,53 @@ serve-in-order admin workers sessions a b c words command first second third ord
     )
 
 -- three options in a row that are read as a command have the three flags
-three-spelled : (f g h : Flag) (u v w : List ℕ) (more other : List (List ℕ)) (a b c : List (List ℕ)) (command : Asked) → SpellsOption (flag_text f) u a → SpellsOption (flag_text g) v b → SpellsOption (flag_text h) w c
-    → serve_of_three (record { flag = f; value = u; rest = more }) (record { flag = g; value = v; rest = other }) (record { flag = h; value = w; rest = [] }) [] ≡ Some command → Spells command (codes "serve" ∷ (a ++ (b ++ c)))
-three-spelled Admin Admin Admin u v w more other a b c command first second third e = absurd (cc)
-three-spelled Admin Admin Workers u v w more other a b c command first second third e = absurd (cc)
-three-spelled Admin Admin Sessions u v w more other a b c command first second third e = absurd (cc)
-three-spelled Admin Workers Admin u v w more other a b c command first second third e = absurd (cc)
-three-spelled Admin Workers Workers u v w more other a b c command first second third e = absurd (cc)
-three-spelled Admin Workers Sessions u v w more other a b c command first second third e = serve-in-order u v w a b c (a ++ (b ++ c)) command first second third (inl refl) e
-three-spelled Admin Sessions Admin u v w more other a b c command first second third e = absurd (cc)
-three-spelled Admin Sessions Workers u v w more other a b c command first second third e = serve-in-order u w v a c b (a ++ (b ++ c)) command first third second (inr (inl refl)) e
-three-spelled Admin Sessions Sessions u v w more other a b c command first second third e = absurd (cc)
-three-spelled Workers Admin Admin u v w more other a b c command first second third e = absurd (cc)
-three-spelled Workers Admin Workers u v w more other a b c command first second third e = absurd (cc)
-three-spelled Workers Admin Sessions u v w more other a b c command first second third e = serve-in-order v u w b a c (a ++ (b ++ c)) command second first third (inr (inr (inl refl))) e
-three-spelled Workers Workers Admin u v w more other a b c command first second third e = absurd (cc)
-three-spelled Workers Workers Workers u v w more other a b c command first second third e = absurd (cc)
-three-spelled Workers Workers Sessions u v w more other a b c command first second third e = absurd (cc)
-three-spelled Workers Sessions Admin u v w more other a b c command first second third e = serve-in-order w u v c a b (a ++ (b ++ c)) command third first second (inr (inr (inr (inl refl)))) e
-three-spelled Workers Sessions Workers u v w more other a b c command first second third e = absurd (cc)
-three-spelled Workers Sessions Sessions u v w more other a b c command first second third e = absurd (cc)
-three-spelled Sessions Admin Admin u v w more other a b c command first second third e = absurd (cc)
-three-spelled Sessions Admin Workers u v w more other a b c command first second third e = serve-in-order v w u b c a (a ++ (b ++ c)) command second third first (inr (inr (inr (inr (inl refl))))) e
-three-spelled Sessions Admin Sessions u v w more other a b c command first second third e = absurd (cc)
-three-spelled Sessions Workers Admin u v w more other a b c command first second third e = serve-in-order w v u c b a (a ++ (b ++ c)) command third second first (inr (inr (inr (inr (inr refl))))) e
-three-spelled Sessions Workers Workers u v w more other a b c command first second third e = absurd (cc)
-three-spelled Sessions Workers Sessions u v w more other a b c command first second third e = absurd (cc)
-three-spelled Sessions Sessions Admin u v w more other a b c command first second third e = absurd (cc)
-three-spelled Sessions Sessions Workers u v w more other a b c command first second third e = absurd (cc)
-three-spelled Sessions Sessions Sessions u v w more other a b c command first second third e = absurd (cc)
+three-spelled : (transport : Transport) (f g h : Flag) (u v w : List ℕ) (more other : List (List ℕ)) (a b c : List (List ℕ)) (command : Asked) → SpellsOption (flag_text f) u a → SpellsOption (flag_text g) v b → SpellsOption (flag_text h) w c
+    → serve_of_three transport (record { flag = f; value = u; rest = more }) (record { flag = g; value = v; rest = other }) (record { flag = h; value = w; rest = [] }) [] ≡ Some command → Spells command (serve_word transport ∷ (a ++ (b ++ c)))
+three-spelled transport Admin Admin Admin u v w more other a b c command first second third e = absurd (cc)
+three-spelled transport Admin Admin Workers u v w more other a b c command first second third e = absurd (cc)
+three-spelled transport Admin Admin Sessions u v w more other a b c command first second third e = absurd (cc)
+three-spelled transport Admin Workers Admin u v w more other a b c command first second third e = absurd (cc)
+three-spelled transport Admin Workers Workers u v w more other a b c command first second third e = absurd (cc)
+three-spelled transport Admin Workers Sessions u v w more other a b c command first second third e = serve-in-order transport u v w a b c (a ++ (b ++ c)) command first second third (inl refl) e
+three-spelled transport Admin Sessions Admin u v w more other a b c command first second third e = absurd (cc)
+three-spelled transport Admin Sessions Workers u v w more other a b c command first second third e = serve-in-order transport u w v a c b (a ++ (b ++ c)) command first third second (inr (inl refl)) e
+three-spelled transport Admin Sessions Sessions u v w more other a b c command first second third e = absurd (cc)
+three-spelled transport Workers Admin Admin u v w more other a b c command first second third e = absurd (cc)
+three-spelled transport Workers Admin Workers u v w more other a b c command first second third e = absurd (cc)
+three-spelled transport Workers Admin Sessions u v w more other a b c command first second third e = serve-in-order transport v u w b a c (a ++ (b ++ c)) command second first third (inr (inr (inl refl))) e
+three-spelled transport Workers Workers Admin u v w more other a b c command first second third e = absurd (cc)
+three-spelled transport Workers Workers Workers u v w more other a b c command first second third e = absurd (cc)
+three-spelled transport Workers Workers Sessions u v w more other a b c command first second third e = absurd (cc)
+three-spelled transport Workers Sessions Admin u v w more other a b c command first second third e = serve-in-order transport w u v c a b (a ++ (b ++ c)) command third first second (inr (inr (inr (inl refl)))) e
+three-spelled transport Workers Sessions Workers u v w more other a b c command first second third e = absurd (cc)
+three-spelled transport Workers Sessions Sessions u v w more other a b c command first second third e = absurd (cc)
+three-spelled transport Sessions Admin Admin u v w more other a b c command first second third e = absurd (cc)
+three-spelled transport Sessions Admin Workers u v w more other a b c command first second third e = serve-in-order transport v w u b c a (a ++ (b ++ c)) command second third first (inr (inr (inr (inr (inl refl))))) e
+three-spelled transport Sessions Admin Sessions u v w more other a b c command first second third e = absurd (cc)
+three-spelled transport Sessions Workers Admin u v w more other a b c command first second third e = serve-in-order transport w v u c b a (a ++ (b ++ c)) command third second first (inr (inr (inr (inr (inr refl))))) e
+three-spelled transport Sessions Workers Workers u v w more other a b c command first second third e = absurd (cc)
+three-spelled transport Sessions Workers Sessions u v w more other a b c command first second third e = absurd (cc)
+three-spelled transport Sessions Sessions Admin u v w more other a b c command first second third e = absurd (cc)
+three-spelled transport Sessions Sessions Workers u v w more other a b c command first second third e = absurd (cc)
+three-spelled transport Sessions Sessions Sessions u v w more other a b c command first second third e = absurd (cc)
 
 -- `serve` is read from its spellings alone
-serve-spelled : (words : List (List ℕ)) (command : Asked) → serve_of words ≡ Some command → Spells command (codes "serve" ∷ words)
-serve-spelled words command e =
-    option_and_then_some (λ x. option_and_then (λ y. option_and_then (λ z. serve_of_three x y z z.rest) (first_option y.rest)) (first_option x.rest)) (first_option words) command e (λ x x-is later.
-    option_and_then_some (λ y. option_and_then (λ z. serve_of_three x y z z.rest) (first_option y.rest)) (first_option x.rest) command later (λ y y-is last.
-    option_and_then_some (λ z. serve_of_three x y z z.rest) (first_option y.rest) command last (λ z z-is is.
+serve-spelled : (transport : Transport) (words : List (List ℕ)) (command : Asked) → serve_of transport words ≡ Some command → Spells command (serve_word transport ∷ words)
+serve-spelled transport words command e =
+    option_and_then_some (λ x. option_and_then (λ y. option_and_then (λ z. serve_of_three transport x y z z.rest) (first_option y.rest)) (first_option x.rest)) (first_option words) command e (λ x x-is later.
+    option_and_then_some (λ y. option_and_then (λ z. serve_of_three transport x y z z.rest) (first_option y.rest)) (first_option x.rest) command later (λ y y-is last.
+    option_and_then_some (λ z. serve_of_three transport x y z z.rest) (first_option y.rest) command last (λ z z-is is.
     let first = first-option-spelled words x x-is in
     let second = first-option-spelled x.rest y y-is in
     let third = first-option-spelled y.rest z z-is in
     by x y z z.rest first.own second.own third.own first.spelled second.spelled third.spelled first.split second.split third.split is)))
   where
     by : (x y z : Given) (rest a b c : List (List ℕ)) → SpellsOption (flag_text x.flag) x.value a → SpellsOption (flag_text y.flag) y.value b → SpellsOption (flag_text z.flag) z.value c
-        → words ≡ a ++ x.rest → x.rest ≡ b ++ y.rest → y.rest ≡ c ++ rest → serve_of_three x y z rest ≡ Some command → Spells command (codes "serve" ∷ words)
+        → words ≡ a ++ x.rest → x.rest ≡ b ++ y.rest → y.rest ≡ c ++ rest → serve_of_three transport x y z rest ≡ Some command → Spells command (serve_word transport ∷ words)
     by x y z [] a b c first second third x-split y-split z-split is =
         let split : words ≡ a ++ (b ++ c) = x-split ∙ ap (λ t. a ++ t) (y-split ∙ ap (λ t. b ++ t) (z-split ∙ append-nil c)) in
-        subst (λ t. Spells command (codes "serve" ∷ t)) (sym split)
-        (three-spelled x.flag y.flag z.flag x.value y.value z.value x.rest y.rest a b c command first second third is)
+        subst (λ t. Spells command (serve_word transport ∷ t)) (sym split)
+        (three-spelled transport x.flag y.flag z.flag x.value y.value z.value x.rest y.rest a b c command first second third is)
     by x y z (word ∷ rest) a b c first second third x-split y-split z-split is = absurd (cc)
 
 -- a command is read from its spellings alone
@@ -274,11 +276,12 @@ unfolding asked
 read-spelled command [] e = absurd (cc)
 read-spelled command (verb ∷ rest) e =
     if-case (bytes_eq verb (codes "script")) (script_of rest) _ (Some command) e (λ same is. behind (codes "script") same (script-spelled rest command is)) (λ other e2.
-    if-case (bytes_eq verb (codes "serve")) (serve_of rest) _ (Some command) e2 (λ same is. behind (codes "serve") same (serve-spelled rest command is)) (λ other2 e3.
-    if-case (bytes_eq verb (codes "check")) (check_of rest) _ (Some command) e3 (λ same is. behind (codes "check") same (check-spelled rest command is)) (λ other3 e4.
-    if-case (bytes_eq verb (codes "load")) (load_of rest) _ (Some command) e4 (λ same is. behind (codes "load") same (load-spelled rest command is)) (λ other4 e5.
-    if-case (bytes_eq verb (codes "keep")) (keep_of rest) _ (Some command) e5 (λ same is. behind (codes "keep") same (keep-spelled rest command is)) (λ other5 e6.
-    if-case (bytes_eq verb (codes "access")) (access_of rest) None (Some command) e6 (λ same is. behind (codes "access") same (access-spelled rest command is)) (λ other6 none. absurd (cc)))))))
+    if-case (bytes_eq verb (codes "serve")) (serve_of Git rest) _ (Some command) e2 (λ same is. behind (codes "serve") same (serve-spelled Git rest command is)) (λ other2 e3.
+    if-case (bytes_eq verb (codes "http")) (serve_of Http rest) _ (Some command) e3 (λ same is. behind (codes "http") same (serve-spelled Http rest command is)) (λ other3 e4.
+    if-case (bytes_eq verb (codes "check")) (check_of rest) _ (Some command) e4 (λ same is. behind (codes "check") same (check-spelled rest command is)) (λ other4 e5.
+    if-case (bytes_eq verb (codes "load")) (load_of rest) _ (Some command) e5 (λ same is. behind (codes "load") same (load-spelled rest command is)) (λ other5 e6.
+    if-case (bytes_eq verb (codes "keep")) (keep_of rest) _ (Some command) e6 (λ same is. behind (codes "keep") same (keep-spelled rest command is)) (λ other6 e7.
+    if-case (bytes_eq verb (codes "access")) (access_of rest) None (Some command) e7 (λ same is. behind (codes "access") same (access-spelled rest command is)) (λ other7 none. absurd (cc))))))))
   where
     behind : (text : List ℕ) → bytes_eq verb text ≡ true → Spells command (text ∷ rest) → Spells command (verb ∷ rest)
     behind text same spelled = subst (λ t. Spells command (t ∷ rest)) (sym (same-word verb text same)) spelled

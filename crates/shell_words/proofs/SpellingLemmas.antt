@@ -9,6 +9,8 @@ use Rattle.shell_words.specs.Commands.{admin_of, asked, serve_by, serve_of, serv
 use Rattle.shell_words.specs.Spelling.{IsInSomeOrder, SpellsOption, SpellsServe, SpelledIsRead}
 use Rattle.shell_words.specs.declared.options.Flag.{Flag}
 use Rattle.shell_words.specs.declared.options.Flag.TheVariants.{Admin, Workers, Sessions}
+use Rattle.shell_words.specs.declared.commands.Transport.{Transport}
+use Rattle.shell_words.specs.declared.commands.Transport.TheVariants.{Git, Http}
 use Rattle.shell_words.specs.declared.commands.Asked.TheVariants.{Script, Serve, Check, Load, Keep, Access}
 
 abbrev pub given : Flag → List ℕ → List (List ℕ) → Given
@@ -32,25 +34,25 @@ admin-read : (admin : List ℕ) (words : List (List ℕ)) → is_user_name admin
 admin-read admin words name spelled = rw (last_option-spelled Admin admin words spelled, name) refl
 
 -- three options are read from their spellings, in their order
-three-read : (f g h : Flag) (u v w : List ℕ) (a b c : List (List ℕ)) → SpellsOption (flag_text f) u a → SpellsOption (flag_text g) v b → SpellsOption (flag_text h) w c
-    → serve_of (a ++ (b ++ c)) ≡ serve_of_three (given f u (b ++ c)) (given g v c) (given h w []) []
-three-read f g h u v w a b c first second third =
+three-read : (transport : Transport) (f g h : Flag) (u v w : List ℕ) (a b c : List (List ℕ)) → SpellsOption (flag_text f) u a → SpellsOption (flag_text g) v b → SpellsOption (flag_text h) w c
+    → serve_of transport (a ++ (b ++ c)) ≡ serve_of_three transport (given f u (b ++ c)) (given g v c) (given h w []) []
+three-read transport f g h u v w a b c first second third =
     rw (first_option-spelled f u a (b ++ c) first, first_option-spelled g v b c second, last_option-spelled h w c third) refl
 
-module _ (admin workers sessions : List ℕ) (a b c : List (List ℕ)) (first : SpellsOption (codes "--admin") admin a)
+module _ (transport : Transport) (admin workers sessions : List ℕ) (a b c : List (List ℕ)) (first : SpellsOption (codes "--admin") admin a)
     (second : SpellsOption (codes "--workers") workers b) (third : SpellsOption (codes "--sessions") sessions c) where
-  in-order-read : (words : List (List ℕ)) → IsInSomeOrder a b c words → serve_of words ≡ serve_by (Some admin) (Some workers) (Some sessions)
-  in-order-read words (inl e) = rw e (three-read Admin Workers Sessions admin workers sessions a b c first second third)
-  in-order-read words (inr (inl e)) = rw e (three-read Admin Sessions Workers admin sessions workers a c b first third second)
-  in-order-read words (inr (inr (inl e))) = rw e (three-read Workers Admin Sessions workers admin sessions b a c second first third)
-  in-order-read words (inr (inr (inr (inl e)))) = rw e (three-read Workers Sessions Admin workers sessions admin b c a second third first)
-  in-order-read words (inr (inr (inr (inr (inl e))))) = rw e (three-read Sessions Admin Workers sessions admin workers c a b third first second)
-  in-order-read words (inr (inr (inr (inr (inr e))))) = rw e (three-read Sessions Workers Admin sessions workers admin c b a third second first)
+  in-order-read : (words : List (List ℕ)) → IsInSomeOrder a b c words → serve_of transport words ≡ serve_by transport (Some admin) (Some workers) (Some sessions)
+  in-order-read words (inl e) = rw e (three-read transport Admin Workers Sessions admin workers sessions a b c first second third)
+  in-order-read words (inr (inl e)) = rw e (three-read transport Admin Sessions Workers admin sessions workers a c b first third second)
+  in-order-read words (inr (inr (inl e))) = rw e (three-read transport Workers Admin Sessions workers admin sessions b a c second first third)
+  in-order-read words (inr (inr (inr (inl e)))) = rw e (three-read transport Workers Sessions Admin workers sessions admin b c a second third first)
+  in-order-read words (inr (inr (inr (inr (inl e))))) = rw e (three-read transport Sessions Admin Workers sessions admin workers c a b third first second)
+  in-order-read words (inr (inr (inr (inr (inr e))))) = rw e (three-read transport Sessions Workers Admin sessions workers admin c b a third second first)
 
-serve-read : (admin : List ℕ) (workers sessions : ℕ) (words : List (List ℕ)) → is_user_name admin ≡ true → 1 ≤ workers → workers ≤ 8 → 1 ≤ sessions → sessions ≤ 1000000
-    → SpellsServe admin workers sessions words → serve_of words ≡ Some (Serve admin workers sessions)
-serve-read admin workers sessions words name w1 w8 s1 s2 s =
-    let read = in-order-read admin (decimal workers) (decimal sessions) s.admin_words s.worker_words s.session_words s.admin_is s.workers_is s.sessions_is words s.ordered in
+serve-read : (transport : Transport) (admin : List ℕ) (workers sessions : ℕ) (words : List (List ℕ)) → is_user_name admin ≡ true → 1 ≤ workers → workers ≤ 8 → 1 ≤ sessions → sessions ≤ 1000000
+    → SpellsServe admin workers sessions words → serve_of transport words ≡ Some (Serve transport admin workers sessions)
+serve-read transport admin workers sessions words name w1 w8 s1 s2 s =
+    let read = in-order-read transport admin (decimal workers) (decimal sessions) s.admin_words s.worker_words s.session_words s.admin_is s.workers_is s.sessions_is words s.ordered in
     let k = number_in-decimal 1 8 workers (decimal workers) (omega (arith, w8)) refl w1 w8 in
     let n = number_in-decimal 1 1000000 sessions (decimal sessions) (omega (arith, s2)) refl s1 s2 in
     rw (read, k, n, name) refl
@@ -58,7 +60,8 @@ serve-read admin workers sessions words name w1 w8 s1 s2 s =
 pub spelled-read : SpelledIsRead
 unfolding asked
 spelled-read (Script admin) words (name, (rest, e, spelled)) = rw (e, admin-read admin rest name spelled) refl
-spelled-read (Serve admin workers sessions) words ((name, w1, w8, s1, s2), (rest, e, spelled)) = rw e (serve-read admin workers sessions rest name w1 w8 s1 s2 spelled)
+spelled-read (Serve Git admin workers sessions) words ((name, w1, w8, s1, s2), (rest, e, spelled)) = rw e (serve-read Git admin workers sessions rest name w1 w8 s1 s2 spelled)
+spelled-read (Serve Http admin workers sessions) words ((name, w1, w8, s1, s2), (rest, e, spelled)) = rw e (serve-read Http admin workers sessions rest name w1 w8 s1 s2 spelled)
 spelled-read Check words (limits, e) = rw e refl
 spelled-read (Load count start) words ((c1, c2, s2), e) =
     let k = number_in-decimal 1 5000 count (decimal count) (omega (arith, c2)) refl c1 c2 in

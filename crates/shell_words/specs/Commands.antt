@@ -9,6 +9,8 @@ use Rattle.shell_words.specs.declared.options.Flag.{Flag}
 use Rattle.shell_words.specs.declared.options.Flag.TheVariants.{Admin, Workers, Sessions}
 use Rattle.shell_words.specs.declared.commands.Asked.{Asked}
 use Rattle.shell_words.specs.declared.commands.Asked.TheVariants.{Script, Serve, Check, Load, Keep, Access}
+use Rattle.shell_words.specs.declared.commands.Transport.{Transport}
+use Rattle.shell_words.specs.declared.commands.Transport.TheVariants.{Git, Http}
 use Rattle.shell_words.specs.declared.commands.WordsFault.{WordsFault}
 use Rattle.shell_words.specs.declared.commands.WordsFault.TheVariants.{Usage, NoMemory}
 
@@ -68,35 +70,36 @@ value_of flag a b c =
     else if is_flag flag c.flag then Some c.value
     else None
 
--- `serve` by the admin and the two numbers
-abbrev pub serve_with : List ℕ → Option ℕ → Option ℕ → Option Asked
-serve_with admin (Some workers) (Some sessions) = if is_user_name admin then Some (Serve admin workers sessions) else None
-serve_with admin (Some workers) None = None
-serve_with admin None sessions = None
+-- `serve`, or `http`, by the admin and the two numbers
+abbrev pub serve_with : Transport → List ℕ → Option ℕ → Option ℕ → Option Asked
+serve_with transport admin (Some workers) (Some sessions) = if is_user_name admin then Some (Serve transport admin workers sessions) else None
+serve_with transport admin (Some workers) None = None
+serve_with transport admin None sessions = None
 
--- `serve` by the values of its three options, where each is given
-abbrev pub serve_by : Option (List ℕ) → Option (List ℕ) → Option (List ℕ) → Option Asked
-serve_by (Some admin) (Some workers) (Some sessions) = serve_with admin (number_in 1 8 workers) (number_in 1 1000000 sessions)
-serve_by (Some admin) (Some workers) None = None
-serve_by (Some admin) None sessions = None
-serve_by None workers sessions = None
+-- the same by the values of the three options, where each is given
+abbrev pub serve_by : Transport → Option (List ℕ) → Option (List ℕ) → Option (List ℕ) → Option Asked
+serve_by transport (Some admin) (Some workers) (Some sessions) = serve_with transport admin (number_in 1 8 workers) (number_in 1 1000000 sessions)
+serve_by transport (Some admin) (Some workers) None = None
+serve_by transport (Some admin) None sessions = None
+serve_by transport None workers sessions = None
 
--- `serve` by three options, the last of which nothing is behind
-abbrev pub serve_of_three : Given → Given → Given → List (List ℕ) → Option Asked
-serve_of_three a b c [] = serve_by (value_of Admin a b c) (value_of Workers a b c) (value_of Sessions a b c)
-serve_of_three a b c (word ∷ rest) = None
+-- the same by three options, the last of which nothing is behind
+abbrev pub serve_of_three : Transport → Given → Given → Given → List (List ℕ) → Option Asked
+serve_of_three transport a b c [] = serve_by transport (value_of Admin a b c) (value_of Workers a b c) (value_of Sessions a b c)
+serve_of_three transport a b c (word ∷ rest) = None
 
--- `serve` with the options `--admin`, `--workers` and `--sessions`, each once, in any order
-abbrev pub serve_of : List (List ℕ) → Option Asked
-serve_of words =
-    option_and_then (λ a. option_and_then (λ b. option_and_then (λ c. serve_of_three a b c c.rest) (first_option b.rest)) (first_option a.rest)) (first_option words)
+-- the options `--admin`, `--workers` and `--sessions`, each once, in any order
+abbrev pub serve_of : Transport → List (List ℕ) → Option Asked
+serve_of transport words =
+    option_and_then (λ a. option_and_then (λ b. option_and_then (λ c. serve_of_three transport a b c c.rest) (first_option b.rest)) (first_option a.rest)) (first_option words)
 
 -- the command that the words are, where they are one
 unfoldable pub asked : List (List ℕ) → Option Asked
 asked [] = None
 asked (verb ∷ rest) =
     if bytes_eq verb (codes "script") then script_of rest
-    else if bytes_eq verb (codes "serve") then serve_of rest
+    else if bytes_eq verb (codes "serve") then serve_of Git rest
+    else if bytes_eq verb (codes "http") then serve_of Http rest
     else if bytes_eq verb (codes "check") then check_of rest
     else if bytes_eq verb (codes "load") then load_of rest
     else if bytes_eq verb (codes "keep") then keep_of rest
@@ -106,7 +109,7 @@ asked (verb ∷ rest) =
 -- the values of a command are within their limits
 abbrev pub IsWithinLimits : Asked → Type 0
 IsWithinLimits (Script admin) = is_user_name admin ≡ true
-IsWithinLimits (Serve admin workers sessions) = (is_user_name admin ≡ true) × (1 ≤ workers) × (workers ≤ 8) × (1 ≤ sessions) × (sessions ≤ 1000000)
+IsWithinLimits (Serve transport admin workers sessions) = (is_user_name admin ≡ true) × (1 ≤ workers) × (workers ≤ 8) × (1 ≤ sessions) × (sessions ≤ 1000000)
 IsWithinLimits Check = ⊤
 IsWithinLimits (Load count start) = (1 ≤ count) × (count ≤ 5000) × (start ≤ 4294967295)
 IsWithinLimits (Keep admin) = is_user_name admin ≡ true

@@ -6,6 +6,7 @@ use Rattle.clap.specs.Words.{App, Row, Rule, Text, first_of, new_app, new_rule, 
 use Rattle.conf_lex.specs.Names.{is_user_name}
 use Rattle.shell_words.specs.Numbers.{number_in}
 use Rattle.shell_words.specs.Commands.{load_with, serve_by}
+use Rattle.shell_words.specs.declared.commands.Transport.TheVariants.{Git, Http}
 use Rattle.shell_words.specs.declared.commands.Asked.{Asked}
 use Rattle.shell_words.specs.declared.commands.Asked.TheVariants.{Script, Check, Keep, Access}
 
@@ -21,8 +22,9 @@ word_rule name = record (new_rule name) { required = true }
 abbrev pub admin_command : Text → App
 admin_command name = with_rule (new_app name) (option_rule (codes "admin"))
 
-abbrev pub serve_command : App
-serve_command = with_rule (with_rule (admin_command (codes "serve")) (option_rule (codes "workers"))) (option_rule (codes "sessions"))
+-- a command with the options `--admin`, `--workers` and `--sessions`
+abbrev pub serve_command : Text → App
+serve_command name = with_rule (with_rule (admin_command name) (option_rule (codes "workers"))) (option_rule (codes "sessions"))
 
 abbrev pub load_command : App
 load_command = with_rule (with_rule (new_app (codes "load")) (word_rule (codes "count"))) (word_rule (codes "start"))
@@ -42,8 +44,8 @@ with_command program command = with_subcommand program command.top
 
 abbrev pub program : App
 program =
-    with_command (with_command (with_command (with_command (with_command (with_command bare_program
-    (admin_command (codes "script"))) serve_command) (new_app (codes "check"))) load_command)
+    with_command (with_command (with_command (with_command (with_command (with_command (with_command bare_program
+    (admin_command (codes "script"))) (serve_command (codes "serve"))) (serve_command (codes "http"))) (new_app (codes "check"))) load_command)
     (admin_command (codes "keep"))) (new_app (codes "access"))
 
 -- the user's name that was given
@@ -60,7 +62,8 @@ load_by None start = None
 abbrev pub command_by : Text → (Text → Option Text) → Option Asked
 command_by name value =
     if bytes_eq name (codes "script") then option_map Script (admin_by (value (codes "admin")))
-    else if bytes_eq name (codes "serve") then serve_by (value (codes "admin")) (value (codes "workers")) (value (codes "sessions"))
+    else if bytes_eq name (codes "serve") then serve_by Git (value (codes "admin")) (value (codes "workers")) (value (codes "sessions"))
+    else if bytes_eq name (codes "http") then serve_by Http (value (codes "admin")) (value (codes "workers")) (value (codes "sessions"))
     else if bytes_eq name (codes "check") then Some Check
     else if bytes_eq name (codes "load") then load_by (value (codes "count")) (value (codes "start"))
     else if bytes_eq name (codes "keep") then option_map Keep (admin_by (value (codes "admin")))

@@ -1,6 +1,8 @@
 -- How commands are spelled, and that the words that spell one are read as it, and no others.
 use Rattle.std.specs.Prelude.{◌≡◌, ◌⊎◌, ℕ, List, [], ◌∷◌, ◌++◌, codes, decimal, Some}
 use Rattle.shell_words.specs.Commands.{IsWithinLimits, asked}
+use Rattle.shell_words.specs.declared.commands.Transport.{Transport}
+use Rattle.shell_words.specs.declared.commands.Transport.TheVariants.{Git, Http}
 use Rattle.shell_words.specs.declared.commands.Asked.{Asked}
 use Rattle.shell_words.specs.declared.commands.Asked.TheVariants.{Script, Serve, Check, Load, Keep, Access}
 
@@ -13,7 +15,12 @@ abbrev pub IsInSomeOrder : List (List ℕ) → List (List ℕ) → List (List �
 IsInSomeOrder a b c words =
     (words ≡ a ++ (b ++ c)) ⊎ (words ≡ a ++ (c ++ b)) ⊎ (words ≡ b ++ (a ++ c)) ⊎ (words ≡ b ++ (c ++ a)) ⊎ (words ≡ c ++ (a ++ b)) ⊎ (words ≡ c ++ (b ++ a))
 
--- what is behind `serve`
+-- the word of a command that serves
+abbrev pub serve_word : Transport → List ℕ
+serve_word Git = codes "serve"
+serve_word Http = codes "http"
+
+-- what is behind it
 pub record SpellsServe (admin : List ℕ) (workers sessions : ℕ) (words : List (List ℕ)) : Type 0 where
   pub admin_words : List (List ℕ)
   pub worker_words : List (List ℕ)
@@ -30,7 +37,7 @@ Follow verb words Rest = (rest : List (List ℕ)) × (words ≡ verb ∷ rest) �
 -- how a command is spelled
 abbrev pub IsSpelledBy : Asked → List (List ℕ) → Type 0
 IsSpelledBy (Script admin) words = Follow (codes "script") words (SpellsOption (codes "--admin") admin)
-IsSpelledBy (Serve admin workers sessions) words = Follow (codes "serve") words (SpellsServe admin workers sessions)
+IsSpelledBy (Serve transport admin workers sessions) words = Follow (serve_word transport) words (SpellsServe admin workers sessions)
 IsSpelledBy Check words = words ≡ codes "check" ∷ []
 IsSpelledBy (Load count start) words = words ≡ codes "load" ∷ decimal count ∷ decimal start ∷ []
 IsSpelledBy (Keep admin) words = Follow (codes "keep") words (SpellsOption (codes "--admin") admin)

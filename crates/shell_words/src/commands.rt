@@ -11,7 +11,16 @@ use std::fmt;
 
 /// What is printed where the words are no command.
 pub const USAGE: &str =
-    "usage: gitolite_shell script --admin NAME | serve --admin NAME --workers K --sessions N | check | load N START | keep --admin NAME | access\n";
+    "usage: gitolite_shell script --admin NAME | serve --admin NAME --workers K --sessions N | http --admin NAME --workers K --sessions N | check | load N START | keep --admin NAME | access\n";
+
+/// What is served over each connection.
+#[derive(Clone, Copy, Debug, PartialEq, Eq)]
+pub enum Transport {
+    /// A session of Git's own protocol, in packets: `serve`.
+    Git,
+    /// A request of smart HTTP: `http`.
+    Http,
+}
 
 /// A command, with its values.
 #[derive(Drop)]
@@ -20,9 +29,10 @@ pub enum Asked {
     Script {
         admin: UserName,
     },
-    /// `serve --admin NAME --workers K --sessions N`, with 1 to 8 workers and 1 to 1,000,000 sessions for
-    /// each.
+    /// `serve --admin NAME --workers K --sessions N`, or `http` with the same options; 1 to 8 workers, and 1
+    /// to 1,000,000 sessions or requests for each.
     Serve {
+        transport: Transport,
         admin: UserName,
         workers: u8,
         sessions: u64,

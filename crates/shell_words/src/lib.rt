@@ -16,5 +16,5 @@ mod numbers;
 mod options;
 mod spelling;
 
-pub use commands::{Asked, USAGE, WordsFault, read_words};
+pub use commands::{Asked, Transport, USAGE, WordsFault, read_words};
 pub use laws::hold_laws;

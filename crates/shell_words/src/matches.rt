@@ -7,7 +7,7 @@ ghost use Rattle.conf_lex.specs.Names.{is_user_name};
 ghost use Rattle.shell_words.specs.Commands.{IsWithinLimits, Reads, serve_by};
 ghost use Rattle.shell_words.specs.Matches.{admin_by, admin_command, command_by, command_of, load_by, load_command, option_rule, program, serve_command};
 
-use crate::commands::{Asked, WordsFault};
+use crate::commands::{Asked, Transport, WordsFault};
 use crate::numbers::{LAST_START, MAX_LOADED, MAX_SESSIONS, MAX_WORKERS, number_in};
 use base_types::NoMemory;
 use clap::error::ErrorKind;
@@ -31,11 +31,12 @@ fn admin_command<'a>(alloc: Global, name: &'a str) -> Result<Command<'a>, AllocE
     Command::new(alloc, name).arg(option(alloc, "admin"))
 }
 
-fn serve_command<'a>(alloc: Global) -> Result<Command<'a>, AllocError>
-    ensures app { IfOk result (λ c. app_of c ≡ serve_command) }
+// A command with the options `--admin`, `--workers` and `--sessions`.
+fn serve_command<'a>(alloc: Global, name: &'a str) -> Result<Command<'a>, AllocError>
+    ensures app { IfOk result (λ c. app_of c ≡ serve_command name.entry.now) }
     ensures local { IfOk result (λ c. (fields_of c).has_globals ≡ false) }
 {
-    admin_command(alloc, "serve")?
+    admin_command(alloc, name)?
         .arg(option(alloc, "workers"))?
         .arg(option(alloc, "sessions"))
 }
@@ -57,7 +58,8 @@ fn program<'a>(alloc: Global) -> Result<Command<'a>, AllocError>
         .disable_help_flag(true)
         .disable_help_subcommand(true)
         .subcommand(admin_command(alloc, "script")?)?
-        .subcommand(serve_command(alloc)?)?
+        .subcommand(serve_command(alloc, "serve")?)?
+        .subcommand(serve_command(alloc, "http")?)?
         .subcommand(Command::new(alloc, "check"))?
         .subcommand(load_command(alloc)?)?
         .subcommand(admin_command(alloc, "keep")?)?
@@ -98,6 +100,16 @@ fn command_by(alloc: Global, name: &str, given: &ArgMatches<'_>) -> Result<Asked
         "serve" => {
             read_serve(
                 alloc,
+                Transport::Git,
+                given.get_str("admin"),
+                given.get_str("workers"),
+                given.get_str("sessions"),
+            )
+        }
+        "http" => {
+            read_serve(
+                alloc,
+                Transport::Http,
                 given.get_str("admin"),
                 given.get_str("workers"),
                 given.get_str("sessions"),
@@ -142,14 +154,15 @@ fn user_name(alloc: Global, word: &[u8]) -> Result<UserName, NoMemory>
     Ok(name)
 }
 
-// `serve` with these values.
+// `serve`, or `http`, with these values.
 fn read_serve(
     alloc: Global,
+    transport: Transport,
     admin: Option<&str>,
     workers: Option<&str>,
     sessions: Option<&str>,
 ) -> Result<Asked, WordsFault>
-    ensures reads { Reads (serve_by (option_copied admin.entry) (option_copied workers.entry) (option_copied sessions.entry)) result }
+    ensures reads { Reads (serve_by transport (option_copied admin.entry) (option_copied workers.entry) (option_copied sessions.entry)) result }
     ensures limits { IfOk result IsWithinLimits }
 {
     let (Some(workers), Some(sessions)) = (workers, sessions) else {
@@ -163,6 +176,7 @@ fn read_serve(
     };
     match read_admin(alloc, admin) {
         Ok(admin) => Ok(Asked::Serve {
+            transport,
             admin,
             workers: workers as u8,
             sessions,

@@ -4,6 +4,7 @@ ghost use Rattle.std.specs.Option.{option_copied};
 ghost use Rattle.shell_words.specs.Given.{given_of};
 ghost use Rattle.shell_words.specs.Commands.{access_of, asked, check_of, keep_of, load_of, script_of, serve_by, serve_of, value_of};
 
+use crate::commands::Transport;
 use crate::numbers::{LAST_START, MAX_LOADED, MAX_SESSIONS, MAX_WORKERS, number_in};
 use crate::options::{Flag, Given, first_option};
 use conf_lex::UserName;
@@ -19,6 +20,7 @@ pub(crate) fn is_command(words: &[String]) -> bool
     match verb.as_str() {
         "script" => is_admin(rest),
         "serve" => is_serve(rest),
+        "http" => is_serve(rest),
         "check" => are_none(rest),
         "load" => is_load(rest),
         "keep" => is_admin(rest),
@@ -74,9 +76,10 @@ fn is_load(words: &[String]) -> bool
     true
 }
 
-// Whether the words are the three options of `serve`, in any order.
+// Whether the words are the three options of `serve`, which are those of `http`, in any order.
 fn is_serve(words: &[String]) -> bool
-    ensures { result ≡ is_some (serve_of (map string_bytes words.now)) }
+    ensures git { result ≡ is_some (serve_of Transport.Git (map string_bytes words.now)) }
+    ensures http { result ≡ is_some (serve_of Transport.Http (map string_bytes words.now)) }
 {
     let Some(first) = first_option(words) else {
         return false;
@@ -120,7 +123,8 @@ fn value_of<'a>(
 
 // Whether the values of the options of `serve` are all given, and within their limits.
 fn are_values(admin: Option<&[u8]>, workers: Option<&[u8]>, sessions: Option<&[u8]>) -> bool
-    ensures { result ≡ is_some (serve_by (option_copied admin.entry) (option_copied workers.entry) (option_copied sessions.entry)) }
+    ensures git { result ≡ is_some (serve_by Transport.Git (option_copied admin.entry) (option_copied workers.entry) (option_copied sessions.entry)) }
+    ensures http { result ≡ is_some (serve_by Transport.Http (option_copied admin.entry) (option_copied workers.entry) (option_copied sessions.entry)) }
 {
     let (Some(admin), Some(workers), Some(sessions)) = (admin, workers, sessions) else {
         return false;

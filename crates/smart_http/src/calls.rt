@@ -8,14 +8,13 @@ ghost use Rattle.smart_http.specs.End.{TellsRequest, http_halt, received_end, up
 ghost use Rattle.smart_http.specs.Requests.{body_of, calling, receiving, uploading, want_of};
 ghost use Rattle.smart_http.specs.Running.{RunsPart};
 
-use crate::buffer::RequestBuffer;
 use crate::end::HttpEnd;
 use crate::responses::{end_before, write_head};
 use hub::{Desk, Pin};
 use pktline_core::{Link, PktReader};
 use receive_pack::receive_commands;
 use request_head::{Limited, Media, Service};
-use session_core::SessionEnd;
+use session_core::{PacketBuffer, SessionEnd};
 use std::alloc::Global;
 use upload_pack::{FetchEnd, upload_wants};
 
@@ -113,7 +112,7 @@ fn take_body<L: Link, K: Desk>(
     alloc: Global,
     link: &mut L,
     desk: &mut K,
-    buffer: &mut RequestBuffer,
+    buffer: &mut PacketBuffer,
     service: Service,
     length: u64,
     pin: Pin,
@@ -137,7 +136,7 @@ pub fn call<L: Link, K: Desk>(
     alloc: Global,
     link: &mut L,
     desk: &mut K,
-    buffer: &mut RequestBuffer,
+    buffer: &mut PacketBuffer,
     service: Service,
     length: u64,
     pin: Pin,

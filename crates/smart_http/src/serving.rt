@@ -11,7 +11,6 @@ ghost use Rattle.smart_http.specs.End.{TellsRequest, http_halt};
 ghost use Rattle.smart_http.specs.Requests.{by_answer, entering, responding, want_of};
 ghost use Rattle.smart_http.specs.Running.{IsSteady, RunsPart, RunsRequest, TakesRequest};
 
-use crate::buffer::RequestBuffer;
 use crate::calls::call;
 use crate::end::HttpEnd;
 use crate::responses::{advertise, refuse_denied, refuse_head, refuse_with};
@@ -22,6 +21,7 @@ use hub::{Desk, Entered, Pin};
 use hub_history::hold_laws;
 use pktline_core::Link;
 use request_head::{HeadFault, HttpFault, HttpRequest, Service, read_head, read_request};
+use session_core::PacketBuffer;
 use std::alloc::Global;
 
 // What a service wants of the repository.
@@ -39,7 +39,7 @@ fn respond<L: Link, K: Desk>(
     alloc: Global,
     link: &mut L,
     desk: &mut K,
-    buffer: &mut RequestBuffer,
+    buffer: &mut PacketBuffer,
     service: Service,
     body: Option<u64>,
     pin: Pin,
@@ -62,7 +62,7 @@ fn serve_request<L: Link, K: Desk>(
     alloc: Global,
     link: &mut L,
     desk: &mut K,
-    buffer: &mut RequestBuffer,
+    buffer: &mut PacketBuffer,
     request: HttpRequest,
 ) -> HttpEnd
     ensures runs { RunsPart (L.state link.old) (L.state link.new) (K.view desk.old) (K.view desk.new) (λ book. entering book ((K.view desk.old).admin) request) (http_halt result) }
@@ -99,7 +99,7 @@ fn serve_answer<L: Link, K: Desk>(
     alloc: Global,
     link: &mut L,
     desk: &mut K,
-    buffer: &mut RequestBuffer,
+    buffer: &mut PacketBuffer,
     answer: Result<HttpRequest, HttpFault>,
 ) -> HttpEnd
     ensures runs { RunsPart (L.state link.old) (L.state link.new) (K.view desk.old) (K.view desk.new) (λ book. by_answer answer book ((K.view desk.old).admin)) (http_halt result) }
@@ -117,7 +117,7 @@ fn serve<L: Link, K: Desk>(
     alloc: Global,
     link: &mut L,
     desk: &mut K,
-    buffer: &mut RequestBuffer,
+    buffer: &mut PacketBuffer,
 ) -> HttpEnd
     ensures runs { RunsRequest (L.state link.old) (L.state link.new) (K.view desk.old) (K.view desk.new) result }
     ensures tells { TellsRequest (L.state link.old) (L.state link.new) result }
@@ -141,7 +141,7 @@ pub fn serve_http<L: Link, K: Desk>(
     alloc: Global,
     link: &mut L,
     desk: &mut K,
-    buffer: &mut RequestBuffer,
+    buffer: &mut PacketBuffer,
 ) -> HttpEnd
     ensures turn { ByRulebook (K.view desk.old).admin (K.view desk.new).seen (λ book. IsSteady (L.state link.old) → TakesRequest book ((K.view desk.old).admin) (L.state link.old) (L.state link.new) (own_since (K.view desk.old) (K.view desk.new)) result) }
     ensures tells { TellsRequest (L.state link.old) (L.state link.new) result }

@@ -4,9 +4,9 @@ use denote.Exit.{no}
 use denote.Param.{param}
 use denote.Param.Send.{arg_send, param_send}
 use Rattle.hub.specs.Hub.{HubView}
-use Rattle.git_session.specs.Protocol as git
 use Rattle.session_workers.specs.declared.post.Post.{Post}
 use Rattle.session_workers.specs.ServesAll.{ServesAll}
+use Rattle.shell_program.specs.Protocols.{meaning_of}
 use Rattle.shell_program.specs.Serve.{served_line}
 use Rattle.shell_program.specs.declared.status.Status.TheVariants.{NoMemory}
 use Rattle.stored_hub.specs.declared.stored.StoredHub.{StoredHub}
@@ -20,7 +20,7 @@ serve_all-hub-requires-send-H g c κs within = param_send 4 _ (arg_send _ no _ (
 
 pub returns-in_default-clause-ends : goal.returns-in_default-clause-ends
 returns-in_default-clause-ends g c =
-    let unasked = subst (λ o. IfNone o ((k : ℕ) (d : Post _ _ _) → (slice_index_or c.serve_all-hub.new.posts k d).door ≡ (slice_index_or c.args.posts.now k d).door)) c.in_default.is c.serve_all-hub.ensures.unasked in
+    let unasked = subst (λ o. IfNone o ((k : ℕ) (d : Post _ _ _ _) → (slice_index_or c.serve_all-hub.new.posts k d).door ≡ (slice_index_or c.args.posts.now k d).door)) c.in_default.is c.serve_all-hub.ensures.unasked in
     (NoMemory, c.number.ensures, inl (record { gone = refl; status = refl; unprinted = refl; unasked = unasked; no_log = c.new.ensures }))
 
 pub returns-clause-ends : goal.returns-clause-ends
@@ -34,7 +34,7 @@ returns-clause-ends g c =
     let sink' = g.O.Endpoint.state c.print_served-printed.new.output in
     let first : StoredView = record { hub = was.hub; start = was.start; written = was.account.written; store = record { stored = was.stored; writer = was.writer; disk = g.Y.Disk.state was.disk } } in
     let last : StoredView = record { hub = is.hub; start = is.start; written = is.account.written; store = record { stored = is.stored; writer = is.writer; disk = g.Y.Disk.state is.disk } } in
-    let served = subst (λ o. IfSome o (λ (after : StoredHub _ _). ServesAll git.sessions g.L.Endpoint.state g.D.Door.state true (answered first) (answered (record { hub = after.hub; start = after.start; written = after.account.written; store = record { stored = after.stored; writer = after.writer; disk = g.Y.Disk.state after.disk } })) c.args.posts.now c.serve_all-hub.new.posts c.args.each all.sessions all.door_failed all.no_memory)) c.in-Some.is c.serve_all-hub.ensures.served in
+    let served = subst (λ o. IfSome o (λ (after : StoredHub _ _). ServesAll meaning_of g.L.Endpoint.state g.D.Door.state true (answered first) (answered (record { hub = after.hub; start = after.start; written = after.account.written; store = record { stored = after.stored; writer = after.writer; disk = g.Y.Disk.state after.disk } })) c.args.posts.now c.serve_all-hub.new.posts c.args.each all.sessions all.door_failed all.no_memory)) c.in-Some.is c.serve_all-hub.ensures.served in
     let goes = subst (λ o. IfSome o (λ (after : StoredHub _ _). ContinuesStored modeled first (record { hub = after.hub; start = after.start; written = after.account.written; store = record { stored = after.stored; writer = after.writer; disk = g.Y.Disk.state after.disk } }))) c.in-Some.is c.serve_all-hub.ensures.goes in (
       c.host_status.result,
       c.number-2.ensures,

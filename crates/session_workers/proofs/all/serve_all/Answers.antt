@@ -32,7 +32,7 @@ gather-pass-requires-clause-passes g c =
     let handed : length c.hand_out.new.posts ≡ length c.args.posts.now = c.hand_out.auto.posts in
     let worked : length c.serve_posts.new.posts ≡ length c.hand_out.new.posts = c.serve_posts.auto.posts in
     let about : c.of-about.result.value ≡ c.in-Ok.first = c.of-about.ensures in
-    let passes : (k : ℕ) (d : Post _ _ _) → k < length c.hand_out.new.posts → (slice_index_or c.hand_out.new.posts k d).pass ≡ Some (pass_at c.in-Ok.shared c.of-about.result.value.at_new (length c.serve_posts.new.posts) k) =
+    let passes : (k : ℕ) (d : Post _ _ _ _) → k < length c.hand_out.new.posts → (slice_index_or c.hand_out.new.posts k d).pass ≡ Some (pass_at c.in-Ok.shared c.of-about.result.value.at_new (length c.serve_posts.new.posts) k) =
     λ k d less. c.in-Ok-hand_out.ensures.passes k d (omega (arith, less, handed))
     ∙ (λ i. Some (pass_at c.in-Ok.shared (sym about i).at_new (sym (worked ∙ handed) i) k)) in
     passes_of g.P.Protocol.meaning g.L.Endpoint.state g.D.Door.state g.H.EventHub.may_stop c.args.each c.in-Ok.shared c.of-about.result.value.at_new (length c.serve_posts.new.posts) c.hand_out.new.posts c.serve_posts.new.posts worked passes c.serve_posts.ensures.worked
@@ -49,13 +49,13 @@ returns-clause-served g c =
     let whole : IsWhole lock (listed c.args.hub (g.H.EventHub.view c.args.hub)) made made c.gather-pass.result =
     subst (λ n. IsWhole lock (listed c.args.hub (g.H.EventHub.view c.args.hub)) n n c.gather-pass.result) (worked ∙ handed)
     (subst (λ l. IsWhole lock l (length c.serve_posts.new.posts) (length c.serve_posts.new.posts) c.gather-pass.result) (ap (λ (p : PassState (KeptEntry _)). p.at_new) about ∙ list_is) c.gather-pass.ensures.whole) in
-    let passes : (k : ℕ) (d : Post _ _ _) → k < made → (slice_index_or c.hand_out.new.posts k d).pass ≡ Some (pass_at lock (listed c.args.hub (g.H.EventHub.view c.args.hub)) made k) =
+    let passes : (k : ℕ) (d : Post _ _ _ _) → k < made → (slice_index_or c.hand_out.new.posts k d).pass ≡ Some (pass_at lock (listed c.args.hub (g.H.EventHub.view c.args.hub)) made k) =
     λ k d less. c.in-Ok-hand_out.ensures.passes k d less ∙ ap (λ l. Some (pass_at lock l made k)) list_is in
     let gathered : length c.gather-pass.new.posts ≡ length c.serve_posts.new.posts = c.gather-pass.auto.posts in
     let cleared : length c.clear-2.new.posts ≡ length c.gather-pass.new.posts = c.clear-2.auto.posts in
     rw (c.sessions_of-sessions.ensures, c.have_failed-door_failed.ensures, c.have_lacked-no_memory.ensures)
     (all_served g.P.Protocol.meaning g.L.Endpoint.state g.D.Door.state g.H.EventHub.may_stop c.args.each lock c.args.hub (g.H.EventHub.view c.args.hub) (g.H.EventHub.view c.close.result) c.gather-pass.result c.args.posts.now c.hand_out.new.posts c.serve_posts.new.posts c.clear-2.new.posts
-    whole c.close.ensures.seen c.close.ensures.begins handed (worked ∙ handed) (cleared ∙ gathered ∙ worked ∙ handed) c.in-Ok-hand_out.ensures.doors passes c.serve_posts.ensures.worked
+    whole c.close.ensures.seen c.close.ensures.begins handed (worked ∙ handed) (cleared ∙ gathered ∙ worked ∙ handed) c.in-Ok-hand_out.ensures.places passes c.serve_posts.ensures.worked
     (λ k d. c.clear-2.ensures.doors k d ∙ c.gather-pass.ensures.doors k d) c.gather-pass.ensures.follows)
 
 pub returns-clause-goes : goal.returns-clause-goes

@@ -22,12 +22,12 @@ loop-place-init g c =
     let of_place : IsPassOf lock list made 0 whole = subst (HasPassOf lock list made 0) taken (c.requires.passes 0 item within) in
     record {
       whole = whole_first lock list made whole of_place;
-      doors = λ k d. set_keeps (λ (p : Post _ _ _). p.door) posts 0 k c.take_pass-whole.new.post d item within (ap (λ (p : Post _ _ _). p.door) emptied);
+      doors = λ k d. set_keeps (λ (p : Post _ _ _ _). p.door) posts 0 k c.take_pass-whole.new.post d item within (ap (λ (p : Post _ _ _ _). p.door) emptied);
       left = λ k d above. let ne : k ≢ 0 = omega (arith, above) in get_or-set_other posts 0 k c.take_pass-whole.new.post d ne;
       follows = λ k d below.
           let zero : k ≡ 0 = omega (arith, below) in
           subst (λ m. IfSome (slice_index_or posts m d).pass (λ p. Follows m p whole)) (sym zero)
-          (subst (λ o. IfSome o (λ p. Follows 0 p whole)) (sym (ap (λ (p : Post _ _ _). p.pass) (get_or_default posts 0 d item within) ∙ taken)) (follows_self 0 whole));
+          (subst (λ o. IfSome o (λ p. Follows 0 p whole)) (sym (ap (λ (p : Post _ _ _ _). p.pass) (get_or_default posts 0 d item within) ∙ taken)) (follows_self 0 whole));
     }
 
 pub loop-place-preserved : goal.loop-place-preserved
@@ -47,17 +47,17 @@ loop-place-preserved g c =
     let taken : (slice_index_or posts place item).pass ≡ Some pass = c.take_pass-pass.ensures.taken in
     let emptied : c.take_pass-pass.new.post ≡ record (slice_index_or posts place item) { pass = None } = c.take_pass-pass.ensures.left in
     let item_is : slice_index_or posts place item ≡ slice_index_or c.args.posts.now place item = inv.left place item (omega arith) in
-    let here : (slice_index_or c.args.posts.now place item).pass ≡ Some pass = ap (λ (p : Post _ _ _). p.pass) (sym item_is) ∙ taken in
+    let here : (slice_index_or c.args.posts.now place item).pass ≡ Some pass = ap (λ (p : Post _ _ _ _). p.pass) (sym item_is) ∙ taken in
     let of_place : IsPassOf lock list made place pass = subst (HasPassOf lock list made place) here (c.requires.passes place item within') in
     let hub = c.join.ensures.pass inv.whole.hub of_place.hub in
     let own : Contains pass.numbers place = subst (λ l. Contains l place) (sym of_place.same.numbers) (0, omega arith, omega arith) in
     record {
       whole = whole_more lock list made place whole pass new inv.whole of_place c.join.ensures.joined hub;
-      doors = λ k d. set_keeps (λ (p : Post _ _ _). p.door) posts place k c.take_pass-pass.new.post d item within (ap (λ (p : Post _ _ _). p.door) emptied) ∙ inv.doors k d;
+      doors = λ k d. set_keeps (λ (p : Post _ _ _ _). p.door) posts place k c.take_pass-pass.new.post d item within (ap (λ (p : Post _ _ _ _). p.door) emptied) ∙ inv.doors k d;
       left = λ k d above. let ne : k ≢ place = omega arith in get_or-set_other posts place k c.take_pass-pass.new.post d ne ∙ inv.left k d (omega arith);
       follows = λ k d below. dite (ℕ_discrete k place)
           (λ same. subst (λ m. IfSome (slice_index_or c.args.posts.now m d).pass (λ p. Follows m p new)) (sym same)
-          (subst (λ o. IfSome o (λ p. Follows place p new)) (sym (ap (λ (p : Post _ _ _). p.pass) (get_or_default c.args.posts.now place d item within') ∙ here)) (follows_at place pass.numbers pass new own c.join.ensures.other_grows)))
+          (subst (λ o. IfSome o (λ p. Follows place p new)) (sym (ap (λ (p : Post _ _ _ _). p.pass) (get_or_default c.args.posts.now place d item within') ∙ here)) (follows_at place pass.numbers pass new own c.join.ensures.other_grows)))
           (λ other. let less : k < place = omega arith in
           if_some (slice_index_or c.args.posts.now k d).pass (λ p. Follows k p whole) (λ p. Follows k p new) (λ p follows. follows_more k whole.numbers p whole new (inv.whole.all k less) follows c.join.ensures.grows) (inv.follows k d less));
     }

@@ -1,4 +1,4 @@
-use Rattle.std.proofs.Common.{◌∙◌, refl, ap}
+use Rattle.std.proofs.Common.{◌∙◌, false, refl, ap}
 use Rattle.hub.specs.Desk.{DeskView}
 use Rattle.session_workers.proofs.DoorLemmas.{loses_one, gains_one}
 use Rattle.session_workers.proofs.worker.serve_next.Goals as goal
@@ -12,7 +12,7 @@ returns-in-Link-clause-next g c =
     let takes = c.done.ensures.taken in
     let link = c.in-Link.link in
     let back = c.serve-end.new.link in (
-      record { link = link; back = back; end = c.serve-end.result },
+      record { link = link; back = back; end = c.serve-end.result; stopped = false },
       refl,
       record {
         given = loses_one old.left mid.left new.left link gives.given.0 takes.left;

@@ -9,7 +9,8 @@ use Rattle.session_workers.proofs.worker.work.Given as goal
 abbrev pub invariant-loop-sessions : goal.invariant-loop-sessions
 invariant-loop-sessions g l = record {
   same : IsSamePass l.fn.pass l.desk;
-  served : SoFar g.P.Protocol.meaning g.L.Endpoint.state (admin_in l.fn.pass.at_new) l.fn.pass.caller (length (log_at_new l.fn.pass)) (log_seen l.desk) (g.D.Door.state l.initial.door) (g.D.Door.state l.door) l.sessions l.tally.no_memory;
+  served : SoFar (g.P.Protocol.meaning l.fn.protocol) g.L.Endpoint.state g.H.EventHub.may_stop (admin_in l.fn.pass.at_new) l.fn.pass.caller (length (log_at_new l.fn.pass)) (log_seen l.desk) (g.D.Door.state l.initial.door) (g.D.Door.state l.door) l.sessions l.tally.no_memory false;
+  unstopped : l.tally.stopped ≡ false;
   unfailed : l.tally.door_failed ≡ false;
   unrisen : (g.D.Door.state l.door).faults ≡ (g.D.Door.state l.initial.door).faults;
 }

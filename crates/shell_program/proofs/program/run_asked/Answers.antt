@@ -6,6 +6,8 @@ use Rattle.std.specs.Prelude.{Some, None}
 use Rattle.base_types.specs.Counts.{HasRisen}
 use Rattle.session_workers.specs.declared.post.Post.{Post}
 use Rattle.shell_program.specs.Command.{built}
+use Rattle.shell_program.specs.Protocols.{meaning_of, protocol_of}
+use Rattle.shell_program.specs.declared.protocols.ServerProtocol.{ServerProtocol}
 use Rattle.shell_program.specs.Serve.{ADoorFailed, EndsServe}
 use Rattle.shell_program.specs.Status.{status_number}
 use Rattle.shell_program.specs.declared.status.Status.{Status}
@@ -68,7 +70,7 @@ returns-then-posts-workers-clause-ends g c =
     let sink = g.O.Endpoint.state c.args.output.now in
     let sink' = g.O.Endpoint.state c.refuse.new.output in
     let posts = c.args.posts.now in
-    let found : built (length posts) c.args.asked ≡ None = ap (built (length posts)) c.in-Serve.is ∙ refused_there (length posts) c.in-Serve.admin c.in-Serve.workers c.in-Serve.sessions (omega arith) in
+    let found : built (length posts) c.args.asked ≡ None = ap (built (length posts)) c.in-Serve.is ∙ refused_there (length posts) c.in-Serve.transport c.in-Serve.admin c.in-Serve.workers c.in-Serve.sessions (omega arith) in
     subst (λ (o : Option Asked). EndsShell g.L.Endpoint.state g.D.Door.state posts posts o (unused g.Y.Disk.is_modeled (g.Y.Disk.state c.args.disk.now)) source source sink sink' c.refuse.result.status c.refuse.result.log) (sym found)
     (shell_refuses g.L.Endpoint.state g.D.Door.state (unused g.Y.Disk.is_modeled (g.Y.Disk.state c.args.disk.now)) source source sink sink' c.refuse.result.log c.refuse.result.status posts
     (refused_run (unused g.Y.Disk.is_modeled (g.Y.Disk.state c.args.disk.now)) source source sink sink' c.refuse.result.log c.refuse.result.status c.refuse.ensures.ends refl c.refuse.ensures.log refl))
@@ -82,7 +84,7 @@ returns-then-posts-workers-clause-sure g c =
     let sink = g.O.Endpoint.state c.args.output.now in
     let sink' = g.O.Endpoint.state c.refuse.new.output in
     let posts = c.args.posts.now in
-    let found : built (length posts) c.args.asked ≡ None = ap (built (length posts)) c.in-Serve.is ∙ refused_there (length posts) c.in-Serve.admin c.in-Serve.workers c.in-Serve.sessions (omega arith) in
+    let found : built (length posts) c.args.asked ≡ None = ap (built (length posts)) c.in-Serve.is ∙ refused_there (length posts) c.in-Serve.transport c.in-Serve.admin c.in-Serve.workers c.in-Serve.sessions (omega arith) in
     subst (λ (o : Option Asked). EndsShellSurely g.L.Endpoint.state g.D.Door.state posts posts o (unused g.Y.Disk.is_modeled (g.Y.Disk.state c.args.disk.now)) source source sink sink' c.refuse.result.status) (sym found)
     (shell_surely g.L.Endpoint.state g.D.Door.state (unused g.Y.Disk.is_modeled (g.Y.Disk.state c.args.disk.now)) source source sink sink' c.refuse.result.log c.refuse.result.status posts None
     (refused_run (unused g.Y.Disk.is_modeled (g.Y.Disk.state c.args.disk.now)) source source sink sink' c.refuse.result.log c.refuse.result.status c.refuse.ensures.ends refl c.refuse.ensures.log refl))
@@ -90,7 +92,7 @@ returns-then-posts-workers-clause-sure g c =
 pub returns-then-posts-workers-clause-legal : goal.returns-then-posts-workers-clause-legal
 returns-then-posts-workers-clause-legal g c =
     let posts = c.args.posts.now in
-    let found : built (length posts) c.args.asked ≡ None = ap (built (length posts)) c.in-Serve.is ∙ refused_there (length posts) c.in-Serve.admin c.in-Serve.workers c.in-Serve.sessions (omega arith) in
+    let found : built (length posts) c.args.asked ≡ None = ap (built (length posts)) c.in-Serve.is ∙ refused_there (length posts) c.in-Serve.transport c.in-Serve.admin c.in-Serve.workers c.in-Serve.sessions (omega arith) in
     subst (λ (o : Option Asked). IsLegalRun o c.refuse.result.log) (sym found) tt
 
 pub returns-else-posts-workers-clause-ends : goal.returns-else-posts-workers-clause-ends
@@ -102,15 +104,16 @@ returns-else-posts-workers-clause-ends g c =
     let used = c.run_serve.new.posts in
     let rest = c.split_at_mut-used.result.1.now in
     let workers = c.in-Serve.workers in
-    let limits : IsWithinLimits (Serve c.in-Serve.admin workers c.in-Serve.sessions) = subst IsWithinLimits c.in-Serve.is c.requires.limits in
-    let found : built (length posts) c.args.asked ≡ Some (Serve c.in-Serve.admin workers c.in-Serve.sessions) =
-    ap (built (length posts)) c.in-Serve.is ∙ served_there (length posts) c.in-Serve.admin workers c.in-Serve.sessions limits.1 (omega arith) in
+    let limits : IsWithinLimits (Serve c.in-Serve.transport c.in-Serve.admin workers c.in-Serve.sessions) = subst IsWithinLimits c.in-Serve.is c.requires.limits in
+    let found : built (length posts) c.args.asked ≡ Some (Serve c.in-Serve.transport c.in-Serve.admin workers c.in-Serve.sessions) =
+    ap (built (length posts)) c.in-Serve.is ∙ served_there (length posts) c.in-Serve.transport c.in-Serve.admin workers c.in-Serve.sessions limits.1 (omega arith) in
     let enough : length used ≡ workers = c.run_serve.auto.posts ∙ c.split_at_mut-used.ensures.front_len in
     let front : c.split_at_mut-used.result.0.now ≡ take workers posts = c.split_at_mut-used.ensures.front in
     let back : rest ≡ drop workers posts = c.split_at_mut-used.ensures.back in
     subst (λ (o : Option Asked). EndsShell g.L.Endpoint.state g.D.Door.state posts (used ++ rest) o (unused g.Y.Disk.is_modeled (g.Y.Disk.state c.args.disk.now)) source source sink sink' c.run_serve.result.status c.run_serve.result.log) (sym found)
-    (shell_serves g.L.Endpoint.state g.D.Door.state g.Y.Disk.is_modeled (g.Y.Disk.state c.args.disk.now) source sink sink' c.run_serve.result.log c.run_serve.result.status posts used rest c.in-Serve.admin workers c.in-Serve.sessions enough back
-    (subst (λ (xs : List (Post _ _ _)). (why : Status) × (c.run_serve.result.status ≡ status_number why) × EndsServe g.L.Endpoint.state g.D.Door.state c.in-Serve.admin c.in-Serve.sessions xs used sink sink' c.run_serve.result.log why) front c.run_serve.ensures.ends))
+    (shell_serves g.L.Endpoint.state g.D.Door.state g.Y.Disk.is_modeled (g.Y.Disk.state c.args.disk.now) source sink sink' c.run_serve.result.log c.run_serve.result.status posts used rest c.in-Serve.transport c.in-Serve.admin workers c.in-Serve.sessions enough back
+    (subst (λ (xs : List (Post _ _ _ _)). (why : Status) × (c.run_serve.result.status ≡ status_number why) × EndsServe (meaning_of (protocol_of c.in-Serve.transport)) g.L.Endpoint.state g.D.Door.state c.in-Serve.admin c.in-Serve.sessions xs used sink sink' c.run_serve.result.log why) front
+    (subst (λ (protocol : ServerProtocol). (why : Status) × (c.run_serve.result.status ≡ status_number why) × EndsServe (meaning_of protocol) g.L.Endpoint.state g.D.Door.state c.in-Serve.admin c.in-Serve.sessions c.split_at_mut-used.result.0.now used sink sink' c.run_serve.result.log why) c.of-protocol.ensures c.run_serve.ensures.ends)))
 
 pub returns-else-posts-workers-clause-tells : goal.returns-else-posts-workers-clause-tells
 returns-else-posts-workers-clause-tells g c = (inr refl, c.run_serve.ensures.tells)
@@ -124,22 +127,22 @@ returns-else-posts-workers-clause-sure g c =
     let used = c.run_serve.new.posts in
     let rest = c.split_at_mut-used.result.1.now in
     let workers = c.in-Serve.workers in
-    let limits : IsWithinLimits (Serve c.in-Serve.admin workers c.in-Serve.sessions) = subst IsWithinLimits c.in-Serve.is c.requires.limits in
-    let found : built (length posts) c.args.asked ≡ Some (Serve c.in-Serve.admin workers c.in-Serve.sessions) =
-    ap (built (length posts)) c.in-Serve.is ∙ served_there (length posts) c.in-Serve.admin workers c.in-Serve.sessions limits.1 (omega arith) in
+    let limits : IsWithinLimits (Serve c.in-Serve.transport c.in-Serve.admin workers c.in-Serve.sessions) = subst IsWithinLimits c.in-Serve.is c.requires.limits in
+    let found : built (length posts) c.args.asked ≡ Some (Serve c.in-Serve.transport c.in-Serve.admin workers c.in-Serve.sessions) =
+    ap (built (length posts)) c.in-Serve.is ∙ served_there (length posts) c.in-Serve.transport c.in-Serve.admin workers c.in-Serve.sessions limits.1 (omega arith) in
     let enough : length used ≡ workers = c.run_serve.auto.posts ∙ c.split_at_mut-used.ensures.front_len in
     let front : c.split_at_mut-used.result.0.now ≡ take workers posts = c.split_at_mut-used.ensures.front in
     let back : rest ≡ drop workers posts = c.split_at_mut-used.ensures.back in
     subst (λ (o : Option Asked). EndsShellSurely g.L.Endpoint.state g.D.Door.state posts (used ++ rest) o (unused g.Y.Disk.is_modeled (g.Y.Disk.state c.args.disk.now)) source source sink sink' c.run_serve.result.status) (sym found)
-    (shell_serves_surely g.L.Endpoint.state g.D.Door.state g.Y.Disk.is_modeled (g.Y.Disk.state c.args.disk.now) source sink sink' c.run_serve.result.log c.run_serve.result.status posts used rest c.in-Serve.admin workers c.in-Serve.sessions enough back
-    (subst (λ (xs : List (Post _ _ _)). (ADoorFailed g.D.Door.state xs used → ⊥) → (HasRisen sink.write_faults sink'.write_faults → ⊥) → (c.run_serve.result.status ≡ 0) ⊎ (c.run_serve.result.status ≡ 4)) front c.run_serve.ensures.sure))
+    (shell_serves_surely g.L.Endpoint.state g.D.Door.state g.Y.Disk.is_modeled (g.Y.Disk.state c.args.disk.now) source sink sink' c.run_serve.result.log c.run_serve.result.status posts used rest c.in-Serve.transport c.in-Serve.admin workers c.in-Serve.sessions enough back
+    (subst (λ (xs : List (Post _ _ _ _)). (ADoorFailed g.D.Door.state xs used → ⊥) → (HasRisen sink.write_faults sink'.write_faults → ⊥) → (c.run_serve.result.status ≡ 0) ⊎ (c.run_serve.result.status ≡ 4)) front c.run_serve.ensures.sure))
 
 pub returns-else-posts-workers-clause-legal : goal.returns-else-posts-workers-clause-legal
 returns-else-posts-workers-clause-legal g c =
     let posts = c.args.posts.now in
-    let limits : IsWithinLimits (Serve c.in-Serve.admin c.in-Serve.workers c.in-Serve.sessions) = subst IsWithinLimits c.in-Serve.is c.requires.limits in
-    let found : built (length posts) c.args.asked ≡ Some (Serve c.in-Serve.admin c.in-Serve.workers c.in-Serve.sessions) =
-    ap (built (length posts)) c.in-Serve.is ∙ served_there (length posts) c.in-Serve.admin c.in-Serve.workers c.in-Serve.sessions limits.1 (omega arith) in
+    let limits : IsWithinLimits (Serve c.in-Serve.transport c.in-Serve.admin c.in-Serve.workers c.in-Serve.sessions) = subst IsWithinLimits c.in-Serve.is c.requires.limits in
+    let found : built (length posts) c.args.asked ≡ Some (Serve c.in-Serve.transport c.in-Serve.admin c.in-Serve.workers c.in-Serve.sessions) =
+    ap (built (length posts)) c.in-Serve.is ∙ served_there (length posts) c.in-Serve.transport c.in-Serve.admin c.in-Serve.workers c.in-Serve.sessions limits.1 (omega arith) in
     subst (λ (o : Option Asked). IsLegalRun o c.run_serve.result.log) (sym found) c.run_serve.ensures.legal
 
 pub returns-in-Load-clause-ends : goal.returns-in-Load-clause-ends

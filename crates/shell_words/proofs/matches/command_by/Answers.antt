@@ -1,4 +1,5 @@
 use Rattle.clap.specs.Words.{first_value, found_of}
+use Rattle.shell_words.specs.declared.commands.Transport.TheVariants.{Git, Http}
 use Rattle.shell_words.proofs.MatchLemmas.{keep-err, keep-ok, load-reads, script-err, script-ok, serve-reads}
 use Rattle.shell_words.proofs.matches.command_by.Goals as goal
 
@@ -12,7 +13,11 @@ returns-in-Err-clause-reads c =
 
 pub returns-in-serve-clause-reads : goal.returns-in-serve-clause-reads
 returns-in-serve-clause-reads c =
-    serve-reads c.args.name.now (first_value (found_of c.args.given.now)) _ c.get_str-in-serve.ensures _ _ c.read_serve.result c.in-serve.is c.get_str-in-serve-2.ensures c.get_str-in-serve-3.ensures c.read_serve.ensures.reads
+    serve-reads c.args.name.now (first_value (found_of c.args.given.now)) _ c.get_str-in-serve.ensures Git _ _ c.read_serve.result c.in-serve.is c.get_str-in-serve-2.ensures c.get_str-in-serve-3.ensures c.read_serve.ensures.reads
+
+pub returns-in-http-clause-reads : goal.returns-in-http-clause-reads
+returns-in-http-clause-reads c =
+    serve-reads c.args.name.now (first_value (found_of c.args.given.now)) _ c.get_str-in-http.ensures Http _ _ c.read_serve-in-http.result c.in-http.is c.get_str-in-http-2.ensures c.get_str-in-http-3.ensures c.read_serve-in-http.ensures.reads
 
 pub returns-in-load-clause-reads : goal.returns-in-load-clause-reads
 returns-in-load-clause-reads c =
